@@ -1,5 +1,6 @@
 #!/usr/bin/env python3
-"""Runs ./live against peers in python3, over loopback addresses alone, and says what was seen.
+"""Runs ./live against peers in python3, over loopback addresses alone, and says what was seen. Each run is recorded, and
+./recorder replays it.
 
     examples/live/peers.py [LIVE..]     LIVE: the words that run the program; ./live at the top without
 """
@@ -9,11 +10,13 @@ import socket
 import struct
 import subprocess
 import sys
+import tempfile
 import threading
 import time
 
 TOP = os.path.dirname(os.path.dirname(os.path.dirname(os.path.abspath(__file__))))
 LIVE = sys.argv[1:] or [os.path.join(TOP, "live")]
+RECORDER = os.path.join(TOP, "recorder")
 # How long a peer waits before it gives up, in seconds.
 PATIENCE = 600
 
@@ -24,14 +27,23 @@ def free_port(kind):
         return probe.getsockname()[1]
 
 
-def live(lines, *ports):
-    """Returns the replies to these lines, with these ports allowed."""
-    words = LIVE + ["100000"] + [str(port) for port in ports]
-    text = "".join(line + "\n" for line in lines)
-    done = subprocess.run(words, input=text, capture_output=True, text=True, check=False)
+def ran(words, text, folder=None):
+    """Returns what these words write for this input."""
+    done = subprocess.run(words, input=text, cwd=folder, capture_output=True, text=True, check=False)
     if done.returncode != 0:
-        raise SystemExit(f"live ended with {done.returncode}: {done.stderr}")
-    return done.stdout.splitlines()
+        raise SystemExit(f"{words} ended with {done.returncode}: {done.stderr}")
+    return done.stdout
+
+
+def live(lines, *ports):
+    """Returns the replies to these lines, with these ports allowed; the run's log gives the same."""
+    text = "".join(line + "\n" for line in lines)
+    with tempfile.TemporaryDirectory() as folder:
+        log = os.path.join(folder, "log.txt")
+        replies = ran([*LIVE, "--record", log, "100000", *map(str, ports)], text)
+        if ran([RECORDER, "replay", "100000"], text, folder) != replies:
+            raise SystemExit(f"the replay of {lines} has other replies than {replies}")
+    return replies.splitlines()
 
 
 def example(name):

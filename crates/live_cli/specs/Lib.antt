@@ -1,3 +1,4 @@
 pub mod Commands
 pub mod Live
+pub mod Recorded
 pub mod Ruled

@@ -3,14 +3,19 @@
 #![tactic(auto)]
 
 mod command;
+mod recorded;
 mod ruled;
 mod script;
 
-use command::{command_in, limit_in};
+use command::{Command, command_in, limit_in};
 use policy_commands::PolicyStatus;
 use policy_commands::report::end_at_rules;
+use recorded::run_recorded;
+use recorder_commands::report::end_without_log;
+use recorder_commands::{NewFile, RecorderStatus};
 use ruled::run_ruled;
 use script::run_live;
+use std::alloc::Global;
 use std::process::ExitCode;
 use wasi_console::{LineSource, end, print, words};
 use wasi_program::Status;
@@ -25,6 +30,7 @@ Runs a script of wasi:sockets calls over this machine's network, and writes one 
 usage: live LIMIT PORT..                  runs the script on standard input, of at most LIMIT bytes
        live --any-address LIMIT PORT..    the same, where every address may be used
        live --policy RULES LIMIT          the same, where the rules of the file RULES decide
+       live --record LOG LIMIT PORT..     runs as the first, and then writes the log of the run to the file LOG
        live --help                        prints this
        live --version                     prints the version
 
@@ -35,6 +41,9 @@ address, so other machines can connect to what listens, and a script can reach t
 After --policy an address and a use need a rule that allows them, in place of a named port, and the address is one of
 this machine's own, or a wildcard to bind. The program policy has the form of rules, and answers what they decide.
 
+The log has each call on the check and the network with its answer. The program recorder replays and draws it; its --help
+has the form, and it reads log.txt in its folder.
+
 The script's lines are those of the program sockets; its --help lists them. A look for a connection, for bytes or for the
 end of a connect (tcp-accept, ready, tcp-finish-connect) waits for about a second at most, without using the processor.
 The hop-limit of an IPv6 socket is not-supported, and every name is name-unresolvable.
@@ -43,6 +52,7 @@ The program ends with 0, or prints its status on standard error, with what is wr
     1  the words aren't in order            5  a read of the script failed
     3  a bad line in the script             6  a write failed
     4  the script is longer than LIMIT      7  memory ran out
+    14 LOG can't be written
     16 a bad line in RULES                  17 RULES can't be read
 
 example: printf '0 network\\n0 tcp-create 4\\n0 tcp-start-bind 2 1 4 127 0 0 1 81\\n' | live 1000 80
@@ -63,15 +73,26 @@ fn main(rt: HostRuntime) -> ExitCode {
         [first, path, limit] if first.as_str() == "--policy" => {
             run_by_rules(rt, path.as_str(), limit.as_str())
         }
+        [first, path, rest @ ..] if first.as_str() == "--record" => {
+            run_noted(rt, path.as_str(), rest)
+        }
         words => run(rt, words, false),
     }
 }
 
+/// The limit and the ports in the words, or how the program ends without them.
+fn command_of(alloc: Global, words: &[String]) -> Result<Command, Status> {
+    match command_in(alloc, words) {
+        Ok(Some(command)) => Ok(command),
+        Ok(None) => Err(Status::BadWords),
+        Err(_) => Err(Status::Memory),
+    }
+}
+
 fn run(rt: HostRuntime, words: &[String], anywhere: bool) -> ExitCode {
-    let command = match command_in(rt.alloc(), words) {
-        Ok(Some(command)) => command,
-        Ok(None) => return end(&rt, Status::BadWords, 0, None),
-        Err(_) => return end(&rt, Status::Memory, 0, None),
+    let command = match command_of(rt.alloc(), words) {
+        Ok(command) => command,
+        Err(status) => return end(&rt, status, 0, None),
     };
     let mut source = LineSource::new(StdSource::new(rt.stdin()));
     let mut sink = StdSink::new(rt.stdout());
@@ -80,6 +101,23 @@ fn run(rt: HostRuntime, words: &[String], anywhere: bool) -> ExitCode {
             end(&rt, Status::BadStep, line, source.line(u64::from(line)))
         }
         outcome => end(&rt, Status::of_run(outcome), 0, None),
+    }
+}
+
+/// Runs the script, and writes the log of its run to this file.
+fn run_noted(rt: HostRuntime, path: &str, words: &[String]) -> ExitCode {
+    let command = match command_of(rt.alloc(), words) {
+        Ok(command) => command,
+        Err(status) => return end(&rt, status, 0, None),
+    };
+    let mut log_out = StdSink::new(NewFile::new(&rt, path));
+    let mut source = LineSource::new(StdSource::new(rt.stdin()));
+    let mut sink = StdSink::new(rt.stdout());
+    let alloc = rt.alloc();
+    let (status, line) = run_recorded(&rt, alloc, command, &mut log_out, &mut source, &mut sink);
+    match status {
+        RecorderStatus::Of(status) => end(&rt, status, line, source.line(u64::from(line))),
+        status => end_without_log(&rt, status.number(), path),
     }
 }
 

@@ -2,6 +2,8 @@
 #![tactic(auto)]
 
 #[cfg(test)]
+mod recorded;
+#[cfg(test)]
 mod ruled;
 #[cfg(test)]
 mod scripts;

@@ -45,7 +45,8 @@ pub fn all_ports(alloc: Global) -> Result<Vec<u16>, AllocError> {
     Ok(ports)
 }
 
-fn contexts(alloc: Global) -> Result<Vec<WasiSocketsCtx>, AllocError>
+/// The one context, which may use all.
+pub fn contexts(alloc: Global) -> Result<Vec<WasiSocketsCtx>, AllocError>
     ensures { IfOk result (λ contexts. contexts.items ≡ free_context ∷ []) }
 {
     let all = WasiSocketsCtx {

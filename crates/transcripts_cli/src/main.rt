@@ -1,16 +1,20 @@
 //! The program `transcripts`: prints what a script of `wasi:sockets` calls makes of the scripted
-//! network of `scenario.txt`, runs files of such transcripts again, and tries a script with a fault
-//! at each call of its network.
+//! network of `scenario.txt`, runs files of such transcripts again, records and replays them, and
+//! tries a script with a fault at each call of its network.
 #![tactic(auto)]
 
+mod also;
+mod replays;
 mod streams;
 mod tried;
 
+use also::{Also, NOTHING_ELSE, also_in};
+use replays::{Replays, replay_text};
 use std::alloc::AllocError;
 use std::process::ExitCode;
 use std::rt::Files;
 use std::{fs, io};
-use tried::{Tried, tries_in, try_text};
+use tried::{Tried, try_text};
 use wasi_console::{LineSource, end, line_of, print, words};
 use wasi_program::{Choice, Status, choice_in, scenario_path};
 use wasi_transcript::program::{End, Words, check, show, words_in};
@@ -18,6 +22,9 @@ use wasi_transcript::survey::faults;
 use world_io::{FileSource, StdSink, StdSource};
 
 const VERSION: &str = "transcripts 0.1.0\n";
+
+/// How the program ends where all was in order.
+const DONE: End = End::Run(Status::Ok, 0);
 
 const HELP: &str = "\
 Prints what a script of wasi:sockets calls makes of a scripted network, runs such transcripts again, or tries a script
@@ -29,6 +36,11 @@ usage: transcripts show LIMIT    prints the transcript of the script on standard
        transcripts check-streams TRIES FILE..
                                  does so, and also runs each script over a source and a sink that fail, at as many
                                  as TRIES calls of each, and that give and take one byte per call
+       transcripts check-replays FILE..
+                                 checks each file, and also keeps the log of each script's run and runs it again on
+                                 the answers of that log, as the program recorder does
+       transcripts check-all TRIES FILE..
+                                 does all three
        transcripts faults LIMIT  runs such a script again for each call that may fail, with connection-reset as its answer
        transcripts --help        prints this
        transcripts --version     prints the version
@@ -82,13 +94,13 @@ fn main(rt: HostRuntime) -> ExitCode {
 
 /// Does what the words ask for.
 fn run(rt: HostRuntime, words: &[String]) -> ExitCode {
-    if let Some((tries, files)) = tries_in(words) {
-        return check_all(rt, files, Some(tries));
+    if let Some((also, files)) = also_in(words) {
+        return check_all(rt, files, also);
     }
     match words_in(words) {
         None => end(&rt, Status::BadWords, 0, None),
         Some(Words::Show(limit)) => show_script(rt, limit),
-        Some(Words::Check(files)) => check_all(rt, files, None),
+        Some(Words::Check(files)) => check_all(rt, files, NOTHING_ELSE),
         Some(Words::Faults(limit)) => try_script(rt, limit),
     }
 }
@@ -124,20 +136,19 @@ fn bad_scenario(rt: HostRuntime, line: u32) -> ExitCode {
     end(&rt, Status::BadScenario, line, front)
 }
 
-/// Checks each file, also over streams that fail where it says at how many calls, and ends as the
-/// first that isn't in order.
-fn check_all(rt: HostRuntime, files: &[String], tries: Option<u64>) -> ExitCode {
-    let mut first = End::Run(Status::Ok, 0);
+/// Checks each file, with what else is asked for, and ends as the first that isn't in order.
+fn check_all(rt: HostRuntime, files: &[String], also: Also) -> ExitCode {
+    let mut first = DONE;
     for file in files {
-        let ended = check_file(rt, file.as_str(), tries);
-        if first == End::Run(Status::Ok, 0) {
+        let ended = check_file(rt, file.as_str(), also);
+        if first == DONE {
             first = ended;
         }
     }
     stop(&rt, first)
 }
 
-fn check_file(rt: HostRuntime, file: &str, tries: Option<u64>) -> End {
+fn check_file(rt: HostRuntime, file: &str, also: Also) -> End {
     let mut sink = StdSink::new(rt.stdout());
     let text = match fs::read(&rt, file) {
         Ok(text) => text,
@@ -146,10 +157,25 @@ fn check_file(rt: HostRuntime, file: &str, tries: Option<u64>) -> End {
             _ => return End::NoFile,
         },
     };
-    match (check(rt.alloc(), file, text.as_slice(), &mut sink), tries) {
-        (End::Run(Status::Ok, _), Some(tries)) => try_file(rt, file, text.as_slice(), tries),
-        (ended, _) => ended,
+    let ended = check(rt.alloc(), file, text.as_slice(), &mut sink);
+    if ended != DONE {
+        return ended;
     }
+    check_also(rt, file, text.as_slice(), also)
+}
+
+/// Does what else is asked for with a file whose transcripts hold.
+fn check_also(rt: HostRuntime, file: &str, text: &[u8], also: Also) -> End {
+    if let Some(tries) = also.tries {
+        let ended = try_file(rt, file, text, tries);
+        if ended != DONE {
+            return ended;
+        }
+    }
+    if also.replays {
+        return replay_file(rt, file, text);
+    }
+    DONE
 }
 
 /// Runs each script of the file over streams that fail, and prints how many runs there were, or the
@@ -158,13 +184,30 @@ fn try_file(rt: HostRuntime, file: &str, text: &[u8], tries: u64) -> End {
     match try_text(rt.alloc(), text, tries) {
         Ok(Tried::Held(runs)) => {
             let _ = println!(rt; "{file}: {runs} runs hold");
-            End::Run(Status::Ok, 0)
+            DONE
         }
         Ok(Tried::Failed(line, failed)) => {
             let _ = println!(rt; "{file}:{line}: {failed:?}");
             End::Differs
         }
         Ok(Tried::NotCases) => End::NotCases,
+        Err(AllocError) => End::Run(Status::Memory, 0),
+    }
+}
+
+/// Records each script of the file and runs it again on its log, and prints how many there were, or
+/// the line of the first case whose replay differs.
+fn replay_file(rt: HostRuntime, file: &str, text: &[u8]) -> End {
+    match replay_text(rt.alloc(), text) {
+        Ok(Replays::Same(count)) => {
+            let _ = println!(rt; "{file}: {count} replays are the same");
+            DONE
+        }
+        Ok(Replays::Differs(line)) => {
+            let _ = println!(rt; "{file}:{line}: the replay differs");
+            End::Differs
+        }
+        Ok(Replays::NotCases) => End::NotCases,
         Err(AllocError) => End::Run(Status::Memory, 0),
     }
 }

@@ -8,7 +8,7 @@ use wasi_transcript::cases::TextLines;
 use world_io::{MemorySink, MemorySource};
 
 /// How many bytes of a script are read at a time, at most.
-const PIECE_SIZE: usize = 4096;
+pub const PIECE_SIZE: usize = 4096;
 
 /// More than any reply has.
 const WHOLE: usize = 1_048_576;
@@ -23,7 +23,7 @@ pub struct Failed {
 }
 
 /// The replies in a transcript, each with its newline.
-fn replies_in(alloc: Global, transcript: &[u8]) -> Result<Vec<u8>, AllocError> {
+pub fn replies_in(alloc: Global, transcript: &[u8]) -> Result<Vec<u8>, AllocError> {
     let mut replies = Vec::new(alloc);
     let mut lines = TextLines::of(transcript);
     'lines: while let Some(line) = lines.next() {

@@ -3,7 +3,6 @@
 use crate::streams::{Failed, try_script};
 use std::alloc::{AllocError, Global};
 use wasi_transcript::cases::{TextLines, read_case};
-use world_text::fields::number;
 
 /// What came of a file.
 #[derive(Clone, Copy)]
@@ -32,15 +31,4 @@ pub fn try_text(alloc: Global, text: &[u8], tries: u64) -> Result<Tried, AllocEr
         }
     }
     Ok(Tried::Held(runs))
-}
-
-/// The words `check-streams TRIES FILE..`: how many calls of each stream are tried, and the files.
-pub fn tries_in(words: &[String]) -> Option<(u64, &[String])> {
-    let (first, rest) = words.split_first()?;
-    let (tries, files) = rest.split_first()?;
-    if first.as_str() != "check-streams" || files.is_empty() {
-        return None;
-    }
-    let tries = number(tries.as_str().as_bytes(), u64::from(u32::MAX))?;
-    Some((tries, files))
 }
