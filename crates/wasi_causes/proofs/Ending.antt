@@ -20,8 +20,11 @@ use Rattle.wasi_records.specs.declared.records.Record.{Record}
 use Rattle.wasi_causes.proofs.streams.Halves.{OutputRow, outputs}
 use Rattle.wasi_causes.proofs.tables.Meets.{Rows, Meets, ends, asks, chain, onto, told_so, widen}
 use Rattle.wasi_causes.proofs.tables.Routes.{Replied, Says, put_back, Names, its, on_record, apart, none_has}
-use Rattle.wasi_causes.specs.GivenUp.{receive_given_up, send_given_up, streams_given_up, side_closed, arrival_given_up, accept_given_up, listen_given_up, listening_given_up, socket_given_up, ended_side, shut_at_once, last_write, shut_writer, shutdown_entries, shut_down, HasLiveChildren, without, LooksOnce, NoLook, OneLook, IsDropped, GoesAtOnce, IsGone}
-use Rattle.wasi_causes.specs.Outcomes.{Outcome, AsksOnce, AreLike, Gone, SocketGone, UdpGone}
+use Rattle.wasi_causes.specs.GivenUp.{LetsGo, receive_given_up, send_given_up, streams_given_up, side_closed, arrival_given_up, accept_given_up, listen_given_up, listening_given_up, socket_given_up, ended_side, shut_at_once, last_write, shut_writer, shutdown_entries, shut_down, HasLiveChildren, without, LooksOnce, NoLook, OneLook, IsDropped, GoesAtOnce, IsGone}
+use Rattle.wasi_causes.specs.Outcomes.{Outcome, AsksOnce, AreLike, Gone, SocketGone, Socket3Gone, UdpGone}
+use Rattle.wasi_records.specs.Holding.{drop_socket_asks, is_held, let_go_by, without_socket}
+use Rattle.wasi_host.specs.Dropping.{left_so, let_go_at}
+use Rattle.wasi_host.specs.Store.{with_socket}
 use Rattle.wasi_host.specs.Kinds.{none_in, outgoing_of}
 use Rattle.wasi_records.specs.Shutdowns.{shut_receive, shut_send, with_streams}
 use Rattle.wasi_host.specs.TcpCalls.{shut_put}
@@ -209,6 +212,22 @@ module _ (contexts : List WasiSocketsCtx) (m : Machine) (line c handle : ℕ) wh
       by_record None at = ends ((apart (λ e. cc) no_children, rw is (free [])), (tt, (refl, rw is (its_gone [] _ (λ r there. absurd (cc))))))
       by_record (Some r) at = onto _ (widen (left r at) (releases own r))
 
+    -- == of a socket of 0.3
+    module _ (place : ℕ) (is : IsKind (kinds.Tcp3 place)) where
+      its_drop : (es : List Entry) (store : Records) → Socket3Gone m line handle place es (record (without m handle) { store = store }) → DropRow es (answered (with_store (without m handle) (at_once (tt, store))))
+      its_drop es store gone = ((apart (λ e. cc) no_children, rw is tt), (tt, (refl, rw is gone)))
+
+      goes : (r : TcpRecord) → tcp2_at m.store.records place ≡ Some r → (es : List Entry) (after : Machine) → LetsGo m line handle place (without_socket r) es after → Socket3Gone m line handle place es after
+      goes r at es after k = λ q there. let its : r ≡ q = cc in subst (λ (x : TcpRecord). LetsGo m line handle place (without_socket x) es after) its k
+
+      lets_go : (r : TcpRecord) → tcp2_at m.store.records place ≡ Some r → (held : Bool) → is_held (without_socket r) ≡ held → Meets (λ es done. DropRow es (answered (with_store (without m handle) (at_once (left_so m.store place done))))) [] (let_go_by own (without_socket r) held)
+      lets_go r at true e = ends (its_drop [] _ (goes r at [] _ (rw e (refl, refl))))
+      lets_go r at false e = onto _ (widen (λ es done k. its_drop es _ (goes r at es _ (rw e (k.asked, record { left = put_gone (without m handle) place (Record.Tcp done.1); job = no_job place m.store.jobs })))) (releases own (without_socket r)))
+
+      by_handle : (o : Option TcpRecord) → tcp2_at m.store.records place ≡ o → Meets (λ es done. DropRow es (answered (with_store (without m handle) (at_once done)))) [] (let_go_at m.store place (drop_socket_asks own) o)
+      by_handle None at = ends (its_drop [] m.store (λ r there. absurd (cc)))
+      by_handle (Some r) at = onto _ (lets_go r at (is_held (without_socket r)) refl)
+
     -- == of a UDP socket
     module _ (place : ℕ) (kind : Kind) (is : IsKind kind) (free : (es : List Entry) → AsksOnce line (Some kind) es) (its_gone : (es : List Entry) (after : Machine) → UdpGone m line handle place es after → Gone m line handle (Some kind) es after) where
       -- what it closed is given back
@@ -295,7 +314,7 @@ module _ (contexts : List WasiSocketsCtx) (m : Machine) (line c handle : ℕ) wh
 
     by_kind : (kind : Kind) → IsKind kind → Meets DropRow [] (drop_kind (without m handle) (first_ids line) kind)
     by_kind (Tcp2 place) is = onto _ (by_record place (Tcp2 place) is (λ es. tt) (λ es after k. k) (tcp2_at m.store.records place) refl)
-    by_kind (kinds.Tcp3 place) is = onto _ (by_record place (kinds.Tcp3 place) is (λ es. tt) (λ es after k. k) (tcp2_at m.store.records place) refl)
+    by_kind (kinds.Tcp3 place) is = onto _ (by_handle place is (tcp2_at m.store.records place) refl)
     by_kind (Udp2 place) is = onto _ (udp_by_record place (Udp2 place) is (λ es. tt) (λ es after k. k) (udp2_at m.store.records place) refl)
     by_kind (kinds.Udp3 place) is = onto _ (udp_by_record place (kinds.Udp3 place) is (λ es. tt) (λ es after k. k) (udp2_at m.store.records place) refl)
     by_kind (Output place) is = onto _ (widen (of_output place is) (outputs m.store (first_ids line) place (tcp2_at m.store.records place) refl))
@@ -366,7 +385,7 @@ module _ (contexts : List WasiSocketsCtx) (m : Machine) (line c handle : ℕ) wh
 
   pub tcp3_gone : (place : ℕ) (r : TcpRecord) → kind_at m.table handle ≡ Some (kinds.Tcp3 place) → tcp2_at m.store.records place ≡ Some r
       → (es : List Entry) (fields : List Field) (after : Machine) → DropSays es (reply.Ok fields) after
-      → (es ≡ socket_given_up (own_of line) r) × IsGone m handle place after
+      → LetsGo m line handle place (without_socket r) es after
   tcp3_gone place r is at es fields after row = rw is at row.1.1.1 r at
 
   pub udp_ok : (place : ℕ) → kind_at m.table handle ≡ Some (Udp2 place) → children_of m.table.live handle ≡ [] → (es : List Entry) (r : Reply) (after : Machine) → DropSays es r after → r ≡ reply.Ok no_fields

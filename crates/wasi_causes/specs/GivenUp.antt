@@ -1,8 +1,11 @@
 -- What a drop and a shutdown release: what is asked then, and what is left afterwards.
 use Rattle.wasi_host.specs.declared.kind.PlainInput.TheVariants as plain_input
 use Rattle.wasi_host.specs.declared.kind.PlainOutput.TheVariants as plain_output
-use Rattle.std.specs.Prelude.{◌≡◌, ◌≢◌, ⊤, ℕ, true, List, [], ◌∷◌, ◌++◌, Option, Some, None, IsSome, IsSomeAnd}
+use Rattle.std.specs.Prelude.{◌≡◌, ◌≢◌, ⊤, ℕ, Bool, true, false, List, [], ◌∷◌, ◌++◌, Option, Some, None, IsSome, IsSomeAnd}
 use Rattle.wasi_host.specs.GivingBack.{given_back}
+use Rattle.wasi_host.specs.Store.{with_socket}
+use Rattle.wasi_records.specs.Holding.{is_held}
+use Rattle.wasi_records.specs.Names.{own_of}
 use Rattle.wasi_addr.specs.declared.address.IpSocketAddress.{IpSocketAddress}
 use Rattle.wasi_addr.specs.declared.address.ShutdownType.{ShutdownType}
 use Rattle.wasi_addr.specs.declared.address.ShutdownType.TheVariants.{Receive, Send, Both}
@@ -135,6 +138,15 @@ socket_given_up own r = listening_given_up r.listening ++ streams_given_up own r
 pub record IsGone (m : Machine) (handle place : ℕ) (after : Machine) : Type 0 where
   pub left : after ≡ giving_back (without m handle) place
   pub job : (job : HostJob) → Has after.store.jobs job → is_on place job ≡ true → ⊥
+
+-- Of a socket of 0.3, whose record is as this one where a handle went: while something else holds its network socket, the record stays,
+-- and nothing is asked; else all that it has is released, and nothing is left of it.
+abbrev pub LetsGoBy : Machine → ℕ → ℕ → ℕ → TcpRecord → List Entry → Machine → Bool → Type 0
+LetsGoBy m line handle place r es after true = (es ≡ []) × (after ≡ record (without m handle) { store = with_socket m.store place r })
+LetsGoBy m line handle place r es after false = (es ≡ socket_given_up (own_of line) r) × IsGone m handle place after
+
+abbrev pub LetsGo : Machine → ℕ → ℕ → ℕ → TcpRecord → List Entry → Machine → Type 0
+LetsGo m line handle place r es after = LetsGoBy m line handle place r es after (is_held r)
 
 -- At most one look was made at whether a network socket may be written to.
 pub data LooksOnce (own : OpId) : List Entry → Type 0 where

@@ -51,7 +51,8 @@ use Rattle.wasi_machine.specs.Machine.{first_ids, context_at}
 use Rattle.wasi_steps.specs.Replies.{kinds_of}
 use Rattle.wasi_steps.specs.Reply.{family_fields, no_fields, number_fields, triple_fields, truth_fields}
 use Rattle.wasi_walks.specs.Waiting.{call_over, IsPoll, IsUnready, left_missing, MayStand, OfWatched, OutputWaits, pollable_mark, StandingWaits, PendingCallsFit, WatchesAccept, WatchesConnect, WatchesIdle}
-use Rattle.wasi_causes.specs.GivenUp.{IsDrop, HasLiveChildren, HasNoStreams, IsGone, LooksOnce, shut_down, shutdown_entries, socket_given_up, without}
+use Rattle.wasi_records.specs.Holding.{without_socket}
+use Rattle.wasi_causes.specs.GivenUp.{IsDrop, HasLiveChildren, HasNoStreams, IsGone, LetsGo, LooksOnce, shut_down, shutdown_entries, socket_given_up, without}
 use Rattle.wasi_world.specs.declared.call.Call.TheVariants as call
 use Rattle.wasi_world.specs.declared.call.Entry.{Entry}
 use Rattle.wasi_world.specs.declared.call.Told.TheVariants as told
@@ -225,9 +226,13 @@ Looks m line pollable es (field.True ∷ []) = ⊤
 Looks m line pollable es (field.False ∷ []) = (WatchesDatagrams m pollable → ⊥) → WatchesConnect m pollable → WatchesAccept m pollable → OfWatched m pollable (λ w r. IsUnready (own_of line) r es w) ⊎ LookupWaits m pollable es
 Looks m line pollable es _ = ⊥
 
--- what is left where the handle that was dropped is of the TCP socket of this record, of either interface
+-- what is left where the handle that was dropped is of the TCP socket of this record
 abbrev pub SocketGone : Machine → ℕ → ℕ → ℕ → List Entry → Machine → Type 0
 SocketGone m line handle place es after = (r : TcpRecord) → tcp2_at m.store.records place ≡ Some r → (es ≡ socket_given_up (own_of line) r) × IsGone m handle place after
+
+-- the same of a socket of 0.3
+abbrev pub Socket3Gone : Machine → ℕ → ℕ → ℕ → List Entry → Machine → Type 0
+Socket3Gone m line handle place es after = (r : TcpRecord) → tcp2_at m.store.records place ≡ Some r → LetsGo m line handle place (without_socket r) es after
 
 -- the same of a UDP socket
 abbrev pub UdpGone : Machine → ℕ → ℕ → ℕ → List Entry → Machine → Type 0
@@ -236,7 +241,7 @@ UdpGone m line handle place es after = (u : UdpRecord) → udp2_at m.store.recor
 -- what is left where the handle that was dropped is of this kind
 abbrev pub Gone : Machine → ℕ → ℕ → Option Kind → List Entry → Machine → Type 0
 Gone m line handle (Some (kind.Tcp2 place)) es after = SocketGone m line handle place es after
-Gone m line handle (Some (kind.Tcp3 place)) es after = SocketGone m line handle place es after
+Gone m line handle (Some (kind.Tcp3 place)) es after = Socket3Gone m line handle place es after
 Gone m line handle (Some (kind.Udp2 place)) es after = UdpGone m line handle place es after
 Gone m line handle (Some (kind.Udp3 place)) es after = UdpGone m line handle place es after
 Gone m line handle (Some (kind.Output place)) es after = ⊤

@@ -2,7 +2,7 @@
 //! definitions of specs/. Each is a function that does nothing, whose contract is the law. The
 //! causes are those of the 0.2 calls; a base code has its 0.3 name.
 
-ghost use Rattle.std.specs.Prelude.{◌≡◌, ◌⊎◌, ℕ, true, List, [], ◌∷◌, Some, None};
+ghost use Rattle.std.specs.Prelude.{◌≡◌, ◌⊎◌, ℕ, true, false, List, [], ◌∷◌, Some, None};
 ghost use Rattle.wasi_addr.specs.declared.address.SocketAddressFamily.{SocketAddressFamily};
 ghost use Rattle.wasi_world.specs.declared.call.Call.{Call};
 ghost use Rattle.wasi_world.specs.declared.call.Entry.{Entry};
@@ -14,8 +14,10 @@ ghost use Rattle.wasi_host.specs.declared.kind.Kind.{Kind};
 ghost use Rattle.wasi_host.specs.declared.machine.Machine.{Machine};
 ghost use Rattle.wasi_host.specs.Kinds.{kind_at};
 ghost use Rattle.wasi_host.specs.Machine.{own_of};
+ghost use Rattle.wasi_host.specs.Store.{with_socket};
 ghost use Rattle.wasi_machine.specs.Machine.{context_at};
 ghost use Rattle.wasi_records.specs.declared.socket.TcpRecord.{TcpRecord};
+ghost use Rattle.wasi_records.specs.Holding.{is_held, without_socket};
 ghost use Rattle.wasi_records.specs.Records.{tcp2_at};
 ghost use Rattle.wasi_steps.specs.declared.guest_call.GuestCall.{GuestCall};
 ghost use Rattle.wasi_steps.specs.declared.reply.CodeWord.{CodeWord};
@@ -27,7 +29,7 @@ ghost use Rattle.wasi_steps.specs.Reply.{no_fields};
 ghost use Rattle.wasi_steps.specs.Settings.{chosen};
 ghost use Rattle.wasi_table.specs.Table.{children_of};
 ghost use Rattle.wasi_walks.specs.Answered.{Answered};
-ghost use Rattle.wasi_causes.specs.GivenUp.{IsGone, socket_given_up};
+ghost use Rattle.wasi_causes.specs.GivenUp.{IsGone, socket_given_up, without};
 ghost use Rattle.wasi_causes.specs.Options.{GetsOption, P3RefusedGet, P3RefusedSet, SetsChosen};
 ghost use Rattle.wasi_causes.specs.Outcomes.{LeavesSocket};
 ghost use Rattle.wasi_causes.specs.Refusals.{KnowsTcp3Bound, OfTcp3, P3CreateRefusal};
@@ -160,11 +162,14 @@ pub fn p3_options_are_read_and_set()
 {}
 
 /// What a drop of a 0.3 socket releases, as that of a 0.2 socket
-/// ([`drops_give_up_what_is_open`](crate::causes::drops_give_up_what_is_open)).
+/// ([`drops_give_up_what_is_open`](crate::causes::drops_give_up_what_is_open)), where nothing else
+/// holds its network socket.
 ///
 /// - `done`: where it has no live children it is done; that is said where no call is pending.
 /// - `given_up`: it releases what the socket listens by, its open halves, and its network socket.
 /// - `gone`: nothing is left of its record, nor a job.
+/// - `kept`: while an open half or a listener holds it, nothing is asked, and the record stays as
+///   one whose handle is gone.
 pub fn p3_drops_give_up_what_is_open()
     ensures done { (contexts : List WasiSocketsCtx) (m : Machine) (line ctx handle place : ℕ)
         (entries : List Entry) (reply : Reply) (after : Machine)
@@ -175,13 +180,20 @@ pub fn p3_drops_give_up_what_is_open()
     ensures given_up { (contexts : List WasiSocketsCtx) (m : Machine) (line ctx handle place : ℕ)
         (r : TcpRecord) (fields : List Field) (entries : List Entry) (after : Machine)
         → kind_at m.table handle ≡ Some (Kind.Tcp3 place)
-        → tcp2_at m.store.records place ≡ Some r
+        → tcp2_at m.store.records place ≡ Some r → is_held (without_socket r) ≡ false
         → Answered contexts m line (Step.Call ctx (GuestCall.Drop handle)) entries
         (Reply.Ok fields) after → entries ≡ socket_given_up (own_of line) r }
     ensures gone { (contexts : List WasiSocketsCtx) (m : Machine) (line ctx handle place : ℕ)
         (r : TcpRecord) (fields : List Field) (entries : List Entry) (after : Machine)
         → kind_at m.table handle ≡ Some (Kind.Tcp3 place)
-        → tcp2_at m.store.records place ≡ Some r
+        → tcp2_at m.store.records place ≡ Some r → is_held (without_socket r) ≡ false
         → Answered contexts m line (Step.Call ctx (GuestCall.Drop handle)) entries
         (Reply.Ok fields) after → IsGone m handle place after }
+    ensures kept { (contexts : List WasiSocketsCtx) (m : Machine) (line ctx handle place : ℕ)
+        (r : TcpRecord) (fields : List Field) (entries : List Entry) (after : Machine)
+        → kind_at m.table handle ≡ Some (Kind.Tcp3 place)
+        → tcp2_at m.store.records place ≡ Some r → is_held (without_socket r) ≡ true
+        → Answered contexts m line (Step.Call ctx (GuestCall.Drop handle)) entries
+        (Reply.Ok fields) after → (entries ≡ []) × (after ≡ record (without m handle)
+        { store = with_socket m.store place (without_socket r) }) }
 {}

@@ -12,6 +12,7 @@ use Rattle.wasi_world.specs.Asks.{Asks, Give, bind}
 use Rattle.wasi_tcp.specs.Shape.{Socket}
 use Rattle.wasi_tcp.specs.Socket.{new_asks, side_of}
 use Rattle.wasi_table.specs.Table.{empty}
+use Rattle.wasi_records.specs.Holding.{drop_socket_asks}
 use Rattle.wasi_records.specs.Records.{tcp2_at, udp2_at, open_at, lookup_at}
 use Rattle.wasi_host.specs.declared.kind.Kind.{Kind}
 use Rattle.wasi_host.specs.declared.kind.Kind.TheVariants.{Tcp2, Udp2, Output, PlainInput, PlainOutput, Incoming, Outgoing, Pollable, Lookup, Tcp3, Udp3}
@@ -25,7 +26,7 @@ pub use Rattle.wasi_records.specs.Names.{own_of}
 use Rattle.wasi_host.specs.Store.{Records, no_records, with_record}
 use Rattle.wasi_host.specs.Jobs.{turn_store_asks}
 use Rattle.wasi_host.specs.Readiness.{ready_at, ready_ids_at}
-use Rattle.wasi_host.specs.Dropping.{release_at, drop_output_at}
+use Rattle.wasi_host.specs.Dropping.{release_at, let_go_at, drop_output_at}
 use Rattle.wasi_host.specs.DatagramCalls.{incoming_names, outgoing_ready, ready_incoming_at, drop_incoming_at, drop_outgoing_at}
 use Rattle.wasi_host.specs.NameLookupCalls.{lookup_ready, drop_lookup_at}
 use Rattle.wasi_host.specs.PlainStreams.{drop_plain_input, drop_plain_output}
@@ -171,7 +172,7 @@ at_once done = (Ready tt, done.1)
 abbrev pub drop_kind : Machine → Ids → Kind → Asks (Result (Answer (Unit {0})) Stop × Machine)
 drop_kind m ids (Tcp2 place) = bind (release_at m.store (own_of ids.line) place (tcp2_at m.store.records place)) (λ done. Give (answered (with_store m (at_once done))))
 drop_kind m ids (Udp2 place) = bind (release_udp_at m.store (own_of ids.line) place (udp2_at m.store.records place)) (λ done. Give (answered (with_store m (at_once done))))
-drop_kind m ids (Tcp3 place) = bind (release_at m.store (own_of ids.line) place (tcp2_at m.store.records place)) (λ done. Give (answered (with_store m (at_once done))))
+drop_kind m ids (Tcp3 place) = bind (let_go_at m.store place (drop_socket_asks (own_of ids.line)) (tcp2_at m.store.records place)) (λ done. Give (answered (with_store m (at_once done))))
 drop_kind m ids (Udp3 place) = bind (release_udp_at m.store (own_of ids.line) place (udp2_at m.store.records place)) (λ done. Give (answered (with_store m (at_once done))))
 drop_kind m ids (Output place) = bind (drop_output_at m.store ids place (tcp2_at m.store.records place)) (λ done. Give (answered (with_store m done)))
 drop_kind m ids (Incoming place) = Give (answered (with_store m (at_once (drop_incoming_at m.store place (open_at m.store.records place)))))

@@ -2,8 +2,10 @@
 
 ghost use Rattle.std.specs.Prelude.{◌≡◌, is_some, false, Ok, OnErr};
 ghost use Rattle.wasi_world.specs.Asks.{AsksFor};
+ghost use Rattle.wasi_records.specs.Holding.{drop_socket_asks};
 ghost use Rattle.wasi_records.specs.Records.{tcp2_at};
-ghost use Rattle.wasi_host.specs.Dropping.{release_at, wait_at, drop_output_at, released};
+ghost use Rattle.wasi_host.specs.Dropping.{release_at, let_go_at, wait_at, drop_output_at};
+ghost use Rattle.wasi_host.specs.Dropping.{released};
 ghost use Rattle.wasi_records.specs.Stops.{fault_outcome};
 ghost use Rattle.wasi_host.specs.Kinds.{without_handle};
 ghost use Rattle.wasi_host.specs.Machine.{drop_asks, drop_kind};
@@ -40,6 +42,31 @@ impl Store {
         };
         record.release(world, op)?;
         self.give_back(place);
+        Ok(())
+    }
+
+    /// Drops the handle of 0.3 of the TCP socket with this record number. Where nothing else holds
+    /// its network socket it is released, and the record is given back.
+    pub(crate) fn tcp_drop<W: World>(
+        &mut self,
+        world: &mut W,
+        op: OpId,
+        place: RecordId,
+    ) -> Result<(), AllocError>
+        requires { (W.seen world.old).ended ≡ false }
+        ensures asked { AsksFor (let_go_at self.old place (drop_socket_asks op)
+            (tcp2_at self.old.records place)) (W.seen world.old) (W.seen world.new)
+            (λ done. (done, self.new)) result }
+        ensures sides { KnowsSides (W.seen world.old) self.old
+            → KnowsSides (W.seen world.new) self.new }
+    {
+        let Some(record) = find_mut::<TcpRecord>(&mut self.records, place) else {
+            return Ok(());
+        };
+        if record.drop_socket(world, op)? {
+            self.give_back(place);
+            return Ok(());
+        }
         Ok(())
     }
 
@@ -84,8 +111,8 @@ impl Store {
 /// Drops a handle (`drop` of each resource). A handle that has a live child: `HasChildren`. The
 /// handle is gone even where memory runs out after that.
 ///
-/// - A TCP socket releases its listener, its open halves and its network socket; a UDP socket its
-///   network socket.
+/// - A TCP socket of 0.2 releases its listener, its open halves and its network socket; one of 0.3
+///   its network socket, where nothing else holds it; a UDP socket its network socket.
 /// - An output waits until its writer is ready, and an outgoing datagram stream until its datagram
 ///   in the background is sent or has failed. The call is pending until then, and
 ///   [`resume`](crate::resume) continues it.
@@ -128,8 +155,12 @@ fn release_kind<W: World>(
         (W.seen world.new) }
 {
     match kind {
-        Kind::Tcp2(place) | Kind::Tcp3(place) => {
+        Kind::Tcp2(place) => {
             view.store.tcp_release(world, ids.own(), place)?;
+            Ok(Answer::Ready(()))
+        }
+        Kind::Tcp3(place) => {
+            view.store.tcp_drop(world, ids.own(), place)?;
             Ok(Answer::Ready(()))
         }
         Kind::Udp2(place) | Kind::Udp3(place) => {

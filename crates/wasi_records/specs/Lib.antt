@@ -12,6 +12,7 @@ pub mod Listening
 pub mod Shutdowns
 pub mod Looks
 pub mod Releasing
+pub mod Holding
 pub mod Sides
 pub mod Closing
 pub mod Udp

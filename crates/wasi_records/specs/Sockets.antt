@@ -1,5 +1,5 @@
 -- A TCP socket's record: its connect and its addresses.
-use Rattle.std.specs.Prelude.{Some, None, Result, Ok, Err}
+use Rattle.std.specs.Prelude.{false, Some, None, Result, Ok, Err}
 use Rattle.std.specs.declared.alloc.AllocError.{AllocError}
 use Rattle.wasi_addr.specs.declared.address.IpSocketAddress.{IpSocketAddress}
 use Rattle.wasi_addr.specs.declared.code.ErrorCode.{ErrorCode}
@@ -29,7 +29,7 @@ use Rattle.wasi_records.specs.Stops.{Stop, Code, code_stop}
 
 -- its handles are marked with the network socket that it is made with
 abbrev pub new_record : Socket → TcpRecord
-new_record socket = record { inner = socket; side = side_of socket; in_progress = doing.Nothing; listening = listening.Not; streams = None }
+new_record socket = record { inner = socket; side = side_of socket; in_progress = doing.Nothing; listening = listening.Not; streams = None; dropped = false }
 
 abbrev pub with_inner : TcpRecord → Socket → TcpRecord
 with_inner r socket = record r { inner = socket }

@@ -6,6 +6,7 @@ pub mod closing;
 pub mod datagrams;
 pub mod error;
 mod halves;
+mod holding;
 pub mod name_lookup;
 mod readiness;
 mod receiving;

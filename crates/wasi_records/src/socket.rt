@@ -24,8 +24,8 @@ pub struct Streams {
     pub writer: WriteState,
 }
 
-/// The record of a TCP socket of 0.2: the socket, its operation in progress, how far it is with
-/// listening, and its streams once they were made.
+/// The record of a TCP socket: the socket, its operation in progress, how far it is with listening,
+/// and its streams once they were made.
 #[derive(Drop)]
 pub struct TcpRecord {
     // First, since each turn looks here: fields lie in this order, and a record is several cache
@@ -37,6 +37,8 @@ pub struct TcpRecord {
     pub side: Option<Sock>,
     pub in_progress: InProgress,
     pub listening: Listening,
+    /// Its handle of 0.3 is gone, and the record stays for what else holds its network socket.
+    pub dropped: bool,
 }
 
 impl TcpRecord {
@@ -51,6 +53,7 @@ impl TcpRecord {
             in_progress: InProgress::Nothing,
             listening: Listening::Not,
             streams: None,
+            dropped: false,
         }
     }
 

@@ -2,7 +2,7 @@
 use Rattle.wasi_walks.proofs.Words.{Accepting, Accepts, Call, Created, Entry, Give, Has, AsyncOperation, InProgress, IpSocketAddress, IsBoundSide, IsLicensed}
 use Rattle.wasi_walks.proofs.Words.{IsMarkOf, Left, List, Machine, MayListen, None, OpId, Reply, SocketAddrUse, SocketAddressFamily, Some, GuestCall, Step}
 use Rattle.wasi_walks.proofs.Words.{TcpRecord, TcpState, Told, [], accepted_record, accepted_socket, accepted_state, ap, arith, bind, entry}
-use Rattle.wasi_walks.proofs.Words.{first_state, inl, inr, no_fields, number_fields, own_of, polls, port_of, refl, run, subst, sym, triple_fields}
+use Rattle.wasi_walks.proofs.Words.{false, first_state, inl, inr, no_fields, number_fields, own_of, polls, port_of, refl, run, subst, sym, triple_fields}
 use Rattle.wasi_walks.proofs.Words.{true, ℕ, ⊤, ◌++◌, ◌∷◌, ◌≡◌, ◌⊎◌}
 use Rattle.wasi_walks.proofs.Lists.{has_back, has_last}
 use Rattle.wasi_walks.proofs.licence.Runs.{whole_licensed}
@@ -55,6 +55,7 @@ listening_record backlog doing = record {
   in_progress = doing;
   listening = Accepts (record { side = own_of 2; maker = 0; family = SocketAddressFamily.Ipv4; accept = Accepting.Idle });
   streams = None;
+  dropped = false;
 }
 
 -- the listener, and the connection with its streams
