@@ -5,7 +5,7 @@ use Rattle.world_io.specs.Io.{Reading, Writing}
 use Rattle.wasi_world.specs.Seen.{Rose}
 use Rattle.wasi_program.specs.declared.status.Status.{Status}
 use Rattle.wasi_program.specs.declared.status.Status.TheVariants as status
-use Rattle.wasi_program.specs.Scenario.{ReadScenario}
+use Rattle.wasi_program.specs.Scenario.{ReadScenario, HasBadLine}
 use Rattle.wasi_policy.specs.declared.denied.Denied.{Denied}
 use Rattle.wasi_policy.specs.declared.rule.Rule.{Rule}
 use Rattle.wasi_policy.specs.Grammar.{rules_of}
@@ -20,12 +20,6 @@ use Rattle.policy_commands.specs.declared.status.PolicyStatus.TheVariants.{Of, B
 use Rattle.policy_commands.specs.Words.{number_of, status_of_ask, bad_line_of_ask, command_in}
 use Rattle.world_scripted.specs.Scenario.{scenario_of}
 use Rattle.policy_commands.specs.Run.{TextRan, ScriptRan}
-
--- The scenario was read whole, and this is its first line that isn't in its grammar.
-pub record HasBadLine (c_old c_new : Reading) (line : ℕ) : Type 0 where
-  pub text : List ℕ
-  pub read : ReadScenario c_old c_new text
-  pub bad : scenario_of text ≡ Err line
 
 -- Nothing was read from the source or written to the sink, and there is no log.
 pub record NothingRan (s_old s_new : Reading) (k_old k_new : Writing) (denied : List Denied) (inner : List Entry) : Type 0 where

@@ -1,18 +1,15 @@
 -- How a run that is recorded ends the program.
-use Rattle.std.specs.Prelude.{◌≡◌, ℕ, ◌⊎◌, true, List, [], Some, Result, Ok, Err}
+use Rattle.std.specs.Prelude.{◌≡◌, ℕ, ◌⊎◌, List, [], Result, Ok, Err}
 use Rattle.wasi_world.specs.declared.call.Entry.{Entry}
 use Rattle.wasi_world.specs.declared.outcome.WasiSocketsCtx.{WasiSocketsCtx}
-use Rattle.wasi_world.specs.Script.{IsScripted}
-use Rattle.wasi_world.specs.Seen.{Plan, Seen, Rose}
+use Rattle.wasi_world.specs.Seen.{Plan, Rose}
 use Rattle.world_io.specs.Io.{Reading, Writing}
 use Rattle.world_scripted.specs.Scenario.{scenario_of}
-use Rattle.world_scripted.specs.Scripted.{at_start}
-use Rattle.wasi_records.specs.Closing.{HasClosedAll}
 use Rattle.wasi_run.specs.declared.run.RunEnd.{RunEnd}
 use Rattle.wasi_run.specs.declared.error.RunError.{RunError}
 use Rattle.wasi_run.specs.declared.error.RunError.TheVariants as error
-use Rattle.wasi_run.specs.Headline.{RunsLicensed}
-use Rattle.wasi_program.specs.Scenario.{ReadScenario, IsPlanned}
+use Rattle.wasi_program.specs.Scenario.{ReadScenario, HasBadLine, IsPlanned}
+use Rattle.wasi_program.specs.Planned.{RanPlan}
 use Rattle.wasi_program.specs.Status.{status_of, bad_line_of}
 use Rattle.wasi_program.specs.declared.status.Status.{Status}
 use Rattle.wasi_program.specs.declared.status.Status.TheVariants as status
@@ -26,12 +23,6 @@ use Rattle.recorder_commands.specs.declared.status.RecorderStatus.TheVariants.{O
 use Rattle.recorder_commands.specs.Log.{WritesLog}
 
 -- == the scenario
--- The scenario was read whole, and this is its first line that isn't in its grammar.
-pub record HasBadLine (c_old c_new : Reading) (line : ℕ) : Type 0 where
-  pub text : List ℕ
-  pub read : ReadScenario c_old c_new text
-  pub bad : scenario_of text ≡ Err line
-
 -- why there is no plan, by how the program ends
 abbrev pub NoPlanSince : Reading → Reading → Status → ℕ → Type 0
 NoPlanSince c_old c_new status.BadScenario line = HasBadLine c_old c_new line
@@ -45,15 +36,6 @@ IsFoundSo c_old c_new (Planned world contexts) = (text : List ℕ) × ReadScenar
 IsFoundSo c_old c_new (Stopped end line) = NoPlanSince c_old c_new end line
 
 -- == the run
--- The script was run over the plan, and ended so.
-pub record RanPlan (plan : Plan) (contexts : List WasiSocketsCtx) (limit : ℕ) (s_old s_new : Reading) (k_old k_new : Writing) (log : List Entry) (result : Result RunEnd RunError) : Type 0 where
-  pub seen : Seen  -- the world after it
-  pub logged : seen.log ≡ Some log
-  pub ended : seen.ended ≡ true
-  pub licensed : RunsLicensed contexts limit s_old s_new k_old k_new (at_start plan) seen result
-  pub closed : HasClosedAll seen
-  pub scripted : IsScripted plan log
-
 -- how a run is reported whose log was written so: only where it was written whole as the run ended
 abbrev pub status_after : Result RunEnd RunError → Result (Unit {0}) Unwritten → RecorderStatus
 status_after result (Ok done) = Of (status_of result)

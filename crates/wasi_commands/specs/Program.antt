@@ -1,27 +1,24 @@
 -- What the program `sockets` makes of its words, its scenario and its script.
-use Rattle.std.specs.Prelude.{◌≡◌, ℕ, ◌⊎◌, ◌↔◌, true, List, [], ◌∷◌, Option, Some, None, Result, Ok, Err}
+use Rattle.std.specs.Prelude.{◌≡◌, ℕ, ◌⊎◌, ◌↔◌, List, [], Option, Some, None, Result, Ok, Err}
 use Rattle.wasi_world.specs.declared.call.Entry.{Entry}
 use Rattle.wasi_world.specs.declared.outcome.WasiSocketsCtx.{WasiSocketsCtx}
-use Rattle.wasi_world.specs.Seen.{Plan, Seen, Rose}
+use Rattle.wasi_world.specs.Seen.{Plan, Rose}
 use Rattle.world_io.specs.Io.{Reading, Writing}
-use Rattle.wasi_world.specs.Script.{IsScripted}
 use Rattle.world_scripted.specs.Scenario.{scenario_of}
-use Rattle.world_scripted.specs.Scripted.{at_start}
 use Rattle.wasi_run.specs.declared.run.RunEnd.{RunEnd}
 use Rattle.wasi_run.specs.declared.error.RunError.{RunError}
 use Rattle.wasi_run.specs.declared.counts.Counts.{Counts}
 use Rattle.wasi_program.specs.declared.status.Status.{Status}
 use Rattle.wasi_program.specs.declared.status.Status.TheVariants as status
 use Rattle.wasi_program.specs.Status.{number_of, status_of, bad_line_of}
-use Rattle.wasi_program.specs.Scenario.{ReadScenario}
+use Rattle.wasi_program.specs.Scenario.{ReadScenario, HasBadLine}
+use Rattle.wasi_program.specs.Planned.{RanPlan}
 use Rattle.wasi_commands.specs.declared.commands.Command.{Command}
 use Rattle.wasi_commands.specs.declared.commands.Command.TheVariants.{Run, Pump, Generate}
 use Rattle.wasi_commands.specs.Commands.{command_in}
 use Rattle.wasi_pump.specs.declared.error.PumpError.{PumpError}
 use Rattle.wasi_pump.specs.declared.error.PumpError.TheVariants as pump
 use Rattle.wasi_pump.specs.Pumped.{PumpEnds}
-use Rattle.wasi_records.specs.Closing.{HasClosedAll}
-use Rattle.wasi_run.specs.Headline.{RunsLicensed}
 use Rattle.wasi_run.specs.Counted.{CountsRun, summary}
 use Rattle.world_io.specs.Written.{TookAll, TookPart}
 
@@ -40,15 +37,6 @@ pub record NothingRan (s_old s_new : Reading) (k_old k_new : Writing) (log : Lis
   pub sink : k_new ≡ k_old
   pub log_is : log ≡ []
 
--- The script was run over the plan, and ended so.
-pub record RanPlan (plan : Plan) (contexts : List WasiSocketsCtx) (limit : ℕ) (s_old s_new : Reading) (k_old k_new : Writing) (log : List Entry) (result : Result RunEnd RunError) : Type 0 where
-  pub seen : Seen  -- the world after it
-  pub logged : seen.log ≡ Some log
-  pub ended : seen.ended ≡ true
-  pub licensed : RunsLicensed contexts limit s_old s_new k_old k_new (at_start plan) seen result
-  pub closed : HasClosedAll seen
-  pub scripted : IsScripted plan log
-
 -- The scenario is in its grammar, the script was run over its plan, and so the program ends so.
 pub record RanText (limit : ℕ) (text : List ℕ) (s_old s_new : Reading) (k_old k_new : Writing) (log : List Entry) (line : ℕ) (end : Status) : Type 0 where
   pub plan : Plan
@@ -66,12 +54,6 @@ TextEnds limit text s_old s_new k_old k_new log line status.Memory = (NothingRan
 TextEnds limit text s_old s_new k_old k_new log line status.BadWords = ⊥
 TextEnds limit text s_old s_new k_old k_new log line status.ScenarioFault = ⊥
 TextEnds limit text s_old s_new k_old k_new log line end = RanText limit text s_old s_new k_old k_new log line end
-
--- The scenario was read whole, and this is its first line that isn't in its grammar.
-pub record HasBadLine (c_old c_new : Reading) (line : ℕ) : Type 0 where
-  pub text : List ℕ
-  pub read : ReadScenario c_old c_new text
-  pub bad : scenario_of text ≡ Err line
 
 -- == `run LIMIT`
 -- The scenario was read whole, and a run over it ended so.

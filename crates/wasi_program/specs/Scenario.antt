@@ -19,6 +19,12 @@ most_scenario = 1048576
 abbrev pub ReadScenario : Reading → Reading → List ℕ → Type 0
 ReadScenario before after text = ReadWithin most_scenario before after text
 
+-- The scenario was read whole, and this is its first line that isn't in its grammar.
+pub record HasBadLine (c_old c_new : Reading) (line : ℕ) : Type 0 where
+  pub text : List ℕ
+  pub read : ReadScenario c_old c_new text
+  pub bad : scenario_of text ≡ Err line
+
 -- A world that goes by the scenario's plan, before its first call, and the scenario's contexts.
 pub record IsPlanned (text : List ℕ) (world : ScriptedWorld) (contexts : List WasiSocketsCtx) : Type 0 where
   pub plan : Plan

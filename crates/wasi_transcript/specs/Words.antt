@@ -1,5 +1,5 @@
 -- What the program's words ask for, and how it ends.
-use Rattle.std.specs.Prelude.{◌≡◌, ◌≢◌, ◌⊎◌, ℕ, if◌then◌else◌, bytes_eq, codes, List, [], ◌∷◌, map, string_bytes, Option, Some, None, Result, Ok, Err}
+use Rattle.std.specs.Prelude.{◌≡◌, ◌≢◌, ◌⊎◌, ℕ, if◌then◌else◌, bytes_eq, codes, List, [], ◌∷◌, map, string_bytes, Option, Some, None, Result, Ok}
 use Rattle.world_text.specs.Fields.{number_in}
 use Rattle.world_io.specs.Io.{Reading, Writing}
 use Rattle.world_scripted.specs.Scenario.{scenario_of}
@@ -11,7 +11,7 @@ use Rattle.wasi_program.specs.declared.status.Status.TheVariants as status
 use Rattle.wasi_run.specs.declared.run.RunEnd.{RunEnd}
 use Rattle.wasi_run.specs.declared.error.RunError.{RunError}
 use Rattle.wasi_program.specs.Status as run
-use Rattle.wasi_program.specs.Scenario.{ReadScenario}
+use Rattle.wasi_program.specs.Scenario.{ReadScenario, HasBadLine}
 use Rattle.wasi_program.specs.Status.{status_of, bad_line_of}
 use Rattle.wasi_transcript.specs.declared.check.Checked.TheVariants.{Holds, Fails, NotCases}
 use Rattle.wasi_transcript.specs.declared.check.Failed.{Failed}
@@ -71,12 +71,6 @@ pub record ShowsPlan (limit : ℕ) (c_old c_new s_old s_new : Reading) (k_old k_
   pub shown : IsShown contexts limit s_old s_new k_old k_new (at_start plan) seen result
   pub status_is : s ≡ status_of result
   pub line_is : line ≡ bad_line_of result
-
--- The scenario was read whole, and this is its first line that isn't in its grammar.
-pub record HasBadLine (c_old c_new : Reading) (line : ℕ) : Type 0 where
-  pub text : List ℕ
-  pub read : ReadScenario c_old c_new text
-  pub bad : scenario_of text ≡ Err line
 
 -- how `show` ends
 abbrev pub ShowEnds : ℕ → Reading → Reading → Reading → Reading → Writing → Writing → End → Type 0
