@@ -17,7 +17,7 @@ use ruled::run_ruled;
 use script::run_live;
 use std::alloc::Global;
 use std::process::ExitCode;
-use wasi_console::{LineSource, end, print, words};
+use wasi_console::{LineSource, command_words, end};
 use wasi_program::Status;
 use wasi_run::RunError;
 use world_io::{FileSource, StdSink, StdSource};
@@ -62,13 +62,11 @@ example: printf '0 network\\n0 tcp-create 4\\n0 tcp-start-bind 2 1 4 127 0 0 1 8
 ";
 
 fn main(rt: HostRuntime) -> ExitCode {
-    let words = match words(&rt) {
+    let words = match command_words(&rt, &[HELP], VERSION) {
         Ok(words) => words,
-        Err(status) => return end(&rt, status, 0, None),
+        Err(code) => return code,
     };
     match words.as_slice() {
-        [word] if word.as_str() == "--help" => print(&rt, &[HELP]),
-        [word] if word.as_str() == "--version" => print(&rt, &[VERSION]),
         [first, rest @ ..] if first.as_str() == "--any-address" => run(rt, rest, true),
         [first, path, limit] if first.as_str() == "--policy" => {
             run_by_rules(rt, path.as_str(), limit.as_str())

@@ -10,8 +10,8 @@ use policy_commands::policy_main;
 use policy_commands::report::{end_at_line, end_at_rules};
 use std::process::ExitCode;
 use std::rt::Files;
-use wasi_console::{LineSource, end, line_of, print, words};
-use wasi_program::{Choice, ShownLine, Status, choice_in, scenario_path, shown_line};
+use wasi_console::{LineSource, command_words, end_of_run};
+use wasi_program::scenario_path;
 use world_io::{FileSource, StdSink, StdSource};
 
 const VERSION: &str = "policy 0.1.0\n";
@@ -62,27 +62,21 @@ example: echo 'allow tcp-connect any 80 443' > rules.txt; echo 'tcp-connect 4 12
 ";
 
 fn main(rt: HostRuntime) -> ExitCode {
-    let words = match words(&rt) {
+    let words = match command_words(&rt, &[HELP], VERSION) {
         Ok(words) => words,
-        Err(status) => return end(&rt, status, 0, None),
+        Err(code) => return code,
     };
-    match choice_in(words.as_slice()) {
-        Choice::Help => print(&rt, &[HELP]),
-        Choice::Version => print(&rt, &[VERSION]),
-        Choice::Command => {
-            let mut rules = FileSource::open(&rt, RULES_PATH);
-            let mut scenario = FileSource::open(&rt, scenario_path());
-            let done = policy_main(
-                rt.alloc(),
-                words.as_slice(),
-                &mut rules,
-                &mut scenario,
-                LineSource::new(StdSource::new(rt.stdin())),
-                StdSink::new(rt.stdout()),
-            );
-            stop(&rt, words.as_slice(), done.status, done.line, &done.source)
-        }
-    }
+    let mut rules = FileSource::open(&rt, RULES_PATH);
+    let mut scenario = FileSource::open(&rt, scenario_path());
+    let done = policy_main(
+        rt.alloc(),
+        words.as_slice(),
+        &mut rules,
+        &mut scenario,
+        LineSource::new(StdSource::new(rt.stdin())),
+        StdSink::new(rt.stdout()),
+    );
+    stop(&rt, words.as_slice(), done.status, done.line, &done.source)
 }
 
 /// Whether the words ask for a run.
@@ -108,7 +102,7 @@ fn stop<R: Eprint + Files, I>(
         return end_at_rules(rt, number, RULES_PATH, line);
     }
     if is_run(words) {
-        return stop_with(rt, number, line, input);
+        return end_of_run(rt, number, line, input);
     }
     match number {
         3 => {
@@ -122,21 +116,6 @@ fn stop<R: Eprint + Files, I>(
             let _ = printed;
             ExitCode::from(number)
         }
-        _ => stop_with(rt, number, line, input),
+        _ => end_of_run(rt, number, line, input),
     }
-}
-
-/// Prints how it ended where that is no line of rules or of questions.
-fn stop_with<R: Eprint + Files, I>(rt: &R, number: u8, line: u32, input: &LineSource<I>) -> ExitCode
-    ensures { exit_status result ≡ number }
-{
-    let Some(status) = Status::of_number(number) else {
-        return ExitCode::from(number);
-    };
-    let front = match shown_line(status) {
-        ShownLine::OfScenario => line_of(FileSource::open(rt, scenario_path()), u64::from(line)),
-        ShownLine::OfScript => input.line(u64::from(line)),
-        ShownLine::Neither => None,
-    };
-    end(rt, status, line, front)
 }

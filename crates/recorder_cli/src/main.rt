@@ -9,8 +9,8 @@ use recorder_commands::report::{end_at_difference, end_at_log_line, end_without_
 use recorder_commands::{NewFile, log_path, replay_main};
 use std::process::ExitCode;
 use std::rt::Files;
-use wasi_console::{LineSource, end, line_of, print, words};
-use wasi_program::{Choice, ShownLine, Status, choice_in, scenario_path, shown_line};
+use wasi_console::{LineSource, command_words, end_of_run};
+use wasi_program::scenario_path;
 use world_io::{FileSource, StdSink, StdSource};
 
 const VERSION: &str = "recorder 0.1.0\n";
@@ -57,29 +57,23 @@ example: : > scenario.txt; printf '0 network\\n0 tcp-create 4\\n' | recorder rec
 ";
 
 fn main(rt: HostRuntime) -> ExitCode {
-    let words = match words(&rt) {
+    let words = match command_words(&rt, &[HELP], VERSION) {
         Ok(words) => words,
-        Err(status) => return end(&rt, status, 0, None),
+        Err(code) => return code,
     };
-    match choice_in(words.as_slice()) {
-        Choice::Help => print(&rt, &[HELP]),
-        Choice::Version => print(&rt, &[VERSION]),
-        Choice::Command => {
-            let mut scenario = FileSource::open(&rt, scenario_path());
-            let mut log_in = FileSource::open(&rt, log_path());
-            let mut log_out = StdSink::new(NewFile::new(&rt, log_path()));
-            let done = replay_main(
-                rt.alloc(),
-                words.as_slice(),
-                &mut scenario,
-                &mut log_in,
-                &mut log_out,
-                LineSource::new(StdSource::new(rt.stdin())),
-                StdSink::new(rt.stdout()),
-            );
-            stop(&rt, done.status, done.place, &done.source)
-        }
-    }
+    let mut scenario = FileSource::open(&rt, scenario_path());
+    let mut log_in = FileSource::open(&rt, log_path());
+    let mut log_out = StdSink::new(NewFile::new(&rt, log_path()));
+    let done = replay_main(
+        rt.alloc(),
+        words.as_slice(),
+        &mut scenario,
+        &mut log_in,
+        &mut log_out,
+        LineSource::new(StdSource::new(rt.stdin())),
+        StdSink::new(rt.stdout()),
+    );
+    stop(&rt, done.status, done.place, &done.source)
 }
 
 /// Prints how it ended on standard error, with the bad line of the scenario, the script or the log,
@@ -88,18 +82,9 @@ fn stop<R: Eprint + Files, I>(rt: &R, number: u8, place: u32, script: &LineSourc
     ensures { exit_status result ≡ number }
 {
     match number {
-        13 => return end_at_log_line(rt, number, place),
-        14 => return end_without_log(rt, number, log_path()),
-        15 => return end_at_difference(rt, number, place),
-        _ => {}
+        13 => end_at_log_line(rt, number, place),
+        14 => end_without_log(rt, number, log_path()),
+        15 => end_at_difference(rt, number, place),
+        _ => end_of_run(rt, number, place, script),
     }
-    let Some(status) = Status::of_number(number) else {
-        return ExitCode::from(number);
-    };
-    let front = match shown_line(status) {
-        ShownLine::OfScenario => line_of(FileSource::open(rt, scenario_path()), u64::from(place)),
-        ShownLine::OfScript => script.line(u64::from(place)),
-        ShownLine::Neither => None,
-    };
-    end(rt, status, place, front)
 }

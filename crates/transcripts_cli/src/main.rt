@@ -15,8 +15,8 @@ use std::process::ExitCode;
 use std::rt::Files;
 use std::{fs, io};
 use tried::{Tried, try_text};
-use wasi_console::{LineSource, end, line_of, print, words};
-use wasi_program::{Choice, Status, choice_in, scenario_path};
+use wasi_console::{LineSource, command_words, end, line_of};
+use wasi_program::{Status, scenario_path};
 use wasi_transcript::program::{End, Words, check, show, words_in};
 use wasi_transcript::survey::faults;
 use world_io::{FileSource, StdSink, StdSource};
@@ -81,14 +81,9 @@ example: : > scenario.txt; printf '0 network\\n0 tcp-create 4\\n' | transcripts 
 ";
 
 fn main(rt: HostRuntime) -> ExitCode {
-    let words = match words(&rt) {
-        Ok(words) => words,
-        Err(status) => return end(&rt, status, 0, None),
-    };
-    match choice_in(words.as_slice()) {
-        Choice::Help => print(&rt, &[HELP]),
-        Choice::Version => print(&rt, &[VERSION]),
-        Choice::Command => run(rt, words.as_slice()),
+    match command_words(&rt, &[HELP], VERSION) {
+        Ok(words) => run(rt, words.as_slice()),
+        Err(code) => code,
     }
 }
 

@@ -6,6 +6,6 @@ mod command_line;
 mod lines;
 mod report;
 
-pub use command_line::words;
+pub use command_line::command_words;
 pub use lines::{Front, LineSource, line_of};
-pub use report::{end, print};
+pub use report::{end, end_of_run, print};

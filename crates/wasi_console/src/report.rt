@@ -6,11 +6,13 @@ ghost use Rattle.std.specs.Process.{exit_status};
 ghost use Rattle.wasi_program.specs.Status.{number_of};
 ghost use Rattle.wasi_program.specs.Choices.{IsEndOfPrint};
 
-use crate::lines::Front;
+use crate::lines::{Front, LineSource, line_of};
 use std::process::ExitCode;
+use std::rt::Files;
 use std::{io, str};
-use wasi_program::{Status, scenario_path};
+use wasi_program::{ShownLine, Status, scenario_path, shown_line};
 use wasi_steps::STEP_FORMS;
+use world_io::FileSource;
 
 /// What a line of a scenario may be.
 const SCENARIO_LINES: &str =
@@ -53,6 +55,27 @@ pub fn end<R: Eprint>(rt: &R, status: Status, line: u32, front: Option<Front>) -
     };
     let _ = printed;
     ExitCode::from(number)
+}
+
+/// Ends as [`end`] does, for the number of a program that ran a script: a status' number, with the
+/// bad line of the scenario or of the script, whose front is looked up there.
+pub fn end_of_run<R: Eprint + Files, I>(
+    rt: &R,
+    number: u8,
+    line: u32,
+    script: &LineSource<I>,
+) -> ExitCode
+    ensures { exit_status result ≡ number }
+{
+    let Some(status) = Status::of_number(number) else {
+        return ExitCode::from(number);
+    };
+    let front = match shown_line(status) {
+        ShownLine::OfScenario => line_of(FileSource::open(rt, scenario_path()), u64::from(line)),
+        ShownLine::OfScript => script.line(u64::from(line)),
+        ShownLine::Neither => None,
+    };
+    end(rt, status, line, front)
 }
 
 /// The word of a step's line, behind the number of its context.

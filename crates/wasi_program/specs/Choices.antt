@@ -34,6 +34,10 @@ shown_line _ = shown.Neither
 abbrev pub IsEndOfPrint : ℕ → Type 0
 IsEndOfPrint number = (number ≡ number_of status.Ok) ⊎ (number ≡ number_of status.WriteFault)
 
+-- the numbers that a program ends with which does no command: it prints a text, or it can't have its words
+abbrev pub IsEndWithoutCommand : ℕ → Type 0
+IsEndWithoutCommand number = IsEndOfPrint number ⊎ (number ≡ number_of status.BadWords) ⊎ (number ≡ number_of status.Memory)
+
 -- the ends of a program that can't have its words: one isn't UTF-8, or memory ran out
 abbrev pub IsWantOfWords : Status → Type 0
 IsWantOfWords end = (end ≡ status.BadWords) ⊎ (end ≡ status.Memory)
