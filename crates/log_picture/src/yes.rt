@@ -1,4 +1,10 @@
-//! Finds the yes of the embedder's check that allows a call, as the licence asks for it.
+//! Finds the yes of the embedder's check that allows a call: one that the licence asks for.
+
+ghost use Rattle.std.specs.Prelude.{◌≡◌, IsTrue, IfSome, Some, slice_get};
+ghost use Rattle.wasi_world.specs.declared.call.Call.TheVariants.{Check};
+ghost use Rattle.wasi_world.specs.declared.call.Told.TheVariants.{Yes};
+ghost use Rattle.wasi_walks.specs.Licence.{IsMaker, entry};
+ghost use Rattle.log_picture.specs.Yes.{IsYesAt, WasLocal, IsListenAt, IsAllowedAt};
 
 use wasi_addr::{IpSocketAddress, SocketAddrUse, SocketAddressFamily, unspecified_addr};
 use wasi_world::{Call, Entry, OpId, Sock, Told};
@@ -12,12 +18,21 @@ pub struct Maker {
 
 /// The context that created a network socket and its family: those in its create, or where it was
 /// handed over those of the listener.
-pub fn maker_of(log: &[Entry], side: Sock) -> Option<Maker> {
+pub fn maker_of(log: &[Entry], side: Sock) -> Option<Maker>
+    ensures { IfSome result (λ maker. IsMaker log.now maker.ctx maker.family side) }
+{
     let mut side = side;
-    for entry in log.iter().rev() {
+    for place in (0..log.len()).rev() {
+        let entry = log.get(place)?;
         if entry.op == side {
             match &entry.call {
-                Call::TcpCreate { ctx, family } | Call::UdpCreate { ctx, family } => {
+                Call::TcpCreate { ctx, family } => {
+                    return Some(Maker {
+                        ctx: *ctx,
+                        family: *family,
+                    });
+                }
+                Call::UdpCreate { ctx, family } => {
                     return Some(Maker {
                         ctx: *ctx,
                         family: *family,
@@ -32,8 +47,10 @@ pub fn maker_of(log: &[Entry], side: Sock) -> Option<Maker> {
 }
 
 /// Whether the entry is a check of this operation that was answered yes for the address and use.
-fn is_yes(entry: &Entry, op: OpId, ctx: u32, addr: IpSocketAddress, usage: SocketAddrUse) -> bool {
-    match (&entry.call, &entry.answer) {
+fn is_yes(found: &Entry, op: OpId, ctx: u32, addr: IpSocketAddress, usage: SocketAddrUse) -> bool
+    ensures { IsTrue result → found.now ≡ entry op (Check ctx addr usage) Yes }
+{
+    match (&found.call, &found.answer) {
         (
             Call::Check {
                 ctx: c,
@@ -41,9 +58,30 @@ fn is_yes(entry: &Entry, op: OpId, ctx: u32, addr: IpSocketAddress, usage: Socke
                 usage: u,
             },
             Told::Yes,
-        ) => entry.op == op && *c == ctx && *a == addr && *u == usage,
+        ) => found.op == op && *c == ctx && *a == addr && *u == usage,
         _ => false,
     }
+}
+
+/// The place of the last yes, among the entries, that the operation had for this address and use
+/// from this context.
+fn last_yes(
+    before: &[Entry],
+    op: OpId,
+    ctx: u32,
+    addr: IpSocketAddress,
+    usage: SocketAddrUse,
+) -> Option<usize>
+    ensures { IfSome result (λ place. slice_get before.now place ≡ Some (entry op (Check ctx addr
+        usage) Yes)) }
+{
+    for place in (0..before.len()).rev() {
+        let found = before.get(place)?;
+        if is_yes(found, op, ctx, addr, usage) {
+            return Some(place);
+        }
+    }
+    None
 }
 
 /// The place of the last yes, among the entries, that the operation had for this address and use
@@ -54,17 +92,20 @@ pub fn find_yes(
     side: Sock,
     addr: IpSocketAddress,
     usage: SocketAddrUse,
-) -> Option<usize> {
-    let Maker { ctx, .. } = maker_of(before, side)?;
-    before
-        .iter()
-        .rposition(|entry| is_yes(entry, op, ctx, addr, usage))
+) -> Option<usize>
+    ensures { IfSome result (λ place. IsYesAt before.now op side addr usage place) }
+{
+    let maker = maker_of(before, side)?;
+    last_yes(before, op, maker.ctx, addr, usage)
 }
 
 /// The local address of a network socket, as it was last reported.
-fn last_local(before: &[Entry], side: Sock) -> Option<IpSocketAddress> {
-    for entry in before.iter().rev() {
-        if let (Call::Local { sock }, Told::Addr(addr)) = (&entry.call, &entry.answer) {
+fn last_local(before: &[Entry], side: Sock) -> Option<IpSocketAddress>
+    ensures { IfSome result (λ addr. WasLocal before.now side addr) }
+{
+    for place in (0..before.len()).rev() {
+        let found = before.get(place)?;
+        if let (Call::Local { sock }, Told::Addr(addr)) = (&found.call, &found.answer) {
             if *sock == side {
                 return Some(*addr);
             }
@@ -73,22 +114,38 @@ fn last_local(before: &[Entry], side: Sock) -> Option<IpSocketAddress> {
     None
 }
 
-/// The yes that allows a `listen`: for the local address, or for the wildcard.
-fn find_listen(before: &[Entry], op: OpId, side: Sock) -> Option<usize> {
-    if let Some(addr) = last_local(before, side) {
-        let found = find_yes(before, op, side, addr, SocketAddrUse::TcpListen);
-        if found.is_some() {
-            return found;
-        }
-    }
+/// The yes for a `listen` that was asked for the local address.
+fn find_local_listen(before: &[Entry], op: OpId, side: Sock) -> Option<usize>
+    ensures { IfSome result (λ place. IsListenAt before.now op side place) }
+{
+    let addr = last_local(before, side)?;
+    find_yes(before, op, side, addr, SocketAddrUse::TcpListen)
+}
+
+/// The yes for a `listen` that was asked for the wildcard.
+fn find_wildcard_listen(before: &[Entry], op: OpId, side: Sock) -> Option<usize>
+    ensures { IfSome result (λ place. IsListenAt before.now op side place) }
+{
     let Maker { family, .. } = maker_of(before, side)?;
     let wildcard = unspecified_addr(family);
     find_yes(before, op, side, wildcard, SocketAddrUse::TcpListen)
 }
 
+/// The yes that allows a `listen`: for the local address, or for the wildcard.
+fn find_listen(before: &[Entry], op: OpId, side: Sock) -> Option<usize>
+    ensures { IfSome result (λ place. IsListenAt before.now op side place) }
+{
+    match find_local_listen(before, op, side) {
+        Some(place) => Some(place),
+        None => find_wildcard_listen(before, op, side),
+    }
+}
+
 /// The place of the yes that allows the call, among the entries before it; none for a call that
 /// needs none. A `udp-connect` needs two, of which this is the one for sending.
-pub fn allowed_by(before: &[Entry], op: OpId, call: &Call) -> Option<usize> {
+pub fn allowed_by(before: &[Entry], op: OpId, call: &Call) -> Option<usize>
+    ensures { IfSome result (λ place. IsAllowedAt before.now op call.now place) }
+{
     match call {
         Call::Bind { sock, addr } => find_yes(before, op, *sock, *addr, SocketAddrUse::TcpBind),
         Call::UdpBind { sock, addr } => find_yes(before, op, *sock, *addr, SocketAddrUse::UdpBind),
