@@ -492,12 +492,24 @@ pub fn push_octets(text: &mut String, bytes: &[u8]) -> Result<(), AllocError>
     if bytes.is_empty() {
         return text.push_str("-");
     }
-    let mut digits = vec![in *text.allocator(); 0u8; 2 * bytes.len()]?;
-    encode_into(bytes, digits.as_mut_slice());
-    match str::from_utf8(digits.as_slice()) {
-        Ok(digits) => text.push_str(digits),
-        Err(_) => unreachable!(),
+    let digits = hex::encode(*text.allocator(), bytes)?;
+    text.push_str(digits.as_str())
+}
+
+/// Appends the text of the bytes to a text that is kept as bytes; takes memory for it.
+pub fn append_octets(text: &mut Vec<u8>, bytes: &[u8]) -> Result<(), AllocError>
+    ensures { OnOk result (text.new.items ≡ text.old.items ++ bytes_text bytes.now) }
+{
+    if bytes.is_empty() {
+        return text.extend_from_slice(b"-");
     }
+    let start = text.len();
+    let Some(end) = start.checked_add(2 * bytes.len()) else {
+        return Err(AllocError);
+    };
+    text.resize(end, 0)?;
+    encode_into(bytes, &mut text.as_mut_slice()[start..]);
+    Ok(())
 }
 
 /// What is read is written so, and what is written so is read, whatever follows it.
