@@ -1,7 +1,7 @@
 //! The replies to steps.
 
 ghost use Rattle.std.specs.Prelude.{◌≡◌, false, List, IfOk, OnOk, Contains, [], ◌∷◌, ◌++◌, map};
-ghost use Rattle.std.specs.Prelude.{codes, string_bytes};
+ghost use Rattle.std.specs.Prelude.{codes, decimal};
 ghost use Rattle.world_text.specs.Fields.{line_with};
 ghost use Rattle.wasi_steps.specs.declared.reply.Reply.{Reply};
 ghost use Rattle.wasi_steps.specs.declared.step.Step.{Step};
@@ -13,11 +13,10 @@ ghost use Rattle.wasi_steps.specs.Reply.{word_of_p2, word_of_p3, is_trap, no_fie
 use itoa::Buffer;
 use std::alloc::{AllocError, Global};
 use std::fmt;
-use std::fmt::Write;
 use std::marker::Model;
 use wasi_addr::{p2, p3};
 use wasi_world::{Handle, Octets, TrapKind};
-use world_text::fields::push_octets;
+use world_text::fields::append_octets;
 
 /// One field of an `ok` reply.
 #[derive(Drop)]
@@ -252,60 +251,84 @@ fn trap_word(kind: TrapKind) -> &'static str
     }
 }
 
-fn push_field(text: &mut String, field: &Field) -> Result<(), AllocError>
-    ensures { OnOk result (string_bytes text.new ≡ string_bytes text.old ++ field_text field.now) }
+/// Appends a field.
+fn push_field(text: &mut Vec<u8>, field: &Field) -> Result<(), AllocError>
+    ensures { OnOk result (text.new.items ≡ text.old.items ++ field_text field.now) }
 {
     match field {
-        Field::Number(number) => text.push_str(Buffer::new().format(*number)),
-        Field::Bytes(bytes) => push_octets(text, bytes.as_slice()),
-        Field::True => text.push_str("true"),
-        Field::False => text.push_str("false"),
-        Field::Absent => text.push_str("none"),
+        Field::Number(number) => text.extend_from_slice(Buffer::new().format(*number).as_bytes()),
+        Field::Bytes(bytes) => append_octets(text, bytes.as_slice()),
+        Field::True => text.extend_from_slice(b"true"),
+        Field::False => text.extend_from_slice(b"false"),
+        Field::Absent => text.extend_from_slice(b"none"),
     }
 }
 
 /// Appends `ok` and the fields.
-fn push_ok(text: &mut String, fields: &[Field]) -> Result<(), AllocError>
-    ensures { OnOk result (string_bytes text.new ≡ string_bytes text.old ++ line_with
+fn push_ok(text: &mut Vec<u8>, fields: &[Field]) -> Result<(), AllocError>
+    ensures { OnOk result (text.new.items ≡ text.old.items ++ line_with
         (codes "ok" ∷ map field_text fields.now)) }
 {
-    text.push_str("ok")?;
+    text.extend_from_slice(b"ok")?;
     for field in fields {
-        text.push_str(" ")?;
+        text.push(b' ')?;
         push_field(text, field)?;
     }
     Ok(())
 }
 
+/// Appends the words of the reply, with a space between two.
+fn push_words(text: &mut Vec<u8>, first: &str, second: &str) -> Result<(), AllocError>
+    ensures { OnOk result (text.new.items ≡ text.old.items ++ line_with
+        (first.now ∷ second.now ∷ [])) }
+{
+    text.extend_from_slice(first.as_bytes())?;
+    text.push(b' ')?;
+    text.extend_from_slice(second.as_bytes())
+}
+
+/// Appends `failed`, the code and the handle of the error.
+fn push_failed(text: &mut Vec<u8>, code: CodeWord, handle: Handle) -> Result<(), AllocError>
+    ensures { OnOk result (text.new.items ≡ text.old.items ++ line_with
+        (codes "failed" ∷ code_text code ∷ decimal handle ∷ [])) }
+{
+    push_words(text, "failed", code_word(code))?;
+    text.push(b' ')?;
+    text.extend_from_slice(Buffer::new().format(handle).as_bytes())
+}
+
 /// Appends the reply's line, without its newline.
-fn push_reply(text: &mut String, reply: &Reply) -> Result<(), AllocError>
-    ensures { OnOk result (string_bytes text.new ≡ string_bytes text.old ++ line_with
+fn push_reply(text: &mut Vec<u8>, reply: &Reply) -> Result<(), AllocError>
+    ensures { OnOk result (text.new.items ≡ text.old.items ++ line_with
         (fields_of_reply reply.now)) }
 {
     match reply {
         Reply::Ok(fields) => push_ok(text, fields.as_slice()),
-        Reply::Err(code) => write!(text, "err {code}"),
-        Reply::Closed => text.push_str("closed"),
-        Reply::Failed(code, handle) => write!(text, "failed {code} {handle}"),
-        Reply::Trap(kind) => write!(text, "trap {}", trap_word(*kind)),
-        Reply::Pending(line) => write!(text, "pending {line}"),
-        Reply::Busy => text.push_str("busy"),
-        Reply::NoSuchCall => text.push_str("no-such-call"),
-        Reply::Cancelled => text.push_str("cancelled"),
-        Reply::Dropped => text.push_str("dropped"),
-        Reply::Unfilled => text.push_str("unfilled"),
+        Reply::Err(code) => push_words(text, "err", code_word(*code)),
+        Reply::Closed => text.extend_from_slice(b"closed"),
+        Reply::Failed(code, handle) => push_failed(text, *code, *handle),
+        Reply::Trap(kind) => push_words(text, "trap", trap_word(*kind)),
+        Reply::Pending(line) => push_words(text, "pending", Buffer::new().format(*line)),
+        Reply::Busy => text.extend_from_slice(b"busy"),
+        Reply::NoSuchCall => text.extend_from_slice(b"no-such-call"),
+        Reply::Cancelled => text.extend_from_slice(b"cancelled"),
+        Reply::Dropped => text.extend_from_slice(b"dropped"),
+        Reply::Unfilled => text.extend_from_slice(b"unfilled"),
     }
 }
+
+/// The room for the text of most replies, so that it takes memory once.
+const ROOM: usize = 24;
 
 /// The text of a reply: its line, with its newline. Takes memory for it.
 #[tactic(auto, unfolding(crate::specs::Replies::text_of))]
 pub fn reply_text(alloc: Global, reply: &Reply) -> Result<Octets, AllocError>
     ensures { IfOk result (λ text. text ≡ text_of reply.now) }
 {
-    let mut text = String::new(alloc);
+    let mut text = Vec::with_capacity(alloc, ROOM)?;
     push_reply(&mut text, reply)?;
-    text.push_str("\n")?;
-    Ok(Octets::from_vec(text.into_bytes()))
+    text.push(b'\n')?;
+    Ok(Octets::from_vec(text))
 }
 
 /// Different replies have different texts.
