@@ -27,6 +27,7 @@ pub mod Pending
 pub mod UdpCalls
 pub mod Binds
 pub mod Connects
+pub mod UdpConnects
 pub mod UdpCreates
 pub mod DatagramCalls
 pub mod NameLookupCalls

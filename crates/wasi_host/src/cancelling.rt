@@ -140,6 +140,7 @@ impl Store {
             StandingCall::UdpCreate { socket, .. } => self.cancel_create(world, socket)?,
             StandingCall::UdpBind { socket, .. } => self.cancel_udp_bind(socket),
             StandingCall::UdpConnect { socket, .. } => self.cancel_udp_connect(socket),
+            StandingCall::UdpConnect3 { socket } => self.cancel_udp_connect(socket),
             StandingCall::DropOutgoing { socket } => self.cancel_drop_outgoing(socket),
             StandingCall::DropOutput { .. } | StandingCall::Blocking(_) => (),
         }

@@ -25,6 +25,7 @@ mod stream_ends;
 mod streams;
 mod tcp_calls;
 mod udp_calls;
+mod udp_connecting;
 pub mod view;
 
 pub use beside::{Beside, BesideCall};

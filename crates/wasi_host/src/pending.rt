@@ -317,6 +317,10 @@ fn go_on<W: World>(
                 .remake_streams(view.table, world, ids, socket, handle)?;
             Ok(Outcome::of_pair(answer))
         }
+        StandingCall::UdpConnect3 { socket } => {
+            let connected = view.store.reconnect_udp(world, ids, socket);
+            of_start(Interface::P3, connected)
+        }
         StandingCall::DropOutgoing { socket } => {
             let answer = view.store.drop_outgoing(ids, socket);
             Ok(Outcome::of_nothing(answer))

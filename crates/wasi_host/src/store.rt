@@ -73,6 +73,10 @@ pub enum StandingCall {
         socket: RecordId,
         handle: Handle,
     },
+    /// Connects the 0.3 UDP socket with this record number; its record has the operation.
+    UdpConnect3 {
+        socket: RecordId,
+    },
     /// Drops the outgoing datagram stream of the UDP socket with this record number, and waits
     /// until its datagram is sent or has failed.
     DropOutgoing {

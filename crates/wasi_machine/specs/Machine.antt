@@ -256,6 +256,7 @@ call_asks ctx m line (guest.P3TcpGet s option) = bind (p3.get_option (own_of lin
 call_asks ctx m line (guest.P3TcpSet s setting) = bind (set_p3 (own_of line) s (chosen setting) m) (λ done. Give (p3_reply no_values done.0, done.1))
 call_asks ctx m line (guest.P3UdpCreate family) = bind (udp3.create (first_ids line) ctx family m) (λ done. Give (p3_answer_reply number_fields line done.0, done.1))
 call_asks ctx m line (guest.P3UdpBind s a) = bind (udp3.bind_to (first_ids line) s a m) (λ done. Give (p3_answer_reply no_values line done.0, done.1))
+call_asks ctx m line (guest.P3UdpConnect s a) = bind (udp3.connect_to (first_ids line) s a m) (λ done. Give (p3_answer_reply no_values line done.0, done.1))
 call_asks ctx m line (guest.P3UdpDisconnect s) = bind (udp3.disconnect (own_of line) s m) (λ done. Give (p3_reply no_values done.0, done.1))
 call_asks ctx m line (guest.P3UdpLocalAddress s) = bind (udp3.local_address (own_of line) s m) (λ done. Give (p3_reply address_values done.0, done.1))
 call_asks ctx m line (guest.P3UdpRemoteAddress s) = Give (p3_reply address_values (udp3.remote_address m s), m)

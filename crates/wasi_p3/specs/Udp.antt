@@ -20,6 +20,7 @@ use Rattle.wasi_host.specs.declared.kind.Interface.TheVariants.{P3}
 use Rattle.wasi_host.specs.declared.machine.Machine.{Machine}
 use Rattle.wasi_host.specs.Binds.{udp_bind_of}
 use Rattle.wasi_host.specs.Block.{Does, last, ◌>>=◌}
+use Rattle.wasi_host.specs.UdpConnects.{udp_connect_of}
 use Rattle.wasi_host.specs.UdpCreates.{create_udp, created_by}
 use Rattle.wasi_p3.specs.Lines.{in_base, of_udp, udp_named, udp_of, told_of}
 use Rattle.wasi_p3.specs.Stops.{P3Stop}
@@ -33,6 +34,12 @@ abbrev pub bind_to : Ids → ℕ → IpSocketAddress → Does P3Code Machine (An
 bind_to ids socket a = do
   place ← udp_named socket
   last (in_base (udp_bind_of ids place a))
+
+-- == a connect
+abbrev pub connect_to : Ids → ℕ → IpSocketAddress → Does P3Code Machine (Answer (Unit {0}))
+connect_to ids socket a = do
+  place ← udp_named socket
+  last (in_base (udp_connect_of ids place a))
 
 -- == what a socket says of itself
 abbrev pub local_address : OpId → ℕ → Does P3Code Machine IpSocketAddress

@@ -7,8 +7,8 @@ ghost use Rattle.socket_common.specs.Options.{largest_value, option_of, number_o
 ghost use Rattle.wasi_host.specs.Machine.{own_of};
 ghost use Rattle.wasi_host.specs.Views.{state_of, HostKept};
 ghost use Rattle.wasi_p3.specs.Stops.{ends_as};
-ghost use Rattle.wasi_p3.specs.Udp.{create, bind_to, local_address, remote_address, address_family};
-ghost use Rattle.wasi_p3.specs.Udp.{disconnect, get_option, set_option};
+ghost use Rattle.wasi_p3.specs.Udp.{create, bind_to, connect_to, local_address, remote_address};
+ghost use Rattle.wasi_p3.specs.Udp.{address_family, disconnect, get_option, set_option};
 
 use crate::error::{SocketError, answered, named, told};
 use socket_common::Setting;
@@ -58,6 +58,32 @@ pub fn bind<W: World>(
 {
     let place = handles::udp3_socket(view.table, socket)?;
     named(view.store.bind_udp(world, *ids, place, addr))
+}
+
+/// Connects a socket to an address (`udp-socket.connect`), also one that is connected already.
+///
+/// - An address of another family, or that is none of a single other host: `InvalidArgument`.
+/// - A check says no: `AccessDenied`. One that isn't bound has the wildcard checked for the bind,
+///   and each has the address checked for sending and for receiving.
+/// - The network's code is returned. The remote address is then what the network says it is.
+///
+/// The call is pending while a check is, and [`resume`](wasi_host::resume) continues it.
+pub fn connect<W: World>(
+    view: &mut WasiSocketsCtxView<'_>,
+    world: &mut W,
+    ids: &mut Ids,
+    socket: Handle,
+    addr: IpSocketAddress,
+) -> Result<Answer<()>, SocketError>
+    requires { (W.seen world.old).ended ≡ false }
+    ensures asked { AsksFor (connect_to ids.old socket addr (state_of view.old))
+        (W.seen world.old) (W.seen world.new) (λ answer. (answer, state_of view.new))
+        (ends_as result) }
+    ensures kept { HostKept view.old view.new ids.old ids.new (W.seen world.old)
+        (W.seen world.new) }
+{
+    let place = handles::udp3_socket(view.table, socket)?;
+    named(view.store.connect_udp(world, *ids, place, addr))
 }
 
 /// The address that a socket is bound to (`udp-socket.get-local-address`). Not bound:

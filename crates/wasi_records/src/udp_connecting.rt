@@ -1,4 +1,5 @@
-//! How the datagram streams of a UDP socket are made: after a connect, or a disconnect.
+//! How a UDP socket is connected, and how its datagram streams are made: after a connect, or a
+//! disconnect.
 
 ghost use Rattle.std.specs.Prelude.{◌≡◌, true, false, None, OnErr, Some};
 ghost use Rattle.wasi_world.specs.Asks.{AsksFor, Reaches, outcome};
@@ -6,6 +7,8 @@ ghost use Rattle.socket_common.specs.Rounds.{is_going, stays_going};
 ghost use Rattle.wasi_records.specs.Datagrams.{with_streams, udp_connect_settled};
 ghost use Rattle.wasi_records.specs.Datagrams.{poll_udp_connect_asks, streams_to};
 ghost use Rattle.wasi_records.specs.Datagrams.{begin_streams_asks};
+ghost use Rattle.wasi_records.specs.Datagrams.{udp_connect_asks, udp_reconnect_asks};
+ghost use Rattle.wasi_records.specs.Datagrams.{udp_reconnect_settled};
 ghost use Rattle.wasi_records.specs.Sides.{MakesNone};
 
 use crate::datagrams::{Incoming, Outgoing, Receiving};
@@ -157,6 +160,72 @@ impl OpenUdp {
                 self.open_streams();
                 Ok(Answer::Ready(()))
             }
+            Ok(Answer::Pending) => {
+                self.connecting = Some(PendingUdpConnect::new(connect));
+                Ok(Answer::Pending)
+            }
+            Err(Refusal::Code(code)) => Err(Refusal::Code(code)),
+            Err(Refusal::Memory(e)) => {
+                self.connecting = Some(PendingUdpConnect::new(connect));
+                Err(Refusal::Memory(e))
+            }
+        }
+    }
+
+    /// Begins a connect of 0.3 and polls it once (`udp-socket.connect`). A socket that isn't bound
+    /// has the wildcard checked for the bind first. No streams are made.
+    pub fn connect<W: World>(
+        &mut self,
+        world: &mut W,
+        op: OpId,
+        addr: IpSocketAddress,
+    ) -> Result<Answer<()>, Refusal>
+        requires { (W.seen world.old).ended ≡ false }
+        ensures asked { AsksFor (udp_connect_asks op self.old addr) (W.seen world.old)
+            (W.seen world.new) (λ answer. (answer, self.new)) (outcome result) }
+        ensures none { MakesNone (W.seen world.old) (W.seen world.new) }
+        ensures side { self.new.inner.side ≡ self.old.inner.side }
+    {
+        let connect = self.inner.connect(world, op, addr)?;
+        self.connecting = Some(PendingUdpConnect::new(connect));
+        self.reconnect(world)
+    }
+
+    /// Polls the connect of 0.3 in progress once. Pending: it is kept. None in progress:
+    /// `InvalidState`. Out of memory it is kept after its last answered call, and the next poll goes
+    /// on from there.
+    pub fn reconnect<W: World>(&mut self, world: &mut W) -> Result<Answer<()>, Refusal>
+        requires { (W.seen world.old).ended ≡ false }
+        ensures asked { AsksFor (udp_reconnect_asks self.old) (W.seen world.old)
+            (W.seen world.new) (λ answer. (answer, self.new)) (outcome result) }
+        ensures left { OnErr (outcome result) (Reaches (udp_reconnect_asks self.old)
+            (udp_reconnect_asks self.new) (W.seen world.old) (W.seen world.new)) }
+        ensures none { MakesNone (W.seen world.old) (W.seen world.new) }
+        ensures side { self.new.inner.side ≡ self.old.inner.side }
+    {
+        match self.connecting.take() {
+            Some(connect) => {
+                let mut connect = connect.into_inner();
+                let polled = connect.poll(world, &mut self.inner);
+                self.settle_reconnect(connect, polled)
+            }
+            None => Err(Refusal::Code(ErrorCode::InvalidState)),
+        }
+    }
+
+    /// Keeps in the record what a poll of its connect of 0.3 came to.
+    fn settle_reconnect(
+        &mut self,
+        connect: UdpConnectOp,
+        polled: Result<Answer<()>, Refusal>,
+    ) -> Result<Answer<()>, Refusal>
+        requires none { self.old.connecting ≡ None }
+        requires going { is_going connect ≡ stays_going polled }
+        ensures told { result ≡ polled }
+        ensures settled { self.new ≡ udp_reconnect_settled connect self.old polled }
+    {
+        match polled {
+            Ok(Answer::Ready(())) => Ok(Answer::Ready(())),
             Ok(Answer::Pending) => {
                 self.connecting = Some(PendingUdpConnect::new(connect));
                 Ok(Answer::Pending)

@@ -428,6 +428,10 @@ fn guest_call<W: World>(
             let answer = wasi_p3::udp::bind(view, world, ids, socket, addr);
             p3_answer_reply(alloc, ids.line, answer)
         }
+        GuestCall::P3UdpConnect { socket, addr } => {
+            let answer = wasi_p3::udp::connect(view, world, ids, socket, addr);
+            p3_answer_reply(alloc, ids.line, answer)
+        }
         GuestCall::P3UdpDisconnect { socket } => {
             let done = wasi_p3::udp::disconnect(view, world, ids, socket);
             p3_reply(alloc, done)

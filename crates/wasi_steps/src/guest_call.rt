@@ -311,6 +311,11 @@ pub enum GuestCall {
         socket: Handle,
         addr: IpSocketAddress,
     },
+    /// Connects the 0.3 UDP socket to an address (`connect`).
+    P3UdpConnect {
+        socket: Handle,
+        addr: IpSocketAddress,
+    },
     /// Takes the 0.3 UDP socket's remote address away (`disconnect`).
     P3UdpDisconnect {
         socket: Handle,

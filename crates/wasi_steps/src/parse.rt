@@ -155,6 +155,10 @@ fn p3_arguments(fields: &mut Fields<'_>, word: &str, handle: u32) -> Option<Gues
             socket: handle,
             addr: fields.socket_address()?,
         }),
+        "p3-udp-connect" => Some(GuestCall::P3UdpConnect {
+            socket: handle,
+            addr: fields.socket_address()?,
+        }),
         "p3-udp-get" => Some(GuestCall::P3UdpGet {
             socket: handle,
             option: udp_option(fields)?,

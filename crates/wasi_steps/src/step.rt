@@ -111,6 +111,7 @@ pub const STEP_FORMS: &str = "    0 network                               makes 
     0 p3-tcp-set S OPTION V                 sets an option
     0 p3-udp-create F                       makes a UDP socket of 0.3; F is 4 or 6
     0 p3-udp-bind S 4 a b c d port          binds it
+    0 p3-udp-connect S 4 a b c d port       connects it
     0 p3-udp-disconnect S                   takes its remote address away
     0 p3-udp-local-address S                its address
     0 p3-udp-remote-address S               the address that it is connected to

@@ -1,6 +1,7 @@
 use Rattle.std.proofs.Common.{refl}
 use Rattle.wasi_world.proofs.Walks.{asks_end}
 use Rattle.wasi_records.proofs.Hosts.{host_exit, host_passed}
+use Rattle.wasi_host.specs.declared.kind.Interface.TheVariants.{P3}
 use Rattle.wasi_host.specs.BaseStops.{ends_as}
 use Rattle.wasi_host.specs.Pending.{handle_outcome, outcome_of}
 use Rattle.wasi_host.specs.Views.{state_of}
@@ -33,3 +34,6 @@ returns-in_err-answer-in-UdpConnect-clause-asked g c = rw c.in-UdpConnect.is (ho
 
 pub returns-in_ok-answer-in-UdpConnect-clause-asked : goal.returns-in_ok-answer-in-UdpConnect-clause-asked
 returns-in_ok-answer-in-UdpConnect-clause-asked g c = rw c.in-UdpConnect.is (asks_end _ c.in_ok-answer-in-UdpConnect.ensures.asked.ok (rw c.of_pair.ensures refl))
+
+pub returns-in-UdpConnect3-clause-asked : goal.returns-in-UdpConnect3-clause-asked
+returns-in-UdpConnect3-clause-asked g c = rw (c.in-UdpConnect3.is, c.of_start-in-UdpConnect3.ensures) (stored_goes outcome_of P3 (state_of c.args.view.now) (ends_as c.reconnect_udp-connected.result) c.reconnect_udp-connected.ensures.asked)

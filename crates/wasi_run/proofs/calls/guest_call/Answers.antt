@@ -209,6 +209,9 @@ returns-in-P3UdpCreate-clause-asked g c = rw c.in-P3UdpCreate.is (asks_answered 
 pub returns-in-P3UdpBind-clause-asked : goal.returns-in-P3UdpBind-clause-asked
 returns-in-P3UdpBind-clause-asked g c = rw c.in-P3UdpBind.is (asks_answered (p3_answer_reply no_values c.args.ids.now.line) _ _ (rw c.requires.first at c.bind-answer-in-P3UdpBind.ensures.asked) (rw c.bind-answer-in-P3UdpBind.ensures.kept.ids at c.p3_answer_reply-in-P3UdpBind.ensures))
 
+pub returns-in-P3UdpConnect-clause-asked : goal.returns-in-P3UdpConnect-clause-asked
+returns-in-P3UdpConnect-clause-asked g c = rw c.in-P3UdpConnect.is (asks_answered (p3_answer_reply no_values c.args.ids.now.line) _ _ (rw c.requires.first at c.connect-answer-in-P3UdpConnect.ensures.asked) (rw c.connect-answer-in-P3UdpConnect.ensures.kept.ids at c.p3_answer_reply-in-P3UdpConnect.ensures))
+
 pub returns-in-P3UdpDisconnect-clause-asked : goal.returns-in-P3UdpDisconnect-clause-asked
 returns-in-P3UdpDisconnect-clause-asked g c = rw c.in-P3UdpDisconnect.is (asks_answered (p3_reply no_values) _ _ c.disconnect-done.ensures.asked c.p3_reply-in-P3UdpDisconnect.ensures)
 
