@@ -229,6 +229,7 @@ IsUdpBindTo addr _ = ⊥
 -- datagram streams that are made with a connect to this address
 abbrev pub IsUdpConnectTo : IpSocketAddress → Step → Type 0
 IsUdpConnectTo addr (step.Call ctx (guest.UdpStream socket remote)) = remote ≡ Some addr
+IsUdpConnectTo addr (step.Call ctx (guest.P3UdpConnect socket a)) = a ≡ addr
 IsUdpConnectTo addr _ = ⊥
 
 -- datagram streams that are made without an address: a socket that is connected is disconnected; or a disconnect

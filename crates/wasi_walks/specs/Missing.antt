@@ -100,6 +100,7 @@ IsOnNothing m (standing.Listen place) = tcp2_at m.store.records place ≡ None
 IsOnNothing m (standing.DropOutput place) = ⊥
 IsOnNothing m (standing.UdpCreate place face) = udp2_at m.store.records place ≡ None
 IsOnNothing m (standing.UdpBind place face) = open_at m.store.records place ≡ None
+IsOnNothing m (standing.UdpConnect3 place) = open_at m.store.records place ≡ None
 IsOnNothing m (standing.UdpConnect place handle) = (open_at m.store.records place ≡ None) ⊎ (udp_of (kind_at m.table handle) ≡ None)
 IsOnNothing m (standing.DropOutgoing place) = ⊥
 IsOnNothing m (standing.Blocking call) = MissesStream m call

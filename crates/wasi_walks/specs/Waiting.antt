@@ -1,5 +1,6 @@
 -- What waits: what a pollable watches and isn't ready, and a pending call.
 use Rattle.std.specs.Prelude.{◌≡◌, ◌⊎◌, ⊤, ℕ, true, false, List, [], ◌∷◌, ◌++◌, Option, Some, None, IsSome, IsSomeAnd, IfSome}
+use Rattle.wasi_addr.specs.Address.{wildcard}
 use Rattle.wasi_addr.specs.declared.address.IpSocketAddress.{IpSocketAddress}
 use Rattle.wasi_addr.specs.declared.address.SocketAddressFamily.{SocketAddressFamily}
 use Rattle.wasi_addr.specs.declared.address.SocketAddrUse.{SocketAddrUse}
@@ -141,6 +142,7 @@ MayStand m line (step.Call ctx (guest.P3TcpBind socket a)) n = n ≡ line
 MayStand m line (step.Call ctx (guest.P3TcpConnect socket a)) n = n ≡ line
 MayStand m line (step.Call ctx (guest.P3UdpCreate family)) n = n ≡ line
 MayStand m line (step.Call ctx (guest.P3UdpBind socket a)) n = n ≡ line
+MayStand m line (step.Call ctx (guest.P3UdpConnect socket a)) n = n ≡ line
 MayStand m line (step.Call ctx (guest.UdpStartBind socket network a)) n = n ≡ line
 MayStand m line (step.Call ctx (guest.UdpStream socket remote)) n = n ≡ line
 MayStand m line (step.Call ctx (guest.Drop handle)) n = (IsSome (output_at m handle) ⊎ IsSome (outgoing_at m handle)) × (n ≡ line)
@@ -206,6 +208,7 @@ IsUdpBinding _ = ⊥
 
 -- what is left of a connect between polls
 pub data IsLeftOfUdpConnect : List Item → Type 0 where
+  ConnectUnbound : (family : SocketAddressFamily) (a : IpSocketAddress) → IsLeftOfUdpConnect (Check (wildcard family) use_of.UdpBind ∷ Check a use_of.UdpSend ∷ Check a use_of.UdpReceive ∷ UdpConnect family a ∷ [])
   ConnectUnchecked : (family : SocketAddressFamily) (a : IpSocketAddress) → IsLeftOfUdpConnect (Check a use_of.UdpSend ∷ Check a use_of.UdpReceive ∷ UdpConnect family a ∷ [])
   ConnectSendChecked : (family : SocketAddressFamily) (a : IpSocketAddress) → IsLeftOfUdpConnect (Check a use_of.UdpReceive ∷ UdpConnect family a ∷ [])
 
@@ -226,6 +229,7 @@ HoldsCall m (standing.DropOutput place) = ⊤
 HoldsCall m (standing.UdpCreate place face) = IfSome (udp2_at m.store.records place) IsCreating
 HoldsCall m (standing.UdpBind place face) = IfSome (open_at m.store.records place) (λ o. IsUdpBinding o.in_progress)
 HoldsCall m (standing.UdpConnect place handle) = IfSome (open_at m.store.records place) (λ o. IsUdpConnecting o.connecting)
+HoldsCall m (standing.UdpConnect3 place) = IfSome (open_at m.store.records place) (λ o. IsUdpConnecting o.connecting)
 HoldsCall m (standing.DropOutgoing place) = ⊤
 HoldsCall m (standing.Blocking call) = ⊤
 
@@ -266,6 +270,7 @@ CallWaits m own entries (standing.Listen place) = IsSomeAnd (tcp2_at m.store.rec
 CallWaits m own entries (standing.UdpCreate place face) = IsSomeAnd (udp2_at m.store.records place) (λ u. CreateWaits u entries)
 CallWaits m own entries (standing.UdpBind place face) = IsSomeAnd (open_at m.store.records place) (λ o. UdpBindWaits o.in_progress entries)
 CallWaits m own entries (standing.UdpConnect place handle) = IsSomeAnd (open_at m.store.records place) (λ o. UdpConnectWaits o.connecting entries)
+CallWaits m own entries (standing.UdpConnect3 place) = IsSomeAnd (open_at m.store.records place) (λ o. UdpConnectWaits o.connecting entries)
 CallWaits m own entries (standing.DropOutgoing place) = IsSomeAnd (open_at m.store.records place) (λ o. (sends o.outgoing ≡ true) × (entries ≡ []))
 CallWaits m own entries (standing.Blocking call) = ⊤
 CallWaits m own entries (standing.DropOutput place) = OutputWaits m own (Some place) entries
@@ -309,6 +314,7 @@ pub data UdpConnectFails (op : Operation) (entries : List Entry) : ErrorCode →
 pub data CallFails (m : Machine) (entries : List Entry) : StandingCall → ErrorCode → Type 0 where
   CreateFailed : (place : ℕ) (face : Interface) (create : Create) (c : ErrorCode) → udp2_at m.store.records place ≡ Some (udp.Creating create) → EndsClosing create.operation.who (call.UdpWritable create.operation.who.side) (told.Code c) entries → CallFails m entries (standing.UdpCreate place face) c
   UdpConnectFailed : (place handle : ℕ) (o : OpenUdp) (op : Operation) (c : ErrorCode) → open_at m.store.records place ≡ Some o → o.connecting ≡ Some op → UdpConnectFails op entries c → CallFails m entries (standing.UdpConnect place handle) c
+  UdpConnect3Failed : (place : ℕ) (o : OpenUdp) (op : Operation) (c : ErrorCode) → open_at m.store.records place ≡ Some o → o.connecting ≡ Some op → UdpConnectFails op entries c → CallFails m entries (standing.UdpConnect3 place) c
   UdpBindFailed : (place : ℕ) (face : Interface) (o : OpenUdp) (op : Operation) (c : ErrorCode) → open_at m.store.records place ≡ Some o → o.in_progress ≡ udp_doing.Binding op → UdpBindFails op entries c → CallFails m entries (standing.UdpBind place face) c
   BindFailed : (place : ℕ) (face : Interface) (r : TcpRecord) (op : Operation) (c : ErrorCode) → tcp2_at m.store.records place ≡ Some r → r.in_progress ≡ Binding op → BindFails op entries c → CallFails m entries (standing.Bind place face) c
   ListenFailed : (place : ℕ) (r : TcpRecord) (op : Operation) (c : ErrorCode) → tcp2_at m.store.records place ≡ Some r → r.listening ≡ listening.Begins op → ListenEnds op entries c → CallFails m entries (standing.Listen place) c
@@ -318,6 +324,7 @@ abbrev pub word_for : StandingCall → ErrorCode → CodeWord
 word_for (standing.Bind place P3) c = p3_word c
 word_for (standing.UdpCreate place P3) c = p3_word c
 word_for (standing.UdpBind place P3) c = p3_word c
+word_for (standing.UdpConnect3 place) c = p3_word c
 word_for call c = word_of_code c
 
 -- A call is pending under this number, and failed with a code of this word.

@@ -14,6 +14,7 @@ use Rattle.wasi_records.specs.declared.tcp_binding.InProgress.{InProgress}
 use Rattle.wasi_records.specs.declared.tcp_binding.InProgress.TheVariants as progress
 use Rattle.wasi_addr.specs.declared.address.SocketAddressFamily.{SocketAddressFamily}
 use Rattle.wasi_addr.specs.declared.code.ErrorCode.{ErrorCode}
+use Rattle.wasi_udp.specs.Connect.{connect_first, connect_left}
 use Rattle.wasi_udp.specs.Receive as receive
 use Rattle.wasi_udp.specs.Receive.{receive_first, wanted_in}
 use Rattle.wasi_udp.specs.Send.{send_first, send_left}
@@ -76,6 +77,11 @@ pub send_begins : (family : SocketAddressFamily) (bytes : List ℕ) (to : Result
 send_begins family bytes (Err c) bound = omega arith
 send_begins family bytes (Ok to) true = omega arith
 send_begins family bytes (Ok to) false = omega arith
+
+-- of a connect
+pub udp_connect_begins : (family : SocketAddressFamily) (a : IpSocketAddress) (bound : Bool) → checks_of (connect_left family a (connect_first bound)) ≤ 1
+udp_connect_begins family a true = omega arith
+udp_connect_begins family a false = omega arith
 
 -- and of a receive
 pub receive_begins : (bound : Bool) → checks_of (receive.receive_left None (receive_first bound)) ≤ 1

@@ -18,7 +18,7 @@ use Rattle.wasi_walks.proofs.claims.Polls.{send_plain, receive_plain, udp_connec
 use Rattle.wasi_walks.proofs.fits.DatagramPolls.{wanted_left}
 use Rattle.wasi_walks.proofs.fits.Records.{FitConnecting, FitUdpProgress, ReceiveOn, SendOn, UdpBindOn, UdpConnectOn}
 use Rattle.wasi_walks.proofs.fits.UdpFits.{receives_on, sends_on}
-use Rattle.wasi_walks.proofs.walks.Moves.{CancelsBind, EndsConnect, RecallsStreams, CancelsUdpBind, CancelsUdpConnect, Names, put_udp, with_records, Finds, FoundUdp, UdpChanges, BeginsUdpBind, BeginsUdpConnect, Counts, SpendsNames, BeginsSend, BeginsReceive, UdpCreates, UdpBindsOn, UdpConnectsOn, SendsOn, ReceivesOn}
+use Rattle.wasi_walks.proofs.walks.Moves.{CancelsBind, EndsConnect, RecallsConnect, RecallsStreams, CancelsUdpBind, CancelsUdpConnect, Names, put_udp, with_records, Finds, FoundUdp, UdpChanges, BeginsUdpBind, BeginsUdpConnect, Counts, SpendsNames, BeginsSend, BeginsReceive, UdpCreates, UdpBindsOn, UdpConnectsOn, UdpReconnectsOn, SendsOn, ReceivesOn}
 use Rattle.wasi_walks.specs.Waiting.{IsLeftOfBind}
 use Rattle.wasi_walks.specs.Waiting as binding
 use Rattle.wasi_laws.proofs.Words.{Allows, ArePlain, Asks, Awaits, Begins, BeginsAccept, BeginsBind, BeginsConnect, BeginsListen, BeginsWrite, BindsOn, Bool, Call, Changes, ClosesReader, Connects, Done, End, Entry, Fit, FitListening, FitProgress, Forgets, Found, Held, Here, HoldsAccept, HoldsConnect, IsAcceptOn, IsConnect, IsFrontOf, IsGone, IsLeftOfConnect, IsLeftOfListen, IsListen, Item, Job, Joins, List, Listens, Move, Named, NoWrite, None, Not, OpId, Opens, Operation, Option, Own, Quiet, Reconnects, Refused, SocketAddressFamily, Some, Spends, Step, Streams, TcpRecord, TcpState, ToConnect, ToWrite, Told, Unlistens, Unused, Used, Waits, WasiSocketsCtx, WriteState, Writes, [], accept_ended, accept_name, accept_plain, accepting_now, allows_keep, allows_weaker, ap, append-nil, append_assoc, bytes_left, closed_record, connect_ended, entry, false, fresh, if◌then◌else◌, inl, inr, is_same, job_after, joined, name_in, new_accept, new_job, new_record, new_socket, none_taken, opened_by, own_of, part_of, poll_asks, put, refl, rules, side_in, side_of, subst, sym, taken_fresh, taken_in, true, with_inner, with_listening, with_reader, with_state, with_writer, ℕ, ⊤, ◌+◌, ◌++◌, ◌∙◌, ◌∷◌, ◌≡◌, Ok, length}
@@ -63,6 +63,7 @@ held_plain h _ _ (Awaits place r l op g e a) f = let its : IsAcceptOn l.side l.m
 held_plain h _ _ (UdpCreates place create q g) f = subst ArePlain (sym (f.udps place (UdpRecord.Creating create) g).1) (tt, tt)
 held_plain h _ _ (UdpBindsOn place o op q g e) f = let its : UdpBindOn o.inner.side op = subst (FitUdpProgress o.inner.side) e (f.udps place (UdpRecord.Open o) g).0 in udp_plain op.left its.bind.left
 held_plain h _ _ (UdpConnectsOn place o op q g e) f = let its : UdpConnectOn o.inner.side op = subst (FitConnecting o.inner.side) e (f.udps place (UdpRecord.Open o) g).1 in udp_connect_plain ⊤ op.left its.connect.left
+held_plain h _ _ (UdpReconnectsOn place o op q g e) f = let its : UdpConnectOn o.inner.side op = subst (FitConnecting o.inner.side) e (f.udps place (UdpRecord.Open o) g).1 in udp_connect_plain ⊤ op.left its.connect.left
 held_plain h _ _ (SendsOn place o out op left g e s settles) f = let its : SendOn o.inner.side op = sends_on o out op e s (f.udps place (UdpRecord.Open o) g) in send_plain ⊤ op.left its.send.left
 held_plain h _ _ (ReceivesOn place o inc op g e r) f =
     let its : ReceiveOn o.inner.side op = receives_on o inc op e r (f.udps place (UdpRecord.Open o) g) in receive_plain ⊤ (wanted_in inc.remote op.left) (wanted_left inc.remote op.left its.receive.left)
@@ -188,6 +189,7 @@ module _ (side : OpId) (given : List ℕ) where
         moves : (es : List Entry) (h now : Here) → Move line origin h now → (over → IsSpent side line now) → (IsSpent side line now → over) → Grounds contexts line origin h → KeptBy over es h → KeptBy over es now
         moves es _ _ (Spends h e) says makes b k = spends es _ h.own e k
         moves es _ _ (EndsConnect h place e ended) says makes b k = owns es _ h.own (ToConnect place) Used e (λ held o. o) k
+        moves es _ _ (RecallsConnect h ids place e own) says makes b k = owns es _ h.own Unused (ToConnect place) own (λ held o. o) k
         moves es _ _ (RecallsStreams h ids place handle e own) says makes b k = owns es _ h.own Unused (ToConnect place) own (λ held o. o) k
         moves es _ _ (Counts h e) says makes b k = owns es _ h.own Unused (Names 1) e (λ held o. o) k
         moves es _ _ (SpendsNames h part e) says makes b k = owns es _ h.own (Names part) Used e (λ held o. o) k
@@ -217,7 +219,7 @@ module _ (side : OpId) (given : List ℕ) where
             }
         moves es _ _ (UdpChanges h place o now g p keeps) says makes b k = put_udp_kept es h place (UdpRecord.Open o) (UdpRecord.Open now) g k
         moves es _ _ (BeginsUdpBind h place o a at g to own) says makes b k = spends es _ h.own own (put_udp_kept es h place (UdpRecord.Open o) (UdpRecord.Open _) g k)
-        moves es _ _ (BeginsUdpConnect h place o a at g to bound none own) says makes b k = owns es _ h.own Unused (ToConnect place) own (λ held p. p) (put_udp_kept es h place (UdpRecord.Open o) (UdpRecord.Open _) g k)
+        moves es _ _ (BeginsUdpConnect h place o a bound at g to known none own) says makes b k = owns es _ h.own Unused (ToConnect place) own (λ held p. p) (put_udp_kept es h place (UdpRecord.Open o) (UdpRecord.Open _) g k)
         moves es _ _ (BeginsSend h place part o out d bound at g e is known own) says makes b k = owns es _ h.own (Names part) (Names (part + 1)) own (λ held p. p) (put_udp_kept es h place (UdpRecord.Open o) (UdpRecord.Open _) g k)
         moves es _ _ (BeginsReceive h place part o inc bound at g e is own) says makes b k = owns es _ h.own (Names part) (Names (part + 1)) own (λ held p. p) (put_udp_kept es h place (UdpRecord.Open o) (UdpRecord.Open _) g k)
         moves es _ _ (CancelsBind h place r op q g e) says makes b k = put_same es h place r _ g (record { side = refl; lives = λ x v. v }) refl k
@@ -244,6 +246,7 @@ module _ (side : OpId) (given : List ℕ) where
         ended_kept es h _ _ ended (UdpCreates place create q g) n k = put_udp_kept es h place (UdpRecord.Creating create) (udp_create_left create ended) g k
         ended_kept es h _ _ ended (UdpBindsOn place o op q g e) n k = put_udp_kept es h place (UdpRecord.Open o) (UdpRecord.Open _) g k
         ended_kept es h _ _ ended (UdpConnectsOn place o op q g e) n k = put_udp_kept es h place (UdpRecord.Open o) (UdpRecord.Open _) g k
+        ended_kept es h _ _ ended (UdpReconnectsOn place o op q g e) n k = put_udp_kept es h place (UdpRecord.Open o) (UdpRecord.Open _) g k
         ended_kept es h _ _ ended (SendsOn place o out op left g e s settles) n k = put_udp_kept es h place (UdpRecord.Open o) (UdpRecord.Open _) g k
         ended_kept es h _ _ ended (ReceivesOn place o inc op g e r) n k = put_udp_kept es h place (UdpRecord.Open o) (UdpRecord.Open _) g k
 

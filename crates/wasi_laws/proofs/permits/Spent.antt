@@ -61,6 +61,7 @@ module _ (side : OpId) (line : ℕ) where
     pub moves_spent : (h now : Here) → Move line origin h now → IsSpent h → IsSpent now
     moves_spent _ _ (walk.Spends h own) i = spent_own h.own Own.Used _ (older_used line h.own) i
     moves_spent _ _ (walk.EndsConnect h place own ended) i = spent_own h.own Own.Used _ (older_used line h.own) i
+    moves_spent _ _ (walk.RecallsConnect h ids place e own) i = spent_own h.own (Own.ToConnect place) _ (grows_to line h.own Own.Unused (Own.ToConnect place) own (older_unused line (Own.ToConnect place))) i
     moves_spent _ _ (walk.RecallsStreams h ids place handle e own) i = spent_own h.own (Own.ToConnect place) _ (grows_to line h.own Own.Unused (Own.ToConnect place) own (older_unused line (Own.ToConnect place))) i
     moves_spent _ _ (walk.Counts h own) i = spent_own h.own (Own.Names 1) _ (grows_to line h.own Own.Unused (Own.Names 1) own (older_unused line (Own.Names 1))) i
     moves_spent _ _ (walk.SpendsNames h n own) i = spent_own h.own Own.Used _ (older_used line h.own) i
@@ -85,7 +86,7 @@ module _ (side : OpId) (line : ℕ) where
         spent_push h.own (tcp2_put h.machine.store.records place idle) (joined l new peer) (λ c. elim c [ inl q ↦ i.none place r g (inr (ap accept_name e ∙ (ap name_in a ∙ q))) | inr q ↦ absurd (cc) ]) (put_bare h place r idle g refl refl i)
     moves_spent _ _ (walk.UdpChanges h place o now g p keeps) i = spent_by h.own _ _ (put_was udp_sort tcp_sort (λ t. refl) h.machine.store.records place _) i
     moves_spent _ _ (walk.BeginsUdpBind h place o a at g to own) i = spent_own h.own Own.Used _ (older_used line h.own) (spent_by h.own _ _ (put_was udp_sort tcp_sort (λ t. refl) h.machine.store.records place _) i)
-    moves_spent _ _ (walk.BeginsUdpConnect h place o a at g to bound none own) i = spent_own h.own (Own.ToConnect place) _ (grows_to line h.own Own.Unused (Own.ToConnect place) own (older_unused line (Own.ToConnect place))) (spent_by h.own _ _ (put_was udp_sort tcp_sort (λ t. refl) h.machine.store.records place _) i)
+    moves_spent _ _ (walk.BeginsUdpConnect h place o a bound at g to known none own) i = spent_own h.own (Own.ToConnect place) _ (grows_to line h.own Own.Unused (Own.ToConnect place) own (older_unused line (Own.ToConnect place))) (spent_by h.own _ _ (put_was udp_sort tcp_sort (λ t. refl) h.machine.store.records place _) i)
     moves_spent _ _ (walk.BeginsSend h place n o out d bound at g e is known own) i = spent_own h.own (Own.Names (n + 1)) _ (next_grows line n h.own own) (spent_by h.own _ _ (put_was udp_sort tcp_sort (λ t. refl) h.machine.store.records place _) i)
     moves_spent _ _ (walk.BeginsReceive h place n o inc bound at g e is own) i = spent_own h.own (Own.Names (n + 1)) _ (next_grows line n h.own own) (spent_by h.own _ _ (put_was udp_sort tcp_sort (λ t. refl) h.machine.store.records place _) i)
     moves_spent _ _ (walk.CancelsUdpBind h place o op q g e) i = spent_by h.own _ _ (put_was udp_sort tcp_sort (λ t. refl) h.machine.store.records place _) i
@@ -108,5 +109,6 @@ module _ (side : OpId) (line : ℕ) where
     polls_spent h _ _ (walk.UdpCreates place create q g) end k i = spent_by h.own _ _ (put_was udp_sort tcp_sort (λ t. refl) h.machine.store.records place _) i
     polls_spent h _ _ (walk.UdpBindsOn place o op q g e) end k i = spent_by h.own _ _ (put_was udp_sort tcp_sort (λ t. refl) h.machine.store.records place _) i
     polls_spent h _ _ (walk.UdpConnectsOn place o op q g e) end k i = spent_by h.own _ _ (put_was udp_sort tcp_sort (λ t. refl) h.machine.store.records place _) i
+    polls_spent h _ _ (walk.UdpReconnectsOn place o op q g e) end k i = spent_by h.own _ _ (put_was udp_sort tcp_sort (λ t. refl) h.machine.store.records place _) i
     polls_spent h _ _ (walk.SendsOn place o out op left g e s settles) end k i = spent_by h.own _ _ (put_was udp_sort tcp_sort (λ t. refl) h.machine.store.records place _) i
     polls_spent h _ _ (walk.ReceivesOn place o inc op g e s) end k i = spent_by h.own _ _ (put_was udp_sort tcp_sort (λ t. refl) h.machine.store.records place _) i

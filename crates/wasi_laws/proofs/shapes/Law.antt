@@ -16,7 +16,7 @@ use Rattle.wasi_walks.proofs.GoneLists.{was_there}
 use Rattle.wasi_records.specs.declared.udp.UdpRecord.{UdpRecord}
 use Rattle.wasi_records.specs.Udp.{udp_create_left}
 use Rattle.wasi_udp.specs.Create.{Create}
-use Rattle.wasi_walks.proofs.walks.Moves.{GivesBack, CancelsBind, CancelsUdpBind, CancelsUdpConnect, put_udp, udp_begun, with_records, Finds, UdpChanges, BeginsUdpBind, BeginsUdpConnect, BeginsSend, BeginsReceive, UdpCreates, UdpBindsOn, UdpConnectsOn, SendsOn, ReceivesOn}
+use Rattle.wasi_walks.proofs.walks.Moves.{GivesBack, CancelsBind, CancelsUdpBind, CancelsUdpConnect, put_udp, udp_begun, with_records, Finds, UdpChanges, BeginsUdpBind, BeginsUdpConnect, BeginsSend, BeginsReceive, UdpCreates, UdpBindsOn, UdpConnectsOn, UdpReconnectsOn, SendsOn, ReceivesOn}
 use Rattle.wasi_records.specs.declared.records.Record.{Record}
 use Rattle.wasi_walks.proofs.Places.{push_new, push_was, put_found, put_was, tcp_sort, udp_sort}
 
@@ -150,7 +150,7 @@ module _ (contexts : List WasiSocketsCtx) (line : ℕ) (origin : Step) where
       push_shape (tcp2_put h.machine.store.records place idle) (joined l new peer) (record { connection = _; is = refl; taken = refl; reader = λ half d. (let q : record { side = new } ≡ half = cc in ap (λ y. y.side) (sym q)); writer = refl }, tt) (put_shape h place idle (k.0, accepts_shape r l e k) i)
   moves_shape _ _ (UdpChanges h place o now g p keeps) i = udp_shape h place _ i
   moves_shape _ _ (BeginsUdpBind h place o a at g to own) i = udp_shape h place _ i
-  moves_shape _ _ (BeginsUdpConnect h place o a at g to bound none own) i = udp_shape h place _ i
+  moves_shape _ _ (BeginsUdpConnect h place o a bound at g to known none own) i = udp_shape h place _ i
   moves_shape _ _ (BeginsSend h place part o out d bound at g e is known own) i = udp_shape h place _ i
   moves_shape _ _ (BeginsReceive h place part o inc bound at g e is own) i = udp_shape h place _ i
   moves_shape _ _ (CancelsBind h place r op q g e) i = put_shape h place _ (i place r g) i
@@ -169,6 +169,7 @@ module _ (contexts : List WasiSocketsCtx) (line : ℕ) (origin : Step) where
   polls_shape es h _ _ (UdpCreates place create q g) i = udp_polled es h place create.operation (udp_create_left create) i
   polls_shape es h op _ (UdpBindsOn place o _ q g e) i = udp_polled es h place op _ i
   polls_shape es h op _ (UdpConnectsOn place o _ q g e) i = udp_polled es h place op _ i
+  polls_shape es h op _ (UdpReconnectsOn place o _ q g e) i = udp_polled es h place op _ i
   polls_shape es h op _ (SendsOn place o out _ left g e s settles) i = udp_polled es h place op _ i
   polls_shape es h op _ (ReceivesOn place o inc _ g e r) i = udp_polled es h place op _ i
 

@@ -21,9 +21,9 @@ use Rattle.wasi_walks.proofs.walks.Law.{BeginsWrites, InCall, Law, Rests, Walks}
 use Rattle.wasi_walks.proofs.Words.{new_socket}
 use Rattle.wasi_walks.proofs.fits.Law.{Fit, begins_fit, told_same, whatever, fits}
 use Rattle.wasi_walks.proofs.fits.UdpPolls.{create_side}
-use Rattle.wasi_walks.proofs.fits.UdpFits.{connected_side}
+use Rattle.wasi_walks.proofs.fits.UdpFits.{connected_side, reconnected_side}
 use Rattle.wasi_tcp.specs.Accept as accept
-use Rattle.wasi_records.specs.Datagrams.{udp_connect_left, with_sending}
+use Rattle.wasi_records.specs.Datagrams.{udp_connect_left, udp_reconnect_left, with_sending}
 use Rattle.wasi_records.specs.Receiving.{receive_left, with_receiving}
 use Rattle.wasi_records.specs.Records.{tcp2_at, tcp2_of, tcp2_put, tcp2_pushed, udp2_at, udp2_of, udp2_pushed}
 use Rattle.wasi_records.specs.declared.name_lookup.LookupOp.{LookupOp}
@@ -31,7 +31,7 @@ use Rattle.wasi_records.specs.declared.records.Record.{Record}
 use Rattle.wasi_records.specs.declared.udp.UdpRecord.{UdpRecord}
 use Rattle.wasi_records.specs.Udp.{udp_bind_progress, udp_create_left, udp_side, with_udp_progress}
 use Rattle.wasi_udp.specs.Create.{new_create, after_create as udp_after_create}
-use Rattle.wasi_walks.proofs.walks.Moves.{EndsConnect, RecallsStreams, ToConnect, with_records, SameSockets, Finds, put_udp, FoundUdp, udp_begun, Names, UdpChanges, BeginsUdpBind, BeginsUdpConnect, BeginsSend, BeginsReceive, Counts, SpendsNames, UdpCreates, UdpBindsOn, UdpConnectsOn, SendsOn, ReceivesOn, GivesBack, without_record}
+use Rattle.wasi_walks.proofs.walks.Moves.{EndsConnect, RecallsConnect, RecallsStreams, ToConnect, with_records, SameSockets, Finds, put_udp, FoundUdp, udp_begun, Names, UdpChanges, BeginsUdpBind, BeginsUdpConnect, BeginsSend, BeginsReceive, Counts, SpendsNames, UdpCreates, UdpBindsOn, UdpConnectsOn, UdpReconnectsOn, SendsOn, ReceivesOn, GivesBack, without_record}
 use Rattle.wasi_walks.proofs.Places.{push_found, push_new, push_was, put_finds, put_found, put_was, tcp_sort, udp_sort}
 
 -- it was made with this network socket, or its accept has this name, by which a network socket will be made
@@ -333,7 +333,8 @@ module _ (contexts : List WasiSocketsCtx) (line : ℕ) (origin : Step) where
       record { one = j.one; apart = j.apart; older = j.older; named = j.named; held = j.held; udps = record { one = j.udps.one; apart = j.udps.apart; older = j.udps.older } }
   moves_named _ _ (UdpChanges h place o now g p keeps) n = put_udp_named line h place (UdpRecord.Open o) (UdpRecord.Open now) g p.side n
   moves_named _ _ (BeginsUdpBind h place o a at g to own) n = put_udp_by line h place (UdpRecord.Open o) (UdpRecord.Open _) g refl n Used (older_used line h.own)
-  moves_named _ _ (BeginsUdpConnect h place o a at g to bound none own) n = put_udp_by line h place (UdpRecord.Open o) (UdpRecord.Open _) g refl n (ToConnect place) (older_used line h.own)
+  moves_named _ _ (RecallsConnect h ids place e own) n = let k = owns_named h (ToConnect place) n (older_used line h.own) in record { one = k.one; apart = k.apart; older = k.older; named = k.named; held = k.held; udps = record { one = k.udps.one; apart = k.udps.apart; older = k.udps.older } }
+  moves_named _ _ (BeginsUdpConnect h place o a bound at g to known none own) n = put_udp_by line h place (UdpRecord.Open o) (UdpRecord.Open _) g refl n (ToConnect place) (older_used line h.own)
   moves_named _ _ (BeginsSend h place part o out d bound at g e is known own) n = put_udp_by line h place (UdpRecord.Open o) (UdpRecord.Open _) g refl n (Names (part + 1)) (next_grows line part h.own own)
   moves_named _ _ (BeginsReceive h place part o inc bound at g e is own) n = put_udp_by line h place (UdpRecord.Open o) (UdpRecord.Open _) g refl n (Names (part + 1)) (next_grows line part h.own own)
   moves_named _ _ (CancelsBind h place r op q g e) n = put_inner h place r _ g refl refl (λ x p. p) n
@@ -375,6 +376,8 @@ module _ (contexts : List WasiSocketsCtx) (line : ℕ) (origin : Step) where
       whatever (λ ended. Named line (put_udp h place (UdpRecord.Open (with_udp_progress o (udp_bind_progress op ended))))) (λ ended. put_udp_named line h place (UdpRecord.Open o) (UdpRecord.Open _) g refl n.1) es _
   names_polled es h _ _ (UdpConnectsOn place o op q g e) n =
       whatever (λ ended. Named line (put_udp h place (UdpRecord.Open (udp_connect_left op o ended)))) (λ ended. put_udp_named line h place (UdpRecord.Open o) (UdpRecord.Open _) g (connected_side o op ended) n.1) es _
+  names_polled es h _ _ (UdpReconnectsOn place o op q g e) n =
+      whatever (λ ended. Named line (put_udp h place (UdpRecord.Open (udp_reconnect_left op o ended)))) (λ ended. put_udp_named line h place (UdpRecord.Open o) (UdpRecord.Open _) g (reconnected_side o op ended) n.1) es _
   names_polled es h _ _ (SendsOn place o out op left g e s settles) n =
       whatever (λ ended. Named line (put_udp h place (UdpRecord.Open (record o { outgoing = Some (with_sending out (left ended)) })))) (λ ended. put_udp_named line h place (UdpRecord.Open o) (UdpRecord.Open _) g refl n.1) es _
   names_polled es h _ _ (ReceivesOn place o inc op g e r) n =

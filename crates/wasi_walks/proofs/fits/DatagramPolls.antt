@@ -4,7 +4,7 @@ use Rattle.wasi_walks.proofs.Words.{AccessDenied, Asks, Check, End, Entry, Error
 use Rattle.wasi_walks.proofs.Words.{Operation, Polled, Verdict, Waits, Who, allows_if, bind, front, last_ask, poll_asks, told_addr, told_done}
 use Rattle.wasi_walks.proofs.Words.{told_polled, told_verdict, wildcard}
 use Rattle.wasi_addr.specs.declared.address.SocketAddressFamily.{SocketAddressFamily}
-use Rattle.wasi_addr.specs.declared.address.SocketAddrUse.TheVariants.{UdpReceive, UdpSend}
+use Rattle.wasi_addr.specs.declared.address.SocketAddrUse.TheVariants.{UdpBind, UdpReceive, UdpSend}
 use Rattle.wasi_addr.specs.declared.code.ErrorCode.TheVariants.{InvalidState}
 use Rattle.wasi_world.specs.Operation.{Again, Datagram, Goes, Receive, Send, UdpConnect, after, check_peer_front, is_now, is_wanted, peer_front, polls, receive_front, received_front, remote_told, round, send_front, verdict_front}
 use Rattle.wasi_world.specs.Typed.{told_datagram}
@@ -12,7 +12,7 @@ use Rattle.wasi_udp.specs.Receive.{IsLeftOfReceive, wanted_in}
 use Rattle.wasi_udp.specs.Receive as receive
 use Rattle.wasi_udp.specs.Send.{IsLeftOfSend}
 use Rattle.wasi_udp.specs.Send as send
-use Rattle.wasi_walks.specs.Waiting.{IsLeftOfUdpConnect, ConnectUnchecked, ConnectSendChecked}
+use Rattle.wasi_walks.specs.Waiting.{IsLeftOfUdpConnect, ConnectUnbound, ConnectUnchecked, ConnectSendChecked}
 use Rattle.wasi_walks.proofs.Gives.{Gives}
 use Rattle.wasi_walks.proofs.fits.Polls.{Anything, Keeps, by_polled, checks, kept, lasts}
 
@@ -131,8 +131,20 @@ module _ (who : Who) (again : List Item → Asks (End × List Item)) where
     unfolding bind
     first_check es given = (tt, λ t fits. by_first _ (told_verdict t))
 
+    -- the check of the wildcard was answered
+    by_wildcard : (es : List Entry) (v : Verdict) → Gives (λ fs end. LeavesConnect end) es (after again who (Check a UdpSend ∷ Check a UdpReceive ∷ UdpConnect family a ∷ []) (λ g. round again who g (Check a UdpSend ∷ Check a UdpReceive ∷ UdpConnect family a ∷ [])) (verdict_front (Check (wildcard family) UdpBind) v))
+    by_wildcard es Verdict.Yes = first_check es Nothing
+    by_wildcard es Verdict.No = ends_so es who.last AccessDenied Nothing
+    by_wildcard es Verdict.Pending = ConnectUnbound family a
+
+    -- no check was
+    wildcard_check : (es : List Entry) (given : Given) → ConnectGives es given (Check (wildcard family) UdpBind ∷ Check a UdpSend ∷ Check a UdpReceive ∷ UdpConnect family a ∷ [])
+    unfolding bind
+    wildcard_check es given = (tt, λ t fits. by_wildcard _ (told_verdict t))
+
   -- a round of what is left
   connect_round : (es : List Entry) (items : List Item) → IsLeftOfUdpConnect items → ConnectGives es Nothing items
+  connect_round es _ (ConnectUnbound family a) = wildcard_check family a es Nothing
   connect_round es _ (ConnectUnchecked family a) = first_check family a es Nothing
   connect_round es _ (ConnectSendChecked family a) = second_check family a es Nothing
 

@@ -26,7 +26,7 @@ use Rattle.wasi_records.specs.declared.name_lookup.LookupOp.{LookupOp}
 use Rattle.wasi_records.specs.declared.udp.OpenUdp.{OpenUdp}
 use Rattle.wasi_records.specs.declared.udp.UdpRecord.{UdpRecord}
 use Rattle.wasi_records.specs.declared.udp.UdpInProgress.{UdpInProgress}
-use Rattle.wasi_records.specs.Datagrams.{udp_connect_left, with_sending}
+use Rattle.wasi_records.specs.Datagrams.{udp_connect_left, udp_reconnect_left, with_sending}
 use Rattle.wasi_records.specs.Receiving.{receive_left, with_receiving}
 use Rattle.wasi_records.specs.Udp.{udp_bind_progress, udp_create_left, with_udp_inner, with_udp_progress}
 use Rattle.wasi_udp.specs.Bind as udp
@@ -37,8 +37,8 @@ use Rattle.wasi_udp.specs.Shape.{Socket as UdpSocket}
 use Rattle.wasi_walks.proofs.fits.UdpPolls.{LeavesCreate, create_left, create_fits}
 use Rattle.wasi_walks.proofs.fits.DatagramPolls.{LeavesConnect, datagram_left, received_left, udp_connect_leaves, wanted_left}
 use Rattle.wasi_walks.proofs.fits.TcpFits.{first_of, ended_fits, listened_fits, bound_fits, accepted_fits, joined_fits}
-use Rattle.wasi_walks.proofs.fits.UdpFits.{KeepsOpen, same_udp, same_open, no_open, stays_open, plain_open, plain_fits, inner_fits, bound_udp, connected_udp, begun_send, sends_on, sent_udp, begun_receive, receives_on, received_udp}
-use Rattle.wasi_walks.proofs.walks.Moves.{ToConnect, with_records, SameSockets, Finds, put_udp, FoundUdp, udp_begun, begun_udp_bind, begun_udp_connect, sending_now, receiving_now, part_of, UdpChanges, BeginsUdpBind, StandsUdpBind, StandsUdpCreate, BeginsUdpConnect, StandsUdpConnect, StandsDropOutgoing, BeginsSend, BeginsReceive, UdpCreates, UdpBindsOn, UdpConnectsOn, SendsOn, ReceivesOn, GivesBack, without_record}
+use Rattle.wasi_walks.proofs.fits.UdpFits.{KeepsOpen, same_udp, same_open, no_open, stays_open, plain_open, plain_fits, inner_fits, bound_udp, connected_udp, reconnected_udp, begun_connect, begun_send, sends_on, sent_udp, begun_receive, receives_on, received_udp}
+use Rattle.wasi_walks.proofs.walks.Moves.{ToConnect, with_records, SameSockets, Finds, put_udp, FoundUdp, udp_begun, begun_udp_bind, begun_udp_connect, sending_now, receiving_now, part_of, UdpChanges, BeginsUdpBind, StandsUdpBind, StandsUdpCreate, BeginsUdpConnect, StandsConnect, StandsUdpConnect, StandsDropOutgoing, BeginsSend, BeginsReceive, UdpCreates, UdpBindsOn, UdpConnectsOn, UdpReconnectsOn, SendsOn, ReceivesOn, GivesBack, without_record}
 use Rattle.wasi_records.specs.declared.records.Record.{Record}
 use Rattle.wasi_walks.proofs.Places.{push_found, push_new, push_still, push_was, put_found, put_stays, put_still, put_was, tcp_sort, udp_sort}
 
@@ -78,6 +78,7 @@ module _ (h : Here) (place : ℕ) (r now : TcpRecord) (g : Found h place r) (k :
   call_put c e (StandingCall.DropOutput n) q b = tt
   call_put c e (StandingCall.UdpCreate n face) q b = record { was = b.was; at = put_still tcp_sort udp_sort (λ t. refl) h.machine.store.records place r now n (UdpRecord.Creating b.was) g b.at }
   call_put c e (StandingCall.UdpBind n face) q b = record { was = b.was; at = put_still tcp_sort udp_sort (λ t. refl) h.machine.store.records place r now n (UdpRecord.Open b.was) g b.at; op = b.op; goes = b.goes }
+  call_put c e (StandingCall.UdpConnect3 n) q b = record { was = b.was; at = put_still tcp_sort udp_sort (λ t. refl) h.machine.store.records place r now n (UdpRecord.Open b.was) g b.at; op = b.op; goes = b.goes }
   call_put c e (StandingCall.UdpConnect n handle) q b = record { was = b.was; at = put_still tcp_sort udp_sort (λ t. refl) h.machine.store.records place r now n (UdpRecord.Open b.was) g b.at; op = b.op; goes = b.goes }
   call_put c e (StandingCall.DropOutgoing n) q b = tt
   call_put c e (StandingCall.Blocking call) q b = tt
@@ -96,6 +97,7 @@ call_kept records now t u (StandingCall.Listen n) b = record { was = b.was; at =
 call_kept records now t u (StandingCall.DropOutput n) b = tt
 call_kept records now t u (StandingCall.UdpCreate n face) b = record { was = b.was; at = u n (UdpRecord.Creating b.was) b.at }
 call_kept records now t u (StandingCall.UdpBind n face) b = record { was = b.was; at = u n (UdpRecord.Open b.was) b.at; op = b.op; goes = b.goes }
+call_kept records now t u (StandingCall.UdpConnect3 n) b = record { was = b.was; at = u n (UdpRecord.Open b.was) b.at; op = b.op; goes = b.goes }
 call_kept records now t u (StandingCall.UdpConnect n handle) b = record { was = b.was; at = u n (UdpRecord.Open b.was) b.at; op = b.op; goes = b.goes }
 call_kept records now t u (StandingCall.DropOutgoing n) b = tt
 call_kept records now t u (StandingCall.Blocking call) b = tt
@@ -127,6 +129,7 @@ call_stands records (StandingCall.DropOutput n) r g k = tt
 call_stands records (StandingCall.UdpCreate n face) r g k = absurd k
 call_stands records (StandingCall.UdpBind n face) r g k = absurd k
 call_stands records (StandingCall.UdpConnect n handle) r g k = absurd k
+call_stands records (StandingCall.UdpConnect3 n) r g k = absurd k
 call_stands records (StandingCall.DropOutgoing n) r g k = absurd k
 call_stands records (StandingCall.Blocking call) r g k = absurd k
 
@@ -161,6 +164,13 @@ module _ (h : Here) (place : ℕ) (u now : UdpRecord) (g : FoundUdp h place u) (
     | inl p ↦ record { was = b.was; at = p; op = b.op; goes = b.goes }
     | inr p ↦ elim k [
       | inl quiet ↦ absurd (none c e (StandingCall.UdpConnect n handle) q quiet)
+      | inr o ↦ (let next = o.connects b.op (subst (λ (x : OpenUdp). x.connecting ≡ Some b.op) (same_was n b.was b.at p.0 o) b.goes) in record { was = o.is; at = p.1 ∙ ap (λ (x : UdpRecord). Some x) o.to; op = next.0; goes = next.1 })
+    ]
+  ]
+  udp_call_put c e (StandingCall.UdpConnect3 n) q b = elim (put_stays udp_sort h.machine.store.records place now n (UdpRecord.Open b.was) b.at) [
+    | inl p ↦ record { was = b.was; at = p; op = b.op; goes = b.goes }
+    | inr p ↦ elim k [
+      | inl quiet ↦ absurd (none c e (StandingCall.UdpConnect3 n) q quiet)
       | inr o ↦ (let next = o.connects b.op (subst (λ (x : OpenUdp). x.connecting ≡ Some b.op) (same_was n b.was b.at p.0 o) b.goes) in record { was = o.is; at = p.1 ∙ ap (λ (x : UdpRecord). Some x) o.to; op = next.0; goes = next.1 })
     ]
   ]
@@ -295,12 +305,13 @@ module _ (contexts : List WasiSocketsCtx) (line : ℕ) (origin : Step) where
       begun_udp_fit h place o now Used g (record { was = o; is = now; from = refl; to = refl; binds = λ op e. (begun_udp_bind (own_of line) o a, refl); connects = λ op e. (op, e) }) (record { bind = record { last = refl; left = udp.Unchecked a }; of_side = refl }, f.1, f.2, f.3) i
   moves_fit _ _ (StandsUdpBind h ids place face o op quiet at g e) i = stood_fit h ids (StandingCall.UdpBind place face) (record { was = o; at = g; op = op; goes = e }) i
   moves_fit _ _ (StandsUdpCreate h ids place face create quiet m g) i = stood_fit h ids (StandingCall.UdpCreate place face) (record { was = create; at = g }) i
-  moves_fit _ _ (BeginsUdpConnect h place o a at g to bound none own) i =
+  moves_fit _ _ (BeginsUdpConnect h place o a bound at g to known none own) i =
       let f = i.udps place (UdpRecord.Open o) g in
-      let op = begun_udp_connect (own_of line) o a in
+      let op = begun_udp_connect (own_of line) o a bound in
       let now : OpenUdp = record o { connecting = Some op } in
-      begun_udp_fit h place o now (ToConnect place) g (record { was = o; is = now; from = refl; to = refl; binds = λ x e. (x, e); connects = λ x e. (op, refl) }) (f.0, record { connect = record { last = refl; left = binding.ConnectUnchecked o.inner.family a }; of_side = refl }, f.2, f.3) i
+      begun_udp_fit h place o now (ToConnect place) g (record { was = o; is = now; from = refl; to = refl; binds = λ x e. (x, e); connects = λ x e. (op, refl) }) (f.0, record { connect = begun_connect (own_of line) o.inner a bound; of_side = refl }, f.2, f.3) i
   moves_fit _ _ (StandsUdpConnect h ids place handle o op quiet at under g e) i = stood_fit h ids (StandingCall.UdpConnect place handle) (record { was = o; at = g; op = op; goes = e }) i
+  moves_fit _ _ (StandsConnect h ids place o op quiet at past g e) i = stood_fit h ids (StandingCall.UdpConnect3 place) (record { was = o; at = g; op = op; goes = e }) i
   moves_fit _ _ (StandsDropOutgoing h ids place o quiet at g s) i = stood_fit h ids (StandingCall.DropOutgoing place) tt i
   moves_fit _ _ (BeginsSend h place n o out d bound at g e is known own) i =
       let f = i.udps place (UdpRecord.Open o) g in
@@ -357,6 +368,10 @@ module _ (contexts : List WasiSocketsCtx) (line : ℕ) (origin : Step) where
       let f = i.udps place (UdpRecord.Open o) g in
       let its : UdpConnectOn o.inner.side op = subst (FitConnecting o.inner.side) e f.1 in
       allows_weaker Anything (λ fs end. LeavesConnect end) (λ fs end. Fit (put_udp h place (UdpRecord.Open (udp_connect_left op o end)))) (λ fs end k. put_udp_fit h place (UdpRecord.Open o) _ g (inl q) (connected_udp o op end its k f) i) es (poll_asks op) (udp_connect_leaves op its.connect.left es)
+  polls_fit es h _ _ (UdpReconnectsOn place o op q g e) i =
+      let f = i.udps place (UdpRecord.Open o) g in
+      let its : UdpConnectOn o.inner.side op = subst (FitConnecting o.inner.side) e f.1 in
+      allows_weaker Anything (λ fs end. LeavesConnect end) (λ fs end. Fit (put_udp h place (UdpRecord.Open (udp_reconnect_left op o end)))) (λ fs end k. put_udp_fit h place (UdpRecord.Open o) _ g (inl q) (reconnected_udp o op end its k f) i) es (poll_asks op) (udp_connect_leaves op its.connect.left es)
   polls_fit es h _ _ (SendsOn place o out op left g e s settles) i =
       let f = i.udps place (UdpRecord.Open o) g in
       let its : SendOn o.inner.side op = sends_on o out op e s f in

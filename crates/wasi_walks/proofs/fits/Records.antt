@@ -118,5 +118,6 @@ FitCall records (StandingCall.DropOutput place) = ⊤
 FitCall records (StandingCall.UdpCreate place face) = UdpCreateGoesOn records place
 FitCall records (StandingCall.UdpBind place face) = UdpBindGoesOn records place
 FitCall records (StandingCall.UdpConnect place handle) = UdpConnectGoesOn records place
+FitCall records (StandingCall.UdpConnect3 place) = UdpConnectGoesOn records place
 FitCall records (StandingCall.DropOutgoing place) = ⊤
 FitCall records (StandingCall.Blocking call) = ⊤

@@ -5,7 +5,7 @@ use Rattle.wasi_walks.proofs.Words.{refl, subst, sym, ◌∙◌}
 use Rattle.wasi_addr.specs.declared.address.SocketAddressFamily.{SocketAddressFamily}
 use Rattle.wasi_addr.specs.declared.code.ErrorCode.TheVariants.{InvalidState}
 use Rattle.wasi_world.specs.Operation.{Datagram, Remote}
-use Rattle.wasi_records.specs.Datagrams.{udp_connect_left, with_sending}
+use Rattle.wasi_records.specs.Datagrams.{udp_connect_left, udp_reconnect_left, with_sending}
 use Rattle.wasi_records.specs.Receiving.{receive_left, with_receiving}
 use Rattle.wasi_records.specs.Udp.{is_udp_idle, udp_bind_progress, with_udp_inner, with_udp_progress}
 use Rattle.wasi_records.specs.declared.datagrams.Incoming.{Incoming}
@@ -16,7 +16,9 @@ use Rattle.wasi_records.specs.declared.udp.OpenUdp.{OpenUdp}
 use Rattle.wasi_records.specs.declared.udp.UdpRecord.{UdpRecord}
 use Rattle.wasi_records.specs.declared.udp.UdpInProgress.{UdpInProgress}
 use Rattle.wasi_udp.specs.Bind as udp
-use Rattle.wasi_udp.specs.Connect.{with_given}
+use Rattle.wasi_udp.specs.Connect.{connect_start, with_given}
+use Rattle.wasi_walks.specs.Waiting as binding
+use Rattle.wasi_walks.specs.Waiting.{IsRestOfUdpConnect}
 use Rattle.wasi_udp.specs.Create.{Create}
 use Rattle.wasi_udp.specs.Receive.{IsLeftOfReceive, receive_first, receive_start}
 use Rattle.wasi_udp.specs.Receive as receive
@@ -127,6 +129,22 @@ pub connected_udp : (o : OpenUdp) (op : Operation) (end : End × List Item) → 
 connected_udp o op (Waits, items) its k f = (f.0, record { connect = record { last = its.connect.last; left = k }; of_side = its.of_side }, f.2, f.3)
 connected_udp o op (Done given, items) its k f = subst (FitsOn (udp_connect_left op o (Done given, items))) (sym (given_side o.inner given)) (f.0, tt, tt, tt)
 connected_udp o op (Refused c given, items) its k f = subst (FitsOn (udp_connect_left op o (Refused c given, items))) (sym (given_side o.inner given)) (f.0, tt, f.2, f.3)
+
+-- the first stage of a connect
+pub begun_connect : (own : OpId) (socket : Socket) (a : IpSocketAddress) (bound : Bool) → IsRestOfUdpConnect (connect_start own socket a bound)
+begun_connect own socket a true = record { last = refl; left = binding.ConnectUnchecked socket.family a }
+begun_connect own socket a false = record { last = refl; left = binding.ConnectUnbound socket.family a }
+
+-- one of 0.3
+pub reconnected_udp : (o : OpenUdp) (op : Operation) (end : End × List Item) → UdpConnectOn o.inner.side op → LeavesConnect end → FitUdp (UdpRecord.Open o) → FitUdp (UdpRecord.Open (udp_reconnect_left op o end))
+reconnected_udp o op (Waits, items) its k f = (f.0, record { connect = record { last = its.connect.last; left = k }; of_side = its.of_side }, f.2, f.3)
+reconnected_udp o op (Done given, items) its k f = subst (FitsOn (udp_reconnect_left op o (Done given, items))) (sym (given_side o.inner given)) (f.0, tt, f.2, f.3)
+reconnected_udp o op (Refused c given, items) its k f = subst (FitsOn (udp_reconnect_left op o (Refused c given, items))) (sym (given_side o.inner given)) (f.0, tt, f.2, f.3)
+
+pub reconnected_side : (o : OpenUdp) (op : Operation) (end : End × List Item) → (udp_reconnect_left op o end).inner.side ≡ o.inner.side
+reconnected_side o op (Waits, items) = refl
+reconnected_side o op (Done given, items) = given_side o.inner given
+reconnected_side o op (Refused c given, items) = given_side o.inner given
 
 -- == datagrams
 -- the first stage of one

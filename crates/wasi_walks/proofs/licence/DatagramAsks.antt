@@ -16,7 +16,7 @@ use Rattle.wasi_udp.specs.Receive.{IsLeftOfReceive, ToRefuse, Unreceived, Receiv
 use Rattle.wasi_udp.specs.Send.{at_remote}
 use Rattle.wasi_walks.specs.Licence.{GoesTo, HasYes, IsRemote, IsSendOf, IsUdpConnectTo, MakesUdp, MaySendOut, SendsItem}
 use Rattle.wasi_walks.proofs.Lists.{has_front, has_last}
-use Rattle.wasi_walks.proofs.licence.State.{UdpConnectLeft, ConnectWhole, ConnectSends, ConnectChecked, IsFor, SendLeft, SendRefused, SendUnbound, SendUnchecked, SendChecked, SendOver, RemoteIs, KeepsRemote, Names, UdpConnectIsFine, SendIsFine, ReceiveIsFine}
+use Rattle.wasi_walks.proofs.licence.State.{UdpConnectLeft, ConnectUnbound, ConnectWhole, ConnectSends, ConnectChecked, IsFor, SendLeft, SendRefused, SendUnbound, SendUnchecked, SendChecked, SendOver, RemoteIs, KeepsRemote, Names, UdpConnectIsFine, SendIsFine, ReceiveIsFine}
 use Rattle.wasi_walks.proofs.licence.Frames.{stay, maker_more, names_on}
 use Rattle.wasi_walks.proofs.licence.DatagramFrames.{send_out_more, remote_kept, receive_more}
 use Rattle.wasi_walks.proofs.licence.Binds.{MayQuietly}
@@ -97,11 +97,10 @@ module _ (contexts : List WasiSocketsCtx) (steps : List Step) (start : List Entr
   abbrev Leads : List Item → List Entry → Front → Type 0
   Leads items es f = FrontKeeps MayConnect op.who (Connecting steps start op) Leaves items es f
 
-  -- It is on its network socket, may send out, and was told nothing so far.
+  -- It is on its network socket, and was told nothing so far.
   record OnConnect (family : SocketAddressFamily) (es : List Entry) : Type 0 where
     pub made : IsMaker es op.who.context family op.who.side
     pub named : Names steps es op.who.id op.who.side
-    pub out : MaySendOut es op.who.id op.who.side
     pub kept : KeepsRemote start es op.who.side
 
   module _ (addr : IpSocketAddress) (to : BeganBy steps op.who.id (IsUdpConnectTo addr)) (udp : BeganBy steps op.who.side MakesUdp) (family : SocketAddressFamily) (last : op.who.last ≡ NothingLast) where
@@ -110,31 +109,38 @@ module _ (contexts : List WasiSocketsCtx) (steps : List Step) (start : List Entr
     connect_on es c t n w = record {
       made = maker_more es _ op.who.context family op.who.side w.made;
       named = names_on (stay steps) es _ op.who.id op.who.side w.named;
-      out = send_out_more es _ op.who.id op.who.side w.out;
       kept = keeps_on start es op.who.id c t op.who.side n w.kept;
     }
 
     -- with these items left it may be polled
-    connect_stands : (es : List Entry) (items : List Item) → OnConnect family es → UdpConnectLeft es op.who.id op.who.context family addr items → Connecting steps start op es Nothing items
-    connect_stands es items w l = Asking items (record { addr = addr; to = to; udp = udp; family = family; made = w.made; named = w.named; out = w.out; last = last; left = l }) w.kept
+    connect_stands : (es : List Entry) (items : List Item) → OnConnect family es → UdpConnectLeft es op.who.id op.who.side op.who.context family addr items → Connecting steps start op es Nothing items
+    connect_stands es items w l = Asking items (record { addr = addr; to = to; udp = udp; family = family; made = w.made; named = w.named; last = last; left = l }) w.kept
 
     -- a code ends it, and nothing more is asked
     connect_ends : (es : List Entry) (c : ErrorCode) (given : Given) → Leaves es (Refused c given, []) → Allows MayConnect Leaves es (last_ask op.who op.who.last c given)
     connect_ends es c given h = subst (λ (l : LastAsk). Allows MayConnect Leaves es (last_ask op.who l c given)) (sym last) h
 
+    -- the check of the wildcard
+    asked_first : (es : List Entry) (t : Told) → OnConnect family es
+        → Leads (Check addr use_of.UdpSend ∷ Check addr use_of.UdpReceive ∷ UdpConnect family addr ∷ []) (es ++ entry op.who.id (Call.Check op.who.context (wildcard family) use_of.UdpBind) t ∷ []) (verdict_front (Check (wildcard family) use_of.UdpBind) (told_verdict t))
+    asked_first es Told.Yes w = connect_stands _ _ (connect_on es _ Told.Yes (λ x e. absurd (cc)) w)
+        (ConnectWhole (inr (record { ctx = op.who.context; family = family; maker = maker_more es _ op.who.context family op.who.side w.made; checked = has_last es _ })))
+    asked_first es Told.No w = connect_ends _ AccessDenied Nothing (keeps_on start es _ _ Told.No _ (λ x e. absurd (cc)) w.kept)
+    asked_first es t w = connect_stands _ _ (connect_on es _ t (λ x e. absurd (cc)) w) ConnectUnbound
+
     -- the check of what it sends
-    asked_sends : (es : List Entry) (t : Told) → OnConnect family es
+    asked_sends : (es : List Entry) (t : Told) → OnConnect family es → MaySendOut es op.who.id op.who.side
         → Leads (Check addr use_of.UdpReceive ∷ UdpConnect family addr ∷ []) (es ++ entry op.who.id (Call.Check op.who.context addr use_of.UdpSend) t ∷ []) (verdict_front (Check addr use_of.UdpSend) (told_verdict t))
-    asked_sends es Told.Yes w = connect_stands _ _ (connect_on es _ Told.Yes (λ x e. absurd (cc)) w) (ConnectSends (has_last es _))
-    asked_sends es Told.No w = connect_ends _ AccessDenied Nothing (keeps_on start es _ _ Told.No _ (λ x e. absurd (cc)) w.kept)
-    asked_sends es t w = connect_stands _ _ (connect_on es _ t (λ x e. absurd (cc)) w) ConnectWhole
+    asked_sends es Told.Yes w o = connect_stands _ _ (connect_on es _ Told.Yes (λ x e. absurd (cc)) w) (ConnectSends (send_out_more es _ op.who.id op.who.side o) (has_last es _))
+    asked_sends es Told.No w o = connect_ends _ AccessDenied Nothing (keeps_on start es _ _ Told.No _ (λ x e. absurd (cc)) w.kept)
+    asked_sends es t w o = connect_stands _ _ (connect_on es _ t (λ x e. absurd (cc)) w) (ConnectWhole (send_out_more es _ op.who.id op.who.side o))
 
     -- the check of what it receives
-    asked_receives : (es : List Entry) (t : Told) → OnConnect family es → Has es (entry op.who.id (Call.Check op.who.context addr use_of.UdpSend) Told.Yes)
+    asked_receives : (es : List Entry) (t : Told) → OnConnect family es → MaySendOut es op.who.id op.who.side → Has es (entry op.who.id (Call.Check op.who.context addr use_of.UdpSend) Told.Yes)
         → Leads (UdpConnect family addr ∷ []) (es ++ entry op.who.id (Call.Check op.who.context addr use_of.UdpReceive) t ∷ []) (verdict_front (Check addr use_of.UdpReceive) (told_verdict t))
-    asked_receives es Told.Yes w y = connect_stands _ _ (connect_on es _ Told.Yes (λ x e. absurd (cc)) w) (ConnectChecked (has_front es _ _ y) (has_last es _))
-    asked_receives es Told.No w y = connect_ends _ AccessDenied Nothing (keeps_on start es _ _ Told.No _ (λ x e. absurd (cc)) w.kept)
-    asked_receives es t w y = connect_stands _ _ (connect_on es _ t (λ x e. absurd (cc)) w) (ConnectSends (has_front es _ _ y))
+    asked_receives es Told.Yes w o y = connect_stands _ _ (connect_on es _ Told.Yes (λ x e. absurd (cc)) w) (ConnectChecked (send_out_more es _ op.who.id op.who.side o) (has_front es _ _ y) (has_last es _))
+    asked_receives es Told.No w o y = connect_ends _ AccessDenied Nothing (keeps_on start es _ _ Told.No _ (λ x e. absurd (cc)) w.kept)
+    asked_receives es t w o y = connect_stands _ _ (connect_on es _ t (λ x e. absurd (cc)) w) (ConnectSends (send_out_more es _ op.who.id op.who.side o) (has_front es _ _ y))
 
     -- the `peer` after the connect, whatever that was told
     heard : (es : List Entry) (outcome : Result (Unit {0}) ErrorCode) (remote : Option IpSocketAddress) → RemoteIs es op.who.side remote → Leads [] es (peer_front outcome remote)
@@ -151,18 +157,19 @@ module _ (contexts : List WasiSocketsCtx) (steps : List Step) (start : List Entr
     yes_of es usage w y = record { ctx = op.who.context; family = family; maker = w.made; checked = y }
 
     -- the front ask, by what is left
-    connect_front : (es : List Entry) (item : Item) (items : List Item) → OnConnect family es → UdpConnectLeft es op.who.id op.who.context family addr (item ∷ items) → Allows MayConnect (Leads items) es (front op.who item)
+    connect_front : (es : List Entry) (item : Item) (items : List Item) → OnConnect family es → UdpConnectLeft es op.who.id op.who.side op.who.context family addr (item ∷ items) → Allows MayConnect (Leads items) es (front op.who item)
     unfolding bind
-    connect_front es _ _ w ConnectWhole = ((((tt, tt), tt), λ x e. absurd (cc)), λ t fits. asked_sends es t w)
-    connect_front es _ _ w (ConnectSends y) = ((((tt, tt), tt), λ x e. absurd (cc)), λ t fits. asked_receives es t w y)
-    connect_front es _ _ w (ConnectChecked y z) = (
-      ((((inl w.named, to, yes_of es use_of.UdpSend w y, yes_of es use_of.UdpReceive w z, w.out, udp), tt), tt), λ x e. absurd (cc)),
+    connect_front es _ _ w ConnectUnbound = ((((tt, tt), tt), λ x e. absurd (cc)), λ t fits. asked_first es t w)
+    connect_front es _ _ w (ConnectWhole o) = ((((tt, tt), tt), λ x e. absurd (cc)), λ t fits. asked_sends es t w o)
+    connect_front es _ _ w (ConnectSends o y) = ((((tt, tt), tt), λ x e. absurd (cc)), λ t fits. asked_receives es t w o y)
+    connect_front es _ _ w (ConnectChecked o y z) = (
+      ((((inl w.named, to, yes_of es use_of.UdpSend w y, yes_of es use_of.UdpReceive w z, o, udp), tt), tt), λ x e. absurd (cc)),
       λ t fits. asks_peer _ (told_done t) (connect_on es _ t (λ x e. absurd (cc)) w),
     )
 
   -- the front ask is allowed
   connects : (es : List Entry) (given : Given) (item : Item) (items : List Item) → Connecting steps start op es given (item ∷ items) → Allows MayConnect (Leads items) es (front op.who item)
-  connects es _ item items (Asking _ f k) = connect_front f.addr f.to f.udp f.family f.last es item items (record { made = f.made; named = f.named; out = f.out; kept = k }) f.left
+  connects es _ item items (Asking _ f k) = connect_front f.addr f.to f.udp f.family f.last es item items (record { made = f.made; named = f.named; kept = k }) f.left
 
   -- a poll that ends before the last ask was told nothing
   connect_waits : (es : List Entry) (items : List Item) → Connecting steps start op es Nothing items → Leaves es (Waits, items)

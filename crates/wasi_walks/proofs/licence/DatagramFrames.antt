@@ -4,7 +4,7 @@ use Rattle.wasi_walks.proofs.Words.{Step, Told, [], ap, append_assoc, entry, inl
 use Rattle.wasi_walks.specs.Licence.{IsBoundSide, IsRemote, MaySendOut, WasDisconnected}
 use Rattle.wasi_world.specs.declared.datagram.OutgoingDatagram.{OutgoingDatagram}
 use Rattle.wasi_walks.proofs.Lists.{has_front, has_split}
-use Rattle.wasi_walks.proofs.licence.State.{UdpConnectLeft, ConnectWhole, ConnectSends, ConnectChecked, UdpConnectIsFine, SendLeft, SendRefused, SendUnbound, SendUnchecked, SendChecked, SendOver, SendIsFine, ReceiveIsFine}
+use Rattle.wasi_walks.proofs.licence.State.{UdpConnectLeft, ConnectUnbound, ConnectWhole, ConnectSends, ConnectChecked, UdpConnectIsFine, SendLeft, SendRefused, SendUnbound, SendUnchecked, SendChecked, SendOver, SendIsFine, ReceiveIsFine}
 use Rattle.wasi_walks.proofs.licence.Frames.{Goes, began_more, bound_more, maker_more, names_on, wildcard_more}
 
 -- the network socket is bound, or was disconnected
@@ -18,10 +18,11 @@ send_out_more es fs op side (inl h) = inl (free_more es fs side h)
 send_out_more es fs op side (inr h) = inr (wildcard_more es fs op side _ h)
 
 -- the yeses of a connect
-pub udp_connect_left_more : (es fs : List Entry) (op : OpId) (maker : ℕ) (family : SocketAddressFamily) (addr : IpSocketAddress) (items : List Item) → UdpConnectLeft es op maker family addr items → UdpConnectLeft (es ++ fs) op maker family addr items
-udp_connect_left_more es fs op maker family addr _ ConnectWhole = ConnectWhole
-udp_connect_left_more es fs op maker family addr _ (ConnectSends y) = ConnectSends (has_front es fs _ y)
-udp_connect_left_more es fs op maker family addr _ (ConnectChecked y z) = ConnectChecked (has_front es fs _ y) (has_front es fs _ z)
+pub udp_connect_left_more : (es fs : List Entry) (op side : OpId) (maker : ℕ) (family : SocketAddressFamily) (addr : IpSocketAddress) (items : List Item) → UdpConnectLeft es op side maker family addr items → UdpConnectLeft (es ++ fs) op side maker family addr items
+udp_connect_left_more es fs op side maker family addr _ ConnectUnbound = ConnectUnbound
+udp_connect_left_more es fs op side maker family addr _ (ConnectWhole o) = ConnectWhole (send_out_more es fs op side o)
+udp_connect_left_more es fs op side maker family addr _ (ConnectSends o y) = ConnectSends (send_out_more es fs op side o) (has_front es fs _ y)
+udp_connect_left_more es fs op side maker family addr _ (ConnectChecked o y z) = ConnectChecked (send_out_more es fs op side o) (has_front es fs _ y) (has_front es fs _ z)
 
 -- the yeses of a datagram
 pub send_left_more : (es fs : List Entry) (op side : OpId) (maker : ℕ) (family : SocketAddressFamily) (d : OutgoingDatagram) (items : List Item) → SendLeft es op side maker family d items → SendLeft (es ++ fs) op side maker family d items
@@ -61,9 +62,8 @@ module _ {steps now : List Step} (goes : Goes steps now) where
     family = h.family;
     made = maker_more es fs op.who.context h.family op.who.side h.made;
     named = names_on goes es fs op.who.id op.who.side h.named;
-    out = send_out_more es fs op.who.id op.who.side h.out;
     last = h.last;
-    left = udp_connect_left_more es fs op.who.id op.who.context h.family h.addr op.left h.left;
+    left = udp_connect_left_more es fs op.who.id op.who.side op.who.context h.family h.addr op.left h.left;
   }
 
   -- a datagram that is sent

@@ -14,7 +14,7 @@ use Rattle.wasi_walks.proofs.fits.Records.{FitListening, FitProgress}
 use Rattle.wasi_walks.proofs.licence.Fresh.{spared_as}
 use Rattle.wasi_walks.proofs.claims.Polls.{AllAskBut, IsPlainCall, poll_plainly}
 use Rattle.wasi_walks.proofs.claims.Law.{accept_plain, Named, Base, same_begun, fresh_to_come, taken_fresh, Fresh}
-use Rattle.wasi_walks.proofs.walks.Moves.{Held, BindsOn, Connects, Here, put, Found, Listens, Awaits, UdpCreates, UdpBindsOn, UdpConnectsOn, SendsOn, ReceivesOn, listen_after, accepting_now}
+use Rattle.wasi_walks.proofs.walks.Moves.{Held, BindsOn, Connects, Here, put, Found, Listens, Awaits, UdpCreates, UdpBindsOn, UdpConnectsOn, UdpReconnectsOn, SendsOn, ReceivesOn, listen_after, accepting_now}
 use Rattle.wasi_walks.specs.Licence.{MakesTcp}
 use Rattle.wasi_walks.proofs.licence.State.{ConnectIsFine, accept_name, Names, BindIsFine, JobIsFine, WritesOn, StreamsAreFine, AcceptingIsFine, ListeningIsFine, ProgressIsFine, RecordIsFine, AcceptStands, AcceptingStands, ListeningStands, name_in, AcceptLeft, AcceptIsFine}
 use Rattle.wasi_walks.proofs.licence.Frames.{Touches, same_listening, listening_gone, same_record, record_kept, maker_more}
@@ -26,7 +26,7 @@ use Rattle.wasi_walks.proofs.walks.Law.{put_put}
 use Rattle.wasi_walks.proofs.licence.Line.{put_with, some_same, no_listen, local_side, ListenGoesOn, Licensed, put_fine}
 use Rattle.wasi_walks.proofs.licence.Moves.{streams_fine, held_side, same_listen, listener_fine}
 use Rattle.wasi_walks.proofs.licence.Asked.{Spares, spares, asked_by, asked_fine, kept}
-use Rattle.wasi_walks.proofs.licence.UdpGoesOn.{udp_created_on, udp_bound_on, udp_connected_on, udp_sent_on, udp_received_on}
+use Rattle.wasi_walks.proofs.licence.UdpGoesOn.{udp_created_on, udp_bound_on, udp_connected_on, udp_reconnected_on, udp_sent_on, udp_received_on}
 use Rattle.wasi_walks.proofs.remotes.State.{Keeps, remotes_in}
 use Rattle.wasi_tcp.specs.Listen as listen
 use Rattle.wasi_tcp.specs.Connect as connecting
@@ -231,5 +231,6 @@ module _ (contexts : List WasiSocketsCtx) (steps : List Step) (line : ℕ) (orig
   polls_fine es h _ _ (UdpCreates place create q g) b i = udp_created_on contexts steps line origin is_line es h place create g i
   polls_fine es h _ _ (UdpBindsOn place o op q g e) b i = udp_bound_on contexts steps line origin is_line es h place o op g e i
   polls_fine es h _ _ (UdpConnectsOn place o op q g e) b i = udp_connected_on contexts steps line origin is_line es h place o op g e i
+  polls_fine es h _ _ (UdpReconnectsOn place o op q g e) b i = udp_reconnected_on contexts steps line origin is_line es h place o op g e i
   polls_fine es h _ _ (SendsOn place o out op left g e s settles) b i = udp_sent_on contexts steps line origin is_line es h place o out op left g e s settles (remotes_in es h b.1 place o g) b.0.0 i
   polls_fine es h _ _ (ReceivesOn place o inc op g e s) b i = udp_received_on contexts steps line origin is_line es h place o inc op g e s i

@@ -9,7 +9,7 @@ use Rattle.wasi_walks.proofs.Words.{new_job, new_streams, own_of, refl, side_in,
 use Rattle.wasi_walks.proofs.Words.{sym, true, wildcard, with_inner, with_listening, with_progress, with_state, with_writer, written_by, ℕ, ◌∙◌, ◌≡◌}
 use Rattle.wasi_walks.proofs.licence.ListenAsks.{Whole as WholeListen}
 use Rattle.wasi_walks.proofs.claims.Law.{Base, same_begun, fresh_to_come}
-use Rattle.wasi_walks.proofs.walks.Moves.{EndsConnect, Own, Past, ToStream, Used, CallsHandles, RecallsCall, ReachesHandle, StandsBlocking, CancelsBind, CancelsUdpBind, CancelsUdpConnect, GoesOn, RemembersStreams, RecallsStreams, BeginsUdpConnect, StandsUdpConnect, StandsDropOutgoing, Counts, SpendsNames, BeginsSend, BeginsReceive, closed_record, Here, put, Found, WriterMoves, Collects, LastsAfter, Closes, Plain, Move, Reaches, ReachesUdp, Leaves, Spends, Changes, ClosesReader, Writes, IsGone, opened_by, Reconnects, Opens, BeginsConnect, BeginsBind, BeginsWrite, begun_bind, Stands, Resumes, Unstands, StandsBeside, EndsBeside, UdpChanges, BeginsUdpBind, StandsUdpBind, StandsUdpCreate, Finds, Lists, Takes, BeginsListen, BeginsAccept, Unlistens, Forgets, Watches, Joins, accepting_now, begun_listen, beginning_listen, new_accept, joined, part_of}
+use Rattle.wasi_walks.proofs.walks.Moves.{EndsConnect, Own, Past, ToConnect, ToStream, Used, CallsHandles, RecallsCall, ReachesHandle, StandsBlocking, CancelsBind, CancelsUdpBind, CancelsUdpConnect, GoesOn, RemembersStreams, RecallsConnect, RecallsStreams, BeginsUdpConnect, StandsConnect, StandsUdpConnect, StandsDropOutgoing, Counts, SpendsNames, BeginsSend, BeginsReceive, closed_record, Here, put, Found, WriterMoves, Collects, LastsAfter, Closes, Plain, Move, Reaches, ReachesUdp, Leaves, Spends, Changes, ClosesReader, Writes, IsGone, opened_by, Reconnects, Opens, BeginsConnect, BeginsBind, BeginsWrite, begun_bind, Stands, Resumes, Unstands, StandsBeside, EndsBeside, UdpChanges, BeginsUdpBind, StandsUdpBind, StandsUdpCreate, Finds, Lists, Takes, BeginsListen, BeginsAccept, Unlistens, Forgets, Watches, Joins, accepting_now, begun_listen, beginning_listen, new_accept, joined, part_of}
 use Rattle.std.specs.Prelude.{◌+◌}
 use Rattle.wasi_walks.proofs.walks.Here.{IsToCome, next_shrinks, next_to_come, shrinks_to}
 use Rattle.wasi_walks.proofs.licence.State.{ConnectIsFine, ConnectLeft, Unbound, Unchecked, ReadsOn, Whole, ToWrite, Names, BindIsFine, EndTold, ErrorTold, JobIsFine, WritesOn, StreamsAreFine, AcceptingIsFine, ListeningIsFine, SocketIsFine, RecordIsFine, IsHanded, Unarrived, AcceptingStands, ListeningStands, ListenerIsFine, MakesStreams, OfTcp, OfUdp, StreamsStand, CreateStands, name_in}
@@ -170,6 +170,7 @@ module _ (contexts : List WasiSocketsCtx) (steps : List Step) (line : ℕ) (orig
 
   no_streams_stand : (r : TcpRecord) (records : List Record) (n : ℕ) (call : StandingCall) → GoesOn call r → StreamsStand steps n call × CreateStands steps records call
   no_streams_stand r records n (StandingCall.UdpConnect place handle) k = absurd k
+  no_streams_stand r records n (StandingCall.UdpConnect3 place) k = absurd k
   no_streams_stand r records n (StandingCall.UdpCreate place face) k = absurd k
   no_streams_stand r records n (StandingCall.Blocking call) k = absurd k
   no_streams_stand r records n _ k = (tt, tt)
@@ -306,9 +307,12 @@ module _ (contexts : List WasiSocketsCtx) (steps : List Step) (line : ℕ) (orig
       elsewhere es h _ refl refl refl i (state_stands contexts steps es h.machine (standing_as ids (StandingCall.UdpCreate place face)) (λ c. absurd c, tt, record { found = UdpRecord.Creating create; at = g; made = made }) i.fine) i.names i.udp_names
   moves_fine es _ _ (RemembersStreams h c handle place remote is of o g none) b i = remembers_streams contexts steps line origin is_line es h c handle place remote is i
   moves_fine es _ _ (RecallsStreams h ids place handle e own) b i = recalls_streams contexts steps line origin is_line es h ids place handle e i
-  moves_fine es _ _ (BeginsUdpConnect h place o a at g to bound none u) b i = begins_udp_connect contexts steps line origin is_line es h place o a at g to bound i
+  moves_fine es _ _ (RecallsConnect h ids place e own) b i = owned es h (ToConnect place) (λ u. absurd (cc)) (λ x t. absurd t) i
+  moves_fine es _ _ (BeginsUdpConnect h place o a bound at g to known none u) b i = begins_udp_connect contexts steps line origin is_line es h place o a bound at g to known i
   moves_fine es _ _ (StandsUdpConnect h ids place handle o op quiet at m g e) b i =
       elsewhere es h _ refl refl refl i (state_stands contexts steps es h.machine (standing_as ids (StandingCall.UdpConnect place handle)) (λ c. OfUdp (UdpRecord.Open o) g (i.udp_names place ids.line (UdpRecord.Open o) at g), streams_of es h ids.line handle place m i, tt) i.fine) i.names i.udp_names
+  moves_fine es _ _ (StandsConnect h ids place o op quiet at past g e) b i =
+      elsewhere es h _ refl refl refl i (state_stands contexts steps es h.machine (standing_as ids (StandingCall.UdpConnect3 place)) (λ c. OfUdp (UdpRecord.Open o) g (i.udp_names place ids.line (UdpRecord.Open o) at g), tt, tt) i.fine) i.names i.udp_names
   moves_fine es _ _ (StandsDropOutgoing h ids place o quiet at g e) b i =
       elsewhere es h _ refl refl refl i (state_stands contexts steps es h.machine (standing_as ids (StandingCall.DropOutgoing place)) (λ c. OfUdp (UdpRecord.Open o) g (i.udp_names place ids.line (UdpRecord.Open o) at g), tt, tt) i.fine) i.names i.udp_names
   moves_fine es _ _ (Counts h u) b i = owned es h (Own.Names 1) (λ e. absurd (cc)) (shrinks_to line h.own Own.Unused (Own.Names 1) u (λ x t. t)) i

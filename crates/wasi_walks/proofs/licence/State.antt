@@ -92,10 +92,11 @@ pub data UdpBindLeft (es : List Entry) (op : OpId) (maker : ℕ) (addr : IpSocke
   UdpOver : UdpBindLeft es op maker addr []
 
 -- what is left of a connect of a UDP socket to the address, and the yeses that it was answered
-pub data UdpConnectLeft (es : List Entry) (op : OpId) (maker : ℕ) (family : SocketAddressFamily) (addr : IpSocketAddress) : List Item → Type 0 where
-  ConnectWhole : UdpConnectLeft es op maker family addr (Check addr use_of.UdpSend ∷ Check addr use_of.UdpReceive ∷ UdpConnect family addr ∷ [])
-  ConnectSends : Has es (entry op (Call.Check maker addr use_of.UdpSend) Yes) → UdpConnectLeft es op maker family addr (Check addr use_of.UdpReceive ∷ UdpConnect family addr ∷ [])
-  ConnectChecked : Has es (entry op (Call.Check maker addr use_of.UdpSend) Yes) → Has es (entry op (Call.Check maker addr use_of.UdpReceive) Yes) → UdpConnectLeft es op maker family addr (UdpConnect family addr ∷ [])
+pub data UdpConnectLeft (es : List Entry) (op side : OpId) (maker : ℕ) (family : SocketAddressFamily) (addr : IpSocketAddress) : List Item → Type 0 where
+  ConnectUnbound : UdpConnectLeft es op side maker family addr (Check (wildcard family) use_of.UdpBind ∷ Check addr use_of.UdpSend ∷ Check addr use_of.UdpReceive ∷ UdpConnect family addr ∷ [])
+  ConnectWhole : MaySendOut es op side → UdpConnectLeft es op side maker family addr (Check addr use_of.UdpSend ∷ Check addr use_of.UdpReceive ∷ UdpConnect family addr ∷ [])
+  ConnectSends : MaySendOut es op side → Has es (entry op (Call.Check maker addr use_of.UdpSend) Yes) → UdpConnectLeft es op side maker family addr (Check addr use_of.UdpReceive ∷ UdpConnect family addr ∷ [])
+  ConnectChecked : MaySendOut es op side → Has es (entry op (Call.Check maker addr use_of.UdpSend) Yes) → Has es (entry op (Call.Check maker addr use_of.UdpReceive) Yes) → UdpConnectLeft es op side maker family addr (UdpConnect family addr ∷ [])
 
 -- where a datagram goes: to its address, or to the remote address, where it has none
 abbrev pub IsFor : OutgoingDatagram → Bool → IpSocketAddress → Type 0
@@ -320,9 +321,8 @@ module _ (steps : List Step) where
     pub family : SocketAddressFamily
     pub made : IsMaker es op.who.context family op.who.side
     pub named : Names es op.who.id op.who.side
-    pub out : MaySendOut es op.who.id op.who.side
     pub last : op.who.last ≡ NothingLast
-    pub left : UdpConnectLeft es op.who.id op.who.context family addr op.left
+    pub left : UdpConnectLeft es op.who.id op.who.side op.who.context family addr op.left
 
   -- A datagram that may be polled: which one of its step it is, and what it has asked so far.
   pub record SendIsFine (es : List Entry) (op : Operation) : Type 0 where

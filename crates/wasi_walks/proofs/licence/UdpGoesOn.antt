@@ -8,7 +8,7 @@ use Rattle.wasi_walks.proofs.licence.DatagramAsks.{ConnectLeaves, NoPeer, PeerOn
 use Rattle.wasi_walks.proofs.fits.Law.{Fit}
 use Rattle.wasi_walks.proofs.fits.Records.{FitSending, SendOn}
 use Rattle.wasi_walks.specs.Licence.{IsBoundSide, WasDisconnected}
-use Rattle.wasi_records.specs.Datagrams.{udp_connect_left, with_sending}
+use Rattle.wasi_records.specs.Datagrams.{udp_connect_left, udp_reconnect_left, with_sending}
 use Rattle.wasi_records.specs.Receiving.{receive_left, with_receiving}
 use Rattle.wasi_records.specs.declared.datagrams.Incoming.{Incoming as IncomingStream}
 use Rattle.wasi_records.specs.declared.datagrams.Outgoing.{Outgoing as OutgoingStream}
@@ -118,6 +118,26 @@ module _ (contexts : List WasiSocketsCtx) (steps : List Step) (line : ℕ) (orig
       let f : UdpConnectIsFine steps es op = subst (IfOp (UdpConnectIsFine steps es)) e (open_at_place contexts steps line origin is_line es h place o g i).connecting in
       allows_weaker (MayAsk contexts steps) (λ fs ended. Licensed contexts steps line origin fs h × ConnectLeaves steps es fs op ended) (λ fs ended. Licensed contexts steps line origin fs (put_udp h place (UdpRecord.Open (udp_connect_left op o ended))))
       (λ fs ended k. put_udp_fine fs h place (UdpRecord.Open o) (UdpRecord.Open (udp_connect_left op o ended)) g (connected_side op o ended) (connected_after es fs op o ended (open_at_place contexts steps line origin is_line fs h place o g k.0) k.1) k.0) es (poll_asks op)
+      (quietly (PeerOn op.who.side) h (λ fs ended. ConnectLeaves steps es fs op ended) es (poll_asks op) i (fine_poll_udp_connect contexts steps op es f))
+
+  -- one of 0.3
+  reconnected_side : (op : Operation) (o : OpenUdp) (ended : End × List Item) → (udp_reconnect_left op o ended).inner.side ≡ o.inner.side
+  reconnected_side op o (Waits, items) = refl
+  reconnected_side op o (Done given, items) = given_side o.inner given
+  reconnected_side op o (Refused c given, items) = given_side o.inner given
+
+  reconnected_after : (es fs : List Entry) (op : Operation) (o : OpenUdp) (ended : End × List Item) → OpenIsFine steps fs o → ConnectLeaves steps es fs op ended → OpenIsFine steps fs (udp_reconnect_left op o ended)
+  unfolding SocketIs
+  reconnected_after es fs op o (Waits, items) x k = record { made = x.made; bound = x.bound; progress = x.progress; connecting = k.0; sending = x.sending; receiving = x.receiving }
+  reconnected_after es fs op o (Done given, items) x k = let y = given_is fs o.inner given (x.made, x.bound) in record { made = y.0; bound = y.1; progress = x.progress; connecting = tt; sending = x.sending; receiving = x.receiving }
+  reconnected_after es fs op o (Refused c given, items) x k = let y = given_is fs o.inner given (x.made, x.bound) in record { made = y.0; bound = y.1; progress = x.progress; connecting = tt; sending = x.sending; receiving = x.receiving }
+
+  pub udp_reconnected_on : (es : List Entry) (h : Here) (place : ℕ) (o : OpenUdp) (op : Operation) → FoundUdp h place (UdpRecord.Open o) → o.connecting ≡ Some op → Licensed contexts steps line origin es h
+      → Allows (MayAsk contexts steps) (λ fs ended. Licensed contexts steps line origin fs (put_udp h place (UdpRecord.Open (udp_reconnect_left op o ended)))) es (poll_asks op)
+  udp_reconnected_on es h place o op g e i =
+      let f : UdpConnectIsFine steps es op = subst (IfOp (UdpConnectIsFine steps es)) e (open_at_place contexts steps line origin is_line es h place o g i).connecting in
+      allows_weaker (MayAsk contexts steps) (λ fs ended. Licensed contexts steps line origin fs h × ConnectLeaves steps es fs op ended) (λ fs ended. Licensed contexts steps line origin fs (put_udp h place (UdpRecord.Open (udp_reconnect_left op o ended))))
+      (λ fs ended k. put_udp_fine fs h place (UdpRecord.Open o) (UdpRecord.Open (udp_reconnect_left op o ended)) g (reconnected_side op o ended) (reconnected_after es fs op o ended (open_at_place contexts steps line origin is_line fs h place o g k.0) k.1) k.0) es (poll_asks op)
       (quietly (PeerOn op.who.side) h (λ fs ended. ConnectLeaves steps es fs op ended) es (poll_asks op) i (fine_poll_udp_connect contexts steps op es f))
 
   -- == a datagram

@@ -3,7 +3,7 @@ use Rattle.wasi_walks.proofs.Words.{Entry, Has, IpSocketAddress, IsMarkedWith, L
 use Rattle.wasi_walks.proofs.Words.{call_place, handles_of, inl, inr, kind_at, own_of, refl, slice_get, step_at, subst, sym, ℕ, ◌∙◌, ◌≡◌, ◌⊎◌}
 use Rattle.wasi_walks.specs.Licence.{IsBoundSide, IsSendOf, IsStreamOf, IsUdpBindTo, IsUdpConnectTo, Receives, UdpCreated, WasDisconnected}
 use Rattle.wasi_walks.proofs.walks.Moves.{Own, ToConnect, ToStream, part_of, begun_udp_connect, sending_now, receiving_now, sending_in, receiving_in, Here, put_udp, FoundUdp, record_of, udp_record_of, UdpPlain, IsUdpSettled, begun_udp_bind, Used, IsOfHandle}
-use Rattle.wasi_walks.proofs.licence.State.{Names, UdpUnchecked, UdpBindIsFine, UdpProgressIsFine, OpenIsFine, LineNames, OfTcp, OfUdp, IfOp, ConnectWhole, UdpConnectIsFine, IsFor, SendLeft, SendRefused, SendUnbound, SendUnchecked, SendIsFine, ReceiveIsFine}
+use Rattle.wasi_walks.proofs.licence.State.{Names, UdpUnchecked, UdpBindIsFine, UdpProgressIsFine, OpenIsFine, LineNames, OfTcp, OfUdp, IfOp, ConnectUnbound, ConnectWhole, UdpConnectIsFine, UdpConnectLeft, IsFor, SendLeft, SendRefused, SendUnbound, SendUnchecked, SendIsFine, ReceiveIsFine}
 use Rattle.wasi_walks.proofs.licence.Frames.{same_record}
 use Rattle.wasi_walks.proofs.fits.UdpFits.{kept_op}
 use Rattle.wasi_walks.proofs.licence.UdpFrames.{same_udp}
@@ -21,6 +21,7 @@ use Rattle.wasi_world.specs.declared.ids.Ids.{Ids}
 use Rattle.wasi_world.specs.declared.ids.OpId.{OpId}
 use Rattle.wasi_world.specs.declared.datagram.OutgoingDatagram.{OutgoingDatagram}
 use Rattle.wasi_udp.specs.Send.{is_sendable, where_to, send_to, send_left, send_first, send_start}
+use Rattle.wasi_udp.specs.Connect as udp_connect
 use Rattle.wasi_udp.specs.Receive.{IsLeftOfReceive, receive_left, receive_first, receive_start}
 use Rattle.wasi_udp.specs.Shape.{Socket}
 use Rattle.wasi_host.specs.Standing.{standing_as}
@@ -152,22 +153,26 @@ module _ (contexts : List WasiSocketsCtx) (steps : List Step) (line : ℕ) (orig
   pub names_part : (es : List Entry) (n : ℕ) (side : OpId) → Names steps es (own_of line) side → Names steps es (part_of line n) side
   names_part es n side k = record { origin = k.origin; at = k.at; holds = k.holds }
 
-  pub begins_udp_connect : (es : List Entry) (h : Here) (place : ℕ) (o : OpenUdp) (a : IpSocketAddress) → h.at ≡ Some (place, line) → FoundUdp h place (UdpRecord.Open o) → IsUdpConnectTo a origin → o.inner.bound ≡ true → Licensed contexts steps line origin es h
-      → Licensed contexts steps line origin es (record (put_udp h place (UdpRecord.Open (record o { connecting = Some (begun_udp_connect (own_of line) o a) }))) { own = ToConnect place })
-  begins_udp_connect es h place o a at g to b i =
+  -- the first stage of a connect
+  connect_left : (es : List Entry) (op side : OpId) (maker : ℕ) (family : SocketAddressFamily) (a : IpSocketAddress) (bound : Bool) → (bound ≡ true → IsBoundSide es side ⊎ WasDisconnected es side) → UdpConnectLeft es op side maker family a (udp_connect.connect_left family a (udp_connect.connect_first bound))
+  connect_left es op side maker family a true k = ConnectWhole (inl (k refl))
+  connect_left es op side maker family a false k = ConnectUnbound
+
+  pub begins_udp_connect : (es : List Entry) (h : Here) (place : ℕ) (o : OpenUdp) (a : IpSocketAddress) (bound : Bool) → h.at ≡ Some (place, line) → FoundUdp h place (UdpRecord.Open o) → IsUdpConnectTo a origin → (bound ≡ true → o.inner.bound ≡ true) → Licensed contexts steps line origin es h
+      → Licensed contexts steps line origin es (record (put_udp h place (UdpRecord.Open (record o { connecting = Some (begun_udp_connect (own_of line) o a bound) }))) { own = ToConnect place })
+  begins_udp_connect es h place o a bound at g to known i =
       let f = open_at_place es h place o g i in
-      let begun : UdpConnectIsFine steps es (begun_udp_connect (own_of line) o a) = record {
+      let begun : UdpConnectIsFine steps es (begun_udp_connect (own_of line) o a bound) = record {
         addr = a;
         to = record { origin = origin; at = is_line; holds = to };
         udp = f.made.by;
         family = o.inner.family;
         made = UdpCreated o.inner.side Told.Done f.made.created;
         named = i.udp_names place line (UdpRecord.Open o) at g;
-        out = inl (f.bound b);
         last = refl;
-        left = ConnectWhole;
+        left = connect_left es (own_of line) o.inner.side o.inner.maker o.inner.family a bound (λ b. f.bound (known b));
       } in
-      let now = UdpRecord.Open (record o { connecting = Some (begun_udp_connect (own_of line) o a) }) in
+      let now = UdpRecord.Open (record o { connecting = Some (begun_udp_connect (own_of line) o a bound) }) in
       owned es _ (ToConnect place) (λ u. absurd (cc)) (λ x t. absurd t) (put_udp_fine es h place (UdpRecord.Open o) now g refl (record { made = f.made; bound = f.bound; progress = f.progress; connecting = begun; sending = f.sending; receiving = f.receiving }) i)
 
   -- where a datagram goes

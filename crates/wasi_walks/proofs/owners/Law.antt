@@ -298,7 +298,7 @@ module _ (contexts : List WasiSocketsCtx) (line : ℕ) (origin : Step) where
   moves_owns _ _ (walk.RecallsCall h ids call e) i = (i.0, tt)
   moves_owns _ _ (walk.UdpChanges h place o now g p keeps) i = put_open h place o g now i
   moves_owns _ _ (walk.BeginsUdpBind h place o a at g to own) i = put_open h place o g _ i
-  moves_owns _ _ (walk.BeginsUdpConnect h place o a at g to bound none own) i = put_open h place o g _ i
+  moves_owns _ _ (walk.BeginsUdpConnect h place o a bound at g to known none own) i = put_open h place o g _ i
   moves_owns _ _ (walk.BeginsSend h place n o out d bound at g e item known own) i = put_open h place o g _ i
   moves_owns _ _ (walk.BeginsReceive h place n o inc bound at g e is own) i = put_open h place o g _ i
   moves_owns _ _ (walk.CancelsUdpBind h place o op q g e) i = put_open h place o g _ i
@@ -449,6 +449,7 @@ module _ (contexts : List WasiSocketsCtx) (line : ℕ) (origin : Step) where
   polls_owns h _ _ (walk.UdpCreates place create q g) end i = put_none h place (UdpRecord.Creating create) g _ (none_open h place (UdpRecord.Creating create) g refl i) i
   polls_owns h _ _ (walk.UdpBindsOn place o op q g e) end i = put_open h place o g _ i
   polls_owns h _ _ (walk.UdpConnectsOn place o op q g e) end i = put_open h place o g _ i
+  polls_owns h _ _ (walk.UdpReconnectsOn place o op q g e) end i = put_open h place o g _ i
   polls_owns h _ _ (walk.SendsOn place o out op left g e s settles) end i = put_open h place o g _ i
   polls_owns h _ _ (walk.ReceivesOn place o inc op g e s) end i = put_open h place o g _ i
 

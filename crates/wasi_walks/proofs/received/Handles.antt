@@ -106,6 +106,7 @@ stands_so t made was now s i = record { older = i.older; makes = i.makes; stands
 
 goes_under : (t : HandleTable) (call : StandingCall) (r : TcpRecord) → GoesOn call r → CallUnder t call
 goes_under t (StandingCall.UdpConnect place handle) r k = absurd k
+goes_under t (StandingCall.UdpConnect3 place) r k = absurd k
 goes_under t _ r k = tt
 
 -- the handle that the line names is of this record
@@ -132,6 +133,7 @@ moves_under _ _ (walk.StandsUdpBind h ids place face o op quiet at g e) i = stan
 moves_under _ _ (walk.StandsUdpCreate h ids place face create quiet m g) i = stands_so _ _ _ (Some (standing_as ids (StandingCall.UdpCreate place face))) tt i
 moves_under _ _ (walk.StandsDropOutgoing h ids place o quiet at g e) i = stands_so _ _ _ (Some (standing_as ids (StandingCall.DropOutgoing place))) tt i
 moves_under _ _ (walk.StandsBlocking h ids call handles made its) i = stands_so _ _ _ (Some (standing_as ids (StandingCall.Blocking call))) tt i
+moves_under _ _ (walk.StandsConnect h ids place o op quiet at past g e) i = stands_so _ _ _ (Some (standing_as ids (StandingCall.UdpConnect3 place))) tt i
 moves_under _ _ (walk.StandsUdpConnect h ids place handle o op quiet at made g e) i = stands_so _ _ _ (Some (standing_as ids (StandingCall.UdpConnect place handle))) (subst (MakesUnder h.machine.table) made i.makes) i
 moves_under _ _ (walk.Empties h handle kind e none) i = under_without h.machine.table handle h.made (walk.Emptied kind) _ (λ k. tt) i
 moves_under _ _ (walk.Takes h handle none) i = under_without h.machine.table handle h.made h.made _ (makes_without h.machine.table handle h.made) i
@@ -147,6 +149,7 @@ polled_same P h _ _ (walk.Awaits place r l op g e a) end i = i
 polled_same P h _ _ (walk.UdpCreates place create q g) end i = i
 polled_same P h _ _ (walk.UdpBindsOn place o op q g e) end i = i
 polled_same P h _ _ (walk.UdpConnectsOn place o op q g e) end i = i
+polled_same P h _ _ (walk.UdpReconnectsOn place o op q g e) end i = i
 polled_same P h _ _ (walk.SendsOn place o out op left g e s settles) end i = i
 polled_same P h _ _ (walk.ReceivesOn place o inc op g e s) end i = i
 

@@ -6,7 +6,7 @@ use Rattle.wasi_walks.proofs.Words.{allows_weaker, ap, first_state, inl, inr, ma
 use Rattle.wasi_walks.proofs.Words.{with_writer, ℕ, ⊤, ◌+◌, ◌∙◌, ◌≡◌}
 use Rattle.wasi_udp.specs.Create.{Create, after_create as udp_after_create}
 use Rattle.wasi_udp.specs.Receive.{wanting}
-use Rattle.wasi_records.specs.Datagrams.{udp_connect_left}
+use Rattle.wasi_records.specs.Datagrams.{udp_connect_left, udp_reconnect_left}
 use Rattle.wasi_records.specs.Receiving.{receive_left, with_receiving}
 use Rattle.wasi_records.specs.Records.{tcp2_put, tcp2_pushed, udp2_at, udp2_of, udp2_put}
 use Rattle.wasi_walks.proofs.GoneLists.{was_there}
@@ -91,6 +91,11 @@ connected_wanted o op (Waits, items) k = k
 connected_wanted o op (Done given, items) k = tt
 connected_wanted o op (Refused c given, items) k = k
 
+reconnected_wanted : (o : OpenUdp) (op : Operation) (ended : End × List Item) → IncomingWanted o.incoming → IncomingWanted (udp_reconnect_left op o ended).incoming
+reconnected_wanted o op (Waits, items) k = k
+reconnected_wanted o op (Done given, items) k = k
+reconnected_wanted o op (Refused c given, items) k = k
+
 module _ (contexts : List WasiSocketsCtx) (line : ℕ) (origin : Step) where
   abbrev Wants : Here → Type 0
   Wants h = AllWanted h.machine.store.records
@@ -112,7 +117,7 @@ module _ (contexts : List WasiSocketsCtx) (line : ℕ) (origin : Step) where
   moves_wanted _ _ (walk.Joins h c handle place r l new peer is of u g e a) i = push_tcp _ (joined l new peer) (put_tcp _ place _ i)
   moves_wanted _ _ (walk.UdpChanges h place o now g p keeps) i = put_udps _ place (UdpRecord.Open now) (plain_wanted o now p (i place (UdpRecord.Open o) g)) i
   moves_wanted _ _ (walk.BeginsUdpBind h place o a at g to own) i = put_udps _ place (UdpRecord.Open _) (i place (UdpRecord.Open o) g) i
-  moves_wanted _ _ (walk.BeginsUdpConnect h place o a at g to bound none own) i = put_udps _ place (UdpRecord.Open _) (i place (UdpRecord.Open o) g) i
+  moves_wanted _ _ (walk.BeginsUdpConnect h place o a bound at g to known none own) i = put_udps _ place (UdpRecord.Open _) (i place (UdpRecord.Open o) g) i
   moves_wanted _ _ (walk.BeginsSend h place n o out d bound at g e is known own) i = put_udps _ place (UdpRecord.Open _) (i place (UdpRecord.Open o) g) i
   moves_wanted _ _ (walk.BeginsReceive h place n o inc bound at g e is own) i = put_udps _ place (UdpRecord.Open _) tt i
   moves_wanted _ _ (walk.CancelsBind h place r op q g e) i = put_tcp _ place _ i
@@ -131,6 +136,7 @@ module _ (contexts : List WasiSocketsCtx) (line : ℕ) (origin : Step) where
   polls_wanted es h op after (walk.UdpCreates place create q g) b i = whatever (λ end. Wants (after end)) (λ end. put_udps _ place _ (created_wanted create end) i) es (poll_asks op)
   polls_wanted es h op after (walk.UdpBindsOn place o _ q g e) b i = whatever (λ end. Wants (after end)) (λ end. put_udps _ place (UdpRecord.Open _) (i place (UdpRecord.Open o) g) i) es (poll_asks op)
   polls_wanted es h op after (walk.UdpConnectsOn place o _ q g e) b i = whatever (λ end. Wants (after end)) (λ end. put_udps _ place (UdpRecord.Open (udp_connect_left op o end)) (connected_wanted o op end (i place (UdpRecord.Open o) g)) i) es (poll_asks op)
+  polls_wanted es h op after (walk.UdpReconnectsOn place o _ q g e) b i = whatever (λ end. Wants (after end)) (λ end. put_udps _ place (UdpRecord.Open (udp_reconnect_left op o end)) (reconnected_wanted o op end (i place (UdpRecord.Open o) g)) i) es (poll_asks op)
   polls_wanted es h op after (walk.SendsOn place o out _ left g e f s) b i = whatever (λ end. Wants (after end)) (λ end. put_udps _ place (UdpRecord.Open _) (i place (UdpRecord.Open o) g) i) es (poll_asks op)
   polls_wanted es h _ _ (walk.ReceivesOn place o inc op g e f) b i =
       let its : ReceiveOn o.inner.side op = subst (FitReceiving o.inner.side) (ap receiving_in e ∙ ap receive_op f) (b.0.udps place (UdpRecord.Open o) g).3 in

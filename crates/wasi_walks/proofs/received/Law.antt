@@ -9,7 +9,7 @@ use Rattle.wasi_udp.specs.Create.{Create, create_cancel_asks, new_create, after_
 use Rattle.wasi_udp.specs.Connect.{with_given}
 use Rattle.wasi_udp.specs.Receive.{receive_first, receive_left as left_of_receive, wanting}
 use Rattle.wasi_udp.specs.Send.{at_remote}
-use Rattle.wasi_records.specs.Datagrams.{udp_connect_left, with_sending}
+use Rattle.wasi_records.specs.Datagrams.{udp_connect_left, udp_reconnect_left, with_sending}
 use Rattle.wasi_records.specs.Receiving.{receive_left, with_receiving}
 use Rattle.wasi_host.specs.Kinds.{udp_kind}
 use Rattle.wasi_records.specs.Records.{tcp2_put, udp2_put}
@@ -97,6 +97,11 @@ module _ (side : OpId) (from : ℕ) where
   connected_late fs o op (Done given, items) k = λ e. tt
   connected_late fs o op (Refused c given, items) k = given_late fs o given k
 
+  reconnected_late : (fs : List Entry) (o : OpenUdp) (op : Operation) (ended : End × List Item) → UdpLate side from fs (UdpRecord.Open o) → UdpLate side from fs (UdpRecord.Open (udp_reconnect_left op o ended))
+  reconnected_late fs o op (Waits, items) k = k
+  reconnected_late fs o op (Done given, items) k = given_late fs o given k
+  reconnected_late fs o op (Refused c given, items) k = given_late fs o given k
+
   -- a receive is polled
   polled_receive : (Exact : Type 0) (at : ℕ) (es : List Entry) (h : Here) (place : ℕ) (o : OpenUdp) (inc : Incoming) (op : Operation) → FoundUdp h place (UdpRecord.Open o) → o.incoming ≡ Some inc → inc.receiving ≡ Receiving.InProgress op → ReceiveOn o.inner.side op → Keeps es h.machine.store.records → at ≤ length es
       → (Exact → IncomingLate at es o.inner.side o.incoming) → Allows (OnlyOf o.inner.side) (λ fs ended. Exact → ReceivingLate at fs o.inner.side (receive_left op ended)) es (poll_asks (wanting inc.remote op))
@@ -164,7 +169,7 @@ module _ (side : OpId) (from : ℕ) where
     moves_late es _ _ (walk.Joins h c handle place r l new peer is of u g e a) i = push_tcp side from es _ (joined l new peer) (put_tcp side from es _ place _ i)
     moves_late es _ _ (walk.UdpChanges h place o now g p keeps) i = put_udps side from es _ place (UdpRecord.Open now) (plain_late side from es o now p (i.udps place (UdpRecord.Open o) g)) i
     moves_late es _ _ (walk.BeginsUdpBind h place o a at g to own) i = put_udps side from es _ place (UdpRecord.Open _) (i.udps place (UdpRecord.Open o) g) i
-    moves_late es _ _ (walk.BeginsUdpConnect h place o a at g to bound none own) i = put_udps side from es _ place (UdpRecord.Open _) (i.udps place (UdpRecord.Open o) g) i
+    moves_late es _ _ (walk.BeginsUdpConnect h place o a bound at g to known none own) i = put_udps side from es _ place (UdpRecord.Open _) (i.udps place (UdpRecord.Open o) g) i
     moves_late es _ _ (walk.BeginsSend h place n o out d bound at g e is known own) i = put_udps side from es _ place (UdpRecord.Open _) (i.udps place (UdpRecord.Open o) g) i
     moves_late es _ _ (walk.BeginsReceive h place n o inc bound at g e is own) i = put_udps side from es _ place (UdpRecord.Open _) (λ q. begun_empty from es (part_of line n) side bound) i
     moves_late es _ _ (walk.CancelsBind h place r op q g e) i = put_tcp side from es _ place _ i
@@ -190,6 +195,8 @@ module _ (side : OpId) (from : ℕ) where
         polled_udp es h place (UdpRecord.Open o) op (λ ended. UdpRecord.Open (with_udp_progress o (udp_bind_progress op ended))) g (λ fs ended k. k) (udp_bind_silent side (IsHeld side h.machine.store.records) NoName op.who op.left its.bind.left) i
     polls_late es h _ _ (walk.UdpConnectsOn place o op q g e) b keeps i = let its : UdpConnectOn o.inner.side op = subst (FitConnecting o.inner.side) e (b.0.udps place (UdpRecord.Open o) g).1 in
         polled_udp es h place (UdpRecord.Open o) op (λ ended. UdpRecord.Open (udp_connect_left op o ended)) g (λ fs ended k. connected_late fs o op ended k) (udp_connect_silent side (IsHeld side h.machine.store.records) NoName op.who (λ x n. n) op.left its.connect.left) i
+    polls_late es h _ _ (walk.UdpReconnectsOn place o op q g e) b keeps i = let its : UdpConnectOn o.inner.side op = subst (FitConnecting o.inner.side) e (b.0.udps place (UdpRecord.Open o) g).1 in
+        polled_udp es h place (UdpRecord.Open o) op (λ ended. UdpRecord.Open (udp_reconnect_left op o ended)) g (λ fs ended k. reconnected_late fs o op ended k) (udp_connect_silent side (IsHeld side h.machine.store.records) NoName op.who (λ x n. n) op.left its.connect.left) i
     polls_late es h _ _ (walk.SendsOn place o out op left g e f s) b keeps i =
         let its : SendOn o.inner.side op = subst (FitSending o.inner.side) (ap sending_in e ∙ ap send_op f) (b.0.udps place (UdpRecord.Open o) g).2 in
         polled_udp es h place (UdpRecord.Open o) (at_remote o.inner.remote op) (λ ended. UdpRecord.Open (record o { outgoing = Some (with_sending out (left ended)) })) g (λ fs ended k. k) (send_silent side (IsHeld side h.machine.store.records) NoName op.who op.left its.send.left) i

@@ -64,6 +64,7 @@ module _ (side : OpId) (Held : Type 0) (Names : OpId → Type 0) (who : Who) whe
 
   -- a connect of a UDP socket
   pub udp_connect_silent : (Held → Names who.id → ⊥) → (items : List Item) → binding.IsLeftOfUdpConnect items → AreSilent side Held Names who items
+  udp_connect_silent n _ (binding.ConnectUnbound family a) = (tt, (tt, (n, (tt, tt))))
   udp_connect_silent n _ (binding.ConnectUnchecked family a) = (tt, (n, (tt, tt)))
   udp_connect_silent n _ (binding.ConnectSendChecked family a) = (n, (tt, tt))
 

@@ -4,9 +4,10 @@ use Rattle.wasi_walks.proofs.Words.{IsMaker, Item, LastAsk, List, None, Nothing,
 use Rattle.wasi_walks.proofs.Words.{SocketAddressFamily, Some, Told, Verdict, Waits, Who, [], allows_polls, ap, bind, entry, false}
 use Rattle.wasi_walks.proofs.Words.{front, if◌then◌else◌, inl, inr, is_wildcard, last_ask, poll_asks, refl, subst, sym, told_addr, told_done}
 use Rattle.wasi_walks.proofs.Words.{told_verdict, true, verdict_front, ℕ, ◌++◌, ◌∙◌, ◌∷◌, ◌≡◌}
-use Rattle.wasi_addr.specs.declared.address.SocketAddrUse.TheVariants.{UdpSend, UdpReceive}
+use Rattle.wasi_addr.specs.Address.{wildcard}
+use Rattle.wasi_addr.specs.declared.address.SocketAddrUse.TheVariants.{UdpBind, UdpSend, UdpReceive}
 use Rattle.wasi_world.specs.Operation.{Front, UdpConnect, ask_peer_front, peer_front, remote_told}
-use Rattle.wasi_udp.specs.Connect.{with_given}
+use Rattle.wasi_udp.specs.Connect.{connect_first, connect_left, with_given}
 use Rattle.wasi_udp.specs.Shape.{Socket}
 use Rattle.wasi_walks.specs.Licence.{IsLastPeer, IsRemote}
 use Rattle.wasi_walks.proofs.Lists.{cut_more, has_split}
@@ -58,10 +59,16 @@ told_kept es op ctx family side _ m = none_kept _ side None refl
 -- == a connect
 -- what is left of a connect of a socket of this family, and what it gave
 pub data ConnectLeft (family : SocketAddressFamily) : Given → List Item → Type 0 where
+  Unbound : (a : IpSocketAddress) → ConnectLeft family Nothing (Check (wildcard family) UdpBind ∷ Check a UdpSend ∷ Check a UdpReceive ∷ UdpConnect family a ∷ [])
   Whole : (a : IpSocketAddress) → ConnectLeft family Nothing (Check a UdpSend ∷ Check a UdpReceive ∷ UdpConnect family a ∷ [])
   SendChecked : (a : IpSocketAddress) → ConnectLeft family Nothing (Check a UdpReceive ∷ UdpConnect family a ∷ [])
   Checked : (a : IpSocketAddress) → ConnectLeft family Nothing (UdpConnect family a ∷ [])
   Over : (given : Given) → ConnectLeft family given []
+
+-- its first stage
+pub connects_whole : (family : SocketAddressFamily) (a : IpSocketAddress) (bound : Bool) → ConnectLeft family Nothing (connect_left family a (connect_first bound))
+connects_whole family a true = Whole a
+connects_whole family a false = Unbound a
 
 module _ (who : Who) (ctx : ℕ) (family : SocketAddressFamily) (socket : Socket) where
   -- no remote address but that of its own network socket
@@ -142,6 +149,7 @@ module _ (who : Who) (ctx : ℕ) (family : SocketAddressFamily) (socket : Socket
   -- each front ask
   connect_front : (es : List Entry) (given : Given) (i : Item) (items : List Item) → Known es given → ConnectLeft family given (i ∷ items) → Allows AsksOwn (λ fs f. Keeps items fs f) es (front who i)
   unfolding bind
+  connect_front es _ _ _ k (Unbound a) = (own_if _ tt, λ t fits. by_verdict _ _ _ (told_verdict t) (known_more es _ _ t Nothing tt k) (Unbound a) (Whole a))
   connect_front es _ _ _ k (Whole a) = (own_if _ tt, λ t fits. by_verdict _ _ _ (told_verdict t) (known_more es _ _ t Nothing tt k) (Whole a) (SendChecked a))
   connect_front es _ _ _ k (SendChecked a) = (own_if _ tt, λ t fits. by_verdict _ _ _ (told_verdict t) (known_more es _ _ t Nothing tt k) (SendChecked a) (Checked a))
   connect_front es _ _ _ k (Checked a) =

@@ -17,7 +17,7 @@ use Rattle.wasi_udp.specs.Connect.{with_given}
 use Rattle.wasi_udp.specs.Create.{Create}
 use Rattle.wasi_udp.specs.Socket.{after_peer}
 use Rattle.wasi_walks.specs.Waiting as binding
-use Rattle.wasi_records.specs.Datagrams.{udp_connect_left, with_sending, with_streams}
+use Rattle.wasi_records.specs.Datagrams.{udp_connect_left, udp_reconnect_left, with_sending, with_streams}
 use Rattle.wasi_records.specs.Receiving.{receive_left, with_receiving}
 use Rattle.wasi_records.specs.Records.{tcp2_put, udp2_at, udp2_put}
 use Rattle.wasi_records.specs.Udp.{udp_bind_progress, udp_create_left, udp_side, with_udp_inner, with_udp_progress}
@@ -228,6 +228,26 @@ connected_keeps fs o op ended s created receiver a = by_end ended a
     by_end (Refused c given, items) a = given_keeps fs o created receiver given
         (known (with_given o.inner given).remote a.1)
 
+-- and of one of 0.3
+reconnected_keeps : (fs : List Entry) (o : OpenUdp) (op : Operation) (ended : End × List Item) → op.who.side ≡
+    o.inner.side → IsCreated fs o.inner.side o.inner.maker o.inner.family → ReceivesFor o.inner.maker
+    (receiving_in o.incoming) → After op.who o.inner.maker o.inner.family o.inner fs ended → UdpKeeps fs
+    (UdpRecord.Open (udp_reconnect_left op o ended))
+reconnected_keeps fs o op ended s created receiver a = by_end ended a
+  where
+    known : (remote : Option IpSocketAddress) → RemoteIs fs op.who.side remote × HasRemote fs op.who.side o.inner.family
+        remote → RemoteIs fs o.inner.side remote × HasRemote fs o.inner.side o.inner.family remote
+    known remote k = subst (λ (x : OpId). RemoteIs fs x remote × HasRemote fs x o.inner.family remote) s k
+
+    by_end : (ended : End × List Item) → After op.who o.inner.maker o.inner.family o.inner fs ended → UdpKeeps fs
+        (UdpRecord.Open (udp_reconnect_left op o ended))
+    by_end (Waits, items) a = let k = known o.inner.remote a.0.1 in record
+        { created = created; remote = k.0; told = k.1; connects = a.1; receiver = receiver }
+    by_end (Done given, items) a = given_keeps fs o created receiver given
+        (known (with_given o.inner given).remote a.1)
+    by_end (Refused c given, items) a = given_keeps fs o created receiver given
+        (known (with_given o.inner given).remote a.1)
+
 -- a socket is put back
 put_back : (fs : List Entry) (records : List Record) (place : ℕ) (out now : UdpRecord) → UdpKeeps fs now → Keeps fs (udp2_put records place out) → Keeps fs (udp2_put records place now)
 put_back fs records place out now k m = subst (Keeps fs) (put_twice udp_sort records place out now) (put_udps fs (udp2_put records place out) place now k m)
@@ -244,6 +264,30 @@ polled_connect line es h place o op g e its n i =
     (λ fs ended. Keeps fs (udp2_put h.machine.store.records place (UdpRecord.Open (udp_connect_left op o ended))))
     (λ fs ended m. put_back fs h.machine.store.records place (forgotten o)
     (UdpRecord.Open (udp_connect_left op o ended)) (connected_keeps fs o op ended on m.0.1 k.receiver m.1) m.0.0) es
+    (poll_asks op)
+    (allows_keep (AsksOwn op.who o.inner.maker o.inner.family o.inner) Anything (λ fs. Keeps fs out × IsCreated fs
+    o.inner.side o.inner.maker o.inner.family) (λ fs ended. After op.who o.inner.maker o.inner.family o.inner fs
+    ended)
+    (λ fs own c t fits m a.
+    (asked fs out own c t (spares_but line h place o c g n (λ x p. sym on ∙ a x p)) m.0, has_front fs _ _ m.1))
+    (λ fs own c a. tt) es (poll_asks op)
+    (put_udps es h.machine.store.records place (forgotten o) tt i, k.created)
+    (connect_poll op.who o.inner.maker o.inner.family o.inner op.left es (subst (IsMaker es o.inner.maker
+    o.inner.family) (sym on) (maker_of es o k)) (subst (λ (x : OpId). RemoteIs es x o.inner.remote × HasRemote es x
+    o.inner.family o.inner.remote) (sym on) (k.remote, k.told)) (subst (ConnectsBy o.inner.family) e k.connects)))
+
+-- one of 0.3 is
+polled_reconnect : (line : ℕ) (es : List Entry) (h : Here) (place : ℕ) (o : OpenUdp) (op : Operation) → FoundUdp h place (UdpRecord.Open o) → o.connecting ≡ Some op → UdpConnectOn o.inner.side op → Named line h → Keeps es h.machine.store.records
+    → Allows Anything (λ fs ended. Keeps fs (udp2_put h.machine.store.records place (UdpRecord.Open (udp_reconnect_left op o ended)))) es (poll_asks op)
+polled_reconnect line es h place o op g e its n i =
+    let k : OpenKeeps es o = i.udps place (UdpRecord.Open o) g in
+    let out : List Record = udp2_put h.machine.store.records place (forgotten o) in
+    let on : op.who.side ≡ o.inner.side = its.of_side in
+    allows_weaker Anything (λ fs ended. (Keeps fs out × IsCreated fs o.inner.side o.inner.maker o.inner.family) × After
+    op.who o.inner.maker o.inner.family o.inner fs ended)
+    (λ fs ended. Keeps fs (udp2_put h.machine.store.records place (UdpRecord.Open (udp_reconnect_left op o ended))))
+    (λ fs ended m. put_back fs h.machine.store.records place (forgotten o)
+    (UdpRecord.Open (udp_reconnect_left op o ended)) (reconnected_keeps fs o op ended on m.0.1 k.receiver m.1) m.0.0) es
     (poll_asks op)
     (allows_keep (AsksOwn op.who o.inner.maker o.inner.family o.inner) Anything (λ fs. Keeps fs out × IsCreated fs
     o.inner.side o.inner.maker o.inner.family) (λ fs ended. After op.who o.inner.maker o.inner.family o.inner fs
@@ -299,6 +343,8 @@ polls_keep contexts line origin es h _ _ (walk.UdpBindsOn place o op q g e) b i 
     polled_udp es h place (UdpRecord.Open o) op (λ ended. UdpRecord.Open (with_udp_progress o (udp_bind_progress op ended))) g (λ fs ended k. same_open fs o _ refl refl refl k) (udp_bind_silent op.left its.bind.left) i
 polls_keep contexts line origin es h _ _ (walk.UdpConnectsOn place o op q g e) b i =
     polled_connect line es h place o op g e (subst (FitConnecting o.inner.side) e (b.0.udps place (UdpRecord.Open o) g).1) b.1 i
+polls_keep contexts line origin es h _ _ (walk.UdpReconnectsOn place o op q g e) b i =
+    polled_reconnect line es h place o op g e (subst (FitConnecting o.inner.side) e (b.0.udps place (UdpRecord.Open o) g).1) b.1 i
 polls_keep contexts line origin es h _ _ (walk.SendsOn place o out op left g e f s) b i =
     let its : SendOn o.inner.side op = subst (FitSending o.inner.side) (ap sending_in e ∙ ap send_op f) (b.0.udps place (UdpRecord.Open o) g).2 in
     polled_udp es h place (UdpRecord.Open o) (at_remote o.inner.remote op) (λ ended. UdpRecord.Open (record o { outgoing = Some (with_sending out (left ended)) })) g (λ fs ended k. same_open fs o _ refl refl refl k) (send_silent op.left its.send.left) i

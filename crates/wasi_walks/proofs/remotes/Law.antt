@@ -29,7 +29,7 @@ use Rattle.wasi_walks.proofs.walks.Moves.{Interface, tcp_kind, closed_record, ud
 use Rattle.wasi_walks.proofs.remotes.Held.{peer_keeps, polls_keep}
 use Rattle.wasi_walks.proofs.remotes.Polls.{AreSilent, NoPeer, Unpeered, silent_poll}
 use Rattle.wasi_walks.proofs.remotes.Along.{has_made}
-use Rattle.wasi_walks.proofs.remotes.ConnectPolls.{Whole}
+use Rattle.wasi_walks.proofs.remotes.ConnectPolls.{connects_whole}
 use Rattle.wasi_walks.proofs.remotes.State.{JobBy, Keeps, OpenKeeps, ReadsBy, ReceivesFor, TcpKeeps, WritesBy, asked, kept, push_tcp, push_udps, put_tcp, put_udps, quiet, records_keep, fewer_keep, same_streams, spares_none, with_none, with_these, writer_moves, Spares}
 
 -- == what is asked of a network socket of TCP is asked of none of UDP
@@ -213,9 +213,9 @@ module _ (contexts : List WasiSocketsCtx) (line : ℕ) (origin : Step) where
   moves_keep es _ _ (walk.BeginsUdpBind h place o a at g to own) b i = let k = i.udps place (UdpRecord.Open o) g in
       put_udps es _ place (UdpRecord.Open _)
       (record { created = k.created; remote = k.remote; told = k.told; connects = k.connects; receiver = k.receiver }) i
-  moves_keep es _ _ (walk.BeginsUdpConnect h place o a at g to bound none own) b i = let k = i.udps place
+  moves_keep es _ _ (walk.BeginsUdpConnect h place o a bound at g to known none own) b i = let k = i.udps place
       (UdpRecord.Open o) g in put_udps es _ place (UdpRecord.Open _)
-      (record { created = k.created; remote = k.remote; told = k.told; connects = Whole a; receiver = k.receiver }) i
+      (record { created = k.created; remote = k.remote; told = k.told; connects = connects_whole o.inner.family a bound; receiver = k.receiver }) i
   moves_keep es _ _ (walk.BeginsSend h place n o out d bound at g e is known own) b i = let k = i.udps place
       (UdpRecord.Open o) g in put_udps es _ place (UdpRecord.Open _)
       (record { created = k.created; remote = k.remote; told = k.told; connects = k.connects; receiver = k.receiver }) i

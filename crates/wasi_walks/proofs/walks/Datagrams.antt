@@ -116,15 +116,15 @@ udp_kind (Some (kinds.Udp2 n)) place e = ap (λ (o : Option ℕ). option_kind o)
 udp_kind _ place e = absurd (cc)
 
 -- the socket is so, and the line has begun its operation; while the connect goes on, it is that
-abbrev Ends : Here → ℕ → Result (Answer (Unit {0})) ErrorCode × OpenUdp → Here
+abbrev pub Ends : Here → ℕ → Result (Answer (Unit {0})) ErrorCode × OpenUdp → Here
 Ends h place (Ok Pending, o) = record (put_udp h place (UdpRecord.Open o)) { own = ToConnect place }
 Ends h place (_, o) = record (put_udp h place (UdpRecord.Open o)) { own = Used }
 
 -- its connect goes on by the line
-abbrev Going : Here → ℕ → Here
+abbrev pub Going : Here → ℕ → Here
 Going h place = record h { own = ToConnect place }
 
-goes : {h : Here} {place : ℕ} → HasUdp h place → HasUdp (Going h place) place
+pub goes : {h : Here} {place : ℕ} → HasUdp h place → HasUdp (Going h place) place
 goes here = record { was = here.was; at = here.at }
 
 -- the streams of a socket are to be made under its handle
@@ -205,7 +205,7 @@ module _ {contexts : List WasiSocketsCtx} {line : ℕ} {origin : Step} {law : La
         by_test true =
             let op : Operation = connect_start (own_of line) o.inner a true in
             let now : OpenUdp = record o { connecting = Some op } in
-            move (BeginsUdpConnect _ place o a at (udp_found here (UdpRecord.Open o)) to bound none free)
+            move (BeginsUdpConnect _ place o a true at (udp_found here (UdpRecord.Open o)) to (λ e. bound) none free)
             (from (ap (λ (x : Here). record x { own = ToConnect place }) (sym (udp_put_put h place (UdpRecord.Open o) (UdpRecord.Open now)))) (polled_by here quiet now (Some op) refl))
 
     -- with a disconnect, where the socket is connected

@@ -85,6 +85,7 @@ with_records h records = record h { machine = record h.machine { store = record 
 -- a connect of the record is pending
 abbrev pub IsConnectOf : StandingCall → ℕ → Type 0
 IsConnectOf (StandingCall.UdpConnect p handle) place = p ≡ place
+IsConnectOf (StandingCall.UdpConnect3 p) place = p ≡ place
 IsConnectOf _ place = ⊥
 
 abbrev pub ConnectStands : Option Standing → ℕ → Type 0
@@ -106,6 +107,7 @@ no_open h place e o op g c = absurd (let its : open_at h.machine.store.records p
 -- a call that is none takes over nothing
 abbrev pub NoConnectIn : StandingCall → Type 0
 NoConnectIn (StandingCall.UdpConnect place handle) = ⊥
+NoConnectIn (StandingCall.UdpConnect3 place) = ⊥
 NoConnectIn _ = ⊤
 
 pub takes_none : (standing : Option Standing) (ids : Ids) (call : StandingCall) (own : Own) → standing ≡ Some (standing_as ids call) → NoConnectIn call → (place : ℕ) → ConnectStands standing place → own ≡ ToConnect place
@@ -113,6 +115,7 @@ takes_none standing ids call own e n place k = absurd (by_call call n (subst (λ
   where
     by_call : (call : StandingCall) → NoConnectIn call → IsConnectOf call place → ⊥
     by_call (StandingCall.UdpConnect p handle) n k = n
+    by_call (StandingCall.UdpConnect3 p) n k = n
     by_call _ n k = k
 
 -- == what may be released

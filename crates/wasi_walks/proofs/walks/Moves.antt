@@ -23,7 +23,7 @@ use Rattle.wasi_world.specs.declared.datagram.IncomingDatagram.{IncomingDatagram
 use Rattle.wasi_world.specs.declared.datagram.OutgoingDatagram.{OutgoingDatagram}
 use Rattle.wasi_world.specs.Operation.{Given, Waits, Done, Refused}
 use Rattle.wasi_records.specs.Binding.{left_of}
-use Rattle.wasi_records.specs.Datagrams.{has_streams, sends, udp_connect_left, with_sending}
+use Rattle.wasi_records.specs.Datagrams.{has_streams, sends, udp_connect_left, udp_reconnect_left, with_sending}
 use Rattle.wasi_records.specs.Receiving.{receive_left, with_receiving}
 use Rattle.wasi_records.specs.declared.datagrams.Incoming.{Incoming as IncomingStream}
 use Rattle.wasi_records.specs.declared.datagrams.Outgoing.{Outgoing as OutgoingStream}
@@ -406,9 +406,9 @@ udp_begun h (Err c) = record h { own = Used }
 abbrev pub begun_udp_bind : OpId → OpenUdp → IpSocketAddress → Operation
 begun_udp_bind own o a = udp_bind_operation (asker_of own o.inner) a UdpBindStage.Check
 
--- a connect of a socket that is bound
-abbrev pub begun_udp_connect : OpId → OpenUdp → IpSocketAddress → Operation
-begun_udp_connect own o a = connect_start own o.inner a true
+-- a connect of a socket that is bound, or of one of 0.3 that isn't
+abbrev pub begun_udp_connect : OpId → OpenUdp → IpSocketAddress → Bool → Operation
+begun_udp_connect own o a bound = connect_start own o.inner a bound
 
 -- a datagram, and a receive, of a socket that is bound or not
 abbrev pub sending_now : OpenUdp → OutgoingStream → Operation → OpenUdp
@@ -467,10 +467,13 @@ pub data Move (line : ℕ) (origin : Step) : Here → Here → Type 0 where
   RemembersStreams : (h : Here) (c handle place : ℕ) (remote : Option IpSocketAddress) → origin ≡ Step.Call c (GuestCall.UdpStream handle remote) → udp_of (kind_at h.machine.table handle) ≡ Some place → (o : OpenUdp) → FoundUdp h place (UdpRecord.Open o) → has_streams o ≡ false
       → Move line origin h (record h { made = ToStream line handle place })
   RecallsStreams : (h : Here) (ids : Ids) (place handle : ℕ) → h.machine.store.standing ≡ Some (standing_as ids (StandingCall.UdpConnect place handle)) → h.own ≡ Unused → Move line origin h (record h { made = ToStream ids.line handle place; own = ToConnect place })
-  BeginsUdpConnect : (h : Here) (place : ℕ) (o : OpenUdp) (a : IpSocketAddress) → h.at ≡ Some (place, line) → FoundUdp h place (UdpRecord.Open o) → IsUdpConnectTo a origin → o.inner.bound ≡ true → has_streams o ≡ false → h.own ≡ Unused
-      → Move line origin h (record (put_udp h place (UdpRecord.Open (record o { connecting = Some (begun_udp_connect (own_of line) o a) }))) { own = ToConnect place })
+  BeginsUdpConnect : (h : Here) (place : ℕ) (o : OpenUdp) (a : IpSocketAddress) (bound : Bool) → h.at ≡ Some (place, line) → FoundUdp h place (UdpRecord.Open o) → IsUdpConnectTo a origin → (bound ≡ true → o.inner.bound ≡ true) → has_streams o ≡ false → h.own ≡ Unused
+      → Move line origin h (record (put_udp h place (UdpRecord.Open (record o { connecting = Some (begun_udp_connect (own_of line) o a bound) }))) { own = ToConnect place })
   EndsConnect : (h : Here) (place : ℕ) → h.own ≡ ToConnect place → ConnectIsOver h place → Move line origin h (record h { own = Used })
   StandsUdpConnect : (h : Here) (ids : Ids) (place handle : ℕ) (o : OpenUdp) (op : Operation) → NoStart h → h.at ≡ Some (place, ids.line) → h.made ≡ ToStream ids.line handle place → FoundUdp h place (UdpRecord.Open o) → o.connecting ≡ Some op → Move line origin h (record h { machine = record h.machine { store = record h.machine.store { standing = Some (standing_as ids (StandingCall.UdpConnect place handle)) } } })
+  -- one of 0.3, which makes no streams
+  RecallsConnect : (h : Here) (ids : Ids) (place : ℕ) → h.machine.store.standing ≡ Some (standing_as ids (StandingCall.UdpConnect3 place)) → h.own ≡ Unused → Move line origin h (record h { own = ToConnect place })
+  StandsConnect : (h : Here) (ids : Ids) (place : ℕ) (o : OpenUdp) (op : Operation) → NoStart h → h.at ≡ Some (place, ids.line) → h.made ≡ Past → FoundUdp h place (UdpRecord.Open o) → o.connecting ≡ Some op → Move line origin h (record h { machine = record h.machine { store = record h.machine.store { standing = Some (standing_as ids (StandingCall.UdpConnect3 place)) } } })
   StandsDropOutgoing : (h : Here) (ids : Ids) (place : ℕ) (o : OpenUdp) → NoStart h → h.at ≡ Some (place, ids.line) → FoundUdp h place (UdpRecord.Open o) → sends o.outgoing ≡ true → Move line origin h (record h { machine = record h.machine { store = record h.machine.store { standing = Some (standing_as ids (StandingCall.DropOutgoing place)) } } })
   -- accepts and datagrams: each has the next name of the line
   Counts : (h : Here) → h.own ≡ Unused → Move line origin h (record h { own = Names 1 })
@@ -513,5 +516,6 @@ pub data Held (h : Here) : Operation → (End × List Item → Here) → Type 0 
   UdpCreates : (place : ℕ) (create : Create) → NoStart h → FoundUdp h place (UdpRecord.Creating create) → Held h create.operation (λ ended. put_udp h place (udp_create_left create ended))
   UdpBindsOn : (place : ℕ) (o : OpenUdp) (op : Operation) → NoStart h → FoundUdp h place (UdpRecord.Open o) → o.in_progress ≡ UdpInProgress.Binding op → Held h op (λ ended. put_udp h place (UdpRecord.Open (with_udp_progress o (udp_bind_progress op ended))))
   UdpConnectsOn : (place : ℕ) (o : OpenUdp) (op : Operation) → NoStart h → FoundUdp h place (UdpRecord.Open o) → o.connecting ≡ Some op → Held h op (λ ended. put_udp h place (UdpRecord.Open (udp_connect_left op o ended)))
+  UdpReconnectsOn : (place : ℕ) (o : OpenUdp) (op : Operation) → NoStart h → FoundUdp h place (UdpRecord.Open o) → o.connecting ≡ Some op → Held h op (λ ended. put_udp h place (UdpRecord.Open (udp_reconnect_left op o ended)))
   SendsOn : (place : ℕ) (o : OpenUdp) (out : OutgoingStream) (op : Operation) (left : End × List Item → Sending) → FoundUdp h place (UdpRecord.Open o) → o.outgoing ≡ Some out → out.sending ≡ Sending.InProgress op → SettlesSend op left → Held h (at_remote o.inner.remote op) (λ ended. put_udp h place (UdpRecord.Open (record o { outgoing = Some (with_sending out (left ended)) })))
   ReceivesOn : (place : ℕ) (o : OpenUdp) (inc : IncomingStream) (op : Operation) → FoundUdp h place (UdpRecord.Open o) → o.incoming ≡ Some inc → inc.receiving ≡ Receiving.InProgress op → Held h (wanting inc.remote op) (λ ended. put_udp h place (UdpRecord.Open (record o { incoming = Some (with_receiving inc (receive_left op ended)) })))

@@ -15,7 +15,7 @@ use Rattle.std.specs.Prelude.{⊤, ◌⊎◌}
 use Rattle.wasi_walks.proofs.walks.Writes.{may, AsLet}
 use Rattle.wasi_walks.proofs.Words.{ap}
 use Rattle.wasi_walks.proofs.walks.Here.{ConnectStands, takes_none}
-use Rattle.wasi_walks.proofs.walks.Moves.{ToConnect, CallsHandles, Here, IsStreamCall, NoStartStands, OfStreams, RecallsCall, IsSettled, Own, Unused, ANetwork, Spends, Used, Leaves, RecallsStreams, Resumes, Unstands}
+use Rattle.wasi_walks.proofs.walks.Moves.{ToConnect, CallsHandles, Here, IsStreamCall, NoStartStands, OfStreams, RecallsCall, IsSettled, Own, Unused, ANetwork, Spends, Used, Leaves, RecallsConnect, RecallsStreams, Resumes, Unstands}
 use Rattle.wasi_walks.proofs.walks.Law.{BeginsWrites, Law, Walks, give, and_then, and_given, by_if, move, gives, mark, create, put_same, from}
 use Rattle.wasi_walks.proofs.walks.Sockets.{WaitsSo, get_walks, listen_given, poll_bind_walks, poll_listen_walks, polled_given}
 use Rattle.wasi_walks.proofs.walks.Streams.{subscribe_walks, drop_walks, turn_walks, drop_output_walks}
@@ -50,6 +50,7 @@ use Rattle.wasi_p3.specs.Tcp as p3
 use Rattle.wasi_walks.proofs.walks.Binds.{p3_bind_walks, p3_udp_bind_walks, rebind_walks, udp_rebind_walks}
 use Rattle.wasi_host.specs.Beside.{beside_of}
 use Rattle.wasi_walks.proofs.walks.Connects.{p3_connect_walks, resume_beside_walks}
+use Rattle.wasi_walks.proofs.walks.UdpConnects.{p3_udp_connect_walks, udp_reconnect_walks}
 use Rattle.wasi_walks.proofs.walks.P3Steps.{p3_get_walks, p3_local_walks, p3_remote_walks, p3_set_walks}
 use Rattle.wasi_walks.proofs.walks.Moves.{AwaitsCreate, Interface, P2, P3, Recalled}
 use Rattle.wasi_walks.proofs.walks.Cancels.{cancel_walks}
@@ -60,6 +61,7 @@ use Rattle.wasi_walks.proofs.walks.Splices.{splice_walks}
 abbrev MakesNoHandle : StandingCall → Type 0
 MakesNoHandle (StandingCall.UdpCreate place face) = ⊥
 MakesNoHandle (StandingCall.UdpConnect place handle) = ⊥
+MakesNoHandle (StandingCall.UdpConnect3 place) = ⊥
 MakesNoHandle (StandingCall.Blocking call) = ⊥
 MakesNoHandle _ = ⊤
 
@@ -126,6 +128,7 @@ module _ {contexts : List WasiSocketsCtx} {line : ℕ} {origin : Step} {law : La
     go_on_walks (StandingCall.DropOutgoing place) k = drop_outgoing_walks ids m place quiet (λ done. gone_on (with_store m (allowed_answer done))) (dropped_so m)
     go_on_walks (StandingCall.UdpCreate place face) k = absurd k
     go_on_walks (StandingCall.UdpConnect place handle) k = absurd k
+    go_on_walks (StandingCall.UdpConnect3 place) k = absurd k
     go_on_walks (StandingCall.Blocking call) k = absurd k
 
     streamed_walks : (done : Result (Answer (ℕ × ℕ)) Stop × Machine) → Walks law (Over done.1) OverWith (Give (streams_on done))
@@ -134,6 +137,9 @@ module _ {contexts : List WasiSocketsCtx} {line : ℕ} {origin : Step} {law : La
 
     streams_go_on : (place handle : ℕ) → Walks law (Streaming ids.line m place handle (ToConnect place)) OverWith (go_on m ids (StandingCall.UdpConnect place handle))
     streams_go_on place handle = and_then (streams_again ids m place handle quiet) streamed_walks
+
+    connect_goes_on : (place : ℕ) → Walks law (At ids.line m place (ToConnect place)) OverWith (go_on m ids (StandingCall.UdpConnect3 place))
+    connect_goes_on place = and_then (udp_reconnect_walks m ids quiet place) (bound_on_walks P3 place)
 
     create_goes_on : m.store.standing ≡ None → (place : ℕ) (face : Interface) → Walks law (Polling face m place (udp2_at m.store.records place)) OverWith (go_on m ids (StandingCall.UdpCreate place face))
     create_goes_on idle place face = and_then (polled_walks face m place ids idle (udp2_at m.store.records place) refl) (answered_on_walks handle_outcome face)
@@ -162,6 +168,7 @@ module _ {contexts : List WasiSocketsCtx} {line : ℕ} {origin : Step} {law : La
       by_record None g = move (Unstands _ none) (move (Spends _ refl) (from (ap (Polling face now place) g) goes))
   taken_walks m ids (StandingCall.Blocking call) lets e = move (RecallsCall _ ids call e) (move (Unstands _ (takes_none m.store.standing ids (StandingCall.Blocking call) Unused e tt)) (move (Spends _ refl) (unblock_walks ids (record m { store = unstood m.store }) call lets)))
   taken_walks m ids (StandingCall.UdpConnect place handle) lets e = move (Resumes _ (standing_as ids (StandingCall.UdpConnect place handle)) e tt) (move (RecallsStreams _ ids place handle e refl) (move (Unstands _ (λ p k. ap (λ (x : ℕ). ToConnect x) (subst (λ (o : Option Standing). ConnectStands o p) e k))) (streams_go_on ids (record m { store = unstood m.store }) tt place handle)))
+  taken_walks m ids (StandingCall.UdpConnect3 place) lets e = move (Resumes _ (standing_as ids (StandingCall.UdpConnect3 place)) e tt) (move (RecallsConnect _ ids place e refl) (move (Unstands _ (λ p k. ap (λ (x : ℕ). ToConnect x) (subst (λ (o : Option Standing). ConnectStands o p) e k))) (connect_goes_on ids (record m { store = unstood m.store }) tt place)))
   taken_walks m ids (StandingCall.DropOutgoing place) lets e = move (Resumes _ (standing_as ids (StandingCall.DropOutgoing place)) e tt) (move (Unstands _ (takes_none m.store.standing ids (StandingCall.DropOutgoing place) Unused e tt)) (move (Spends _ refl) (go_on_walks ids (record m { store = unstood m.store }) tt (StandingCall.DropOutgoing place) tt)))
   taken_walks m ids (StandingCall.Bind place face) lets e = move (Resumes _ (standing_as ids (StandingCall.Bind place face)) e tt) (move (Unstands _ (takes_none m.store.standing ids (StandingCall.Bind place face) Unused e tt)) (move (Spends _ refl) (go_on_walks ids (record m { store = unstood m.store }) tt (StandingCall.Bind place face) tt)))
   taken_walks m ids (StandingCall.Listen place) lets e = move (Resumes _ (standing_as ids (StandingCall.Listen place)) e tt) (move (Unstands _ (takes_none m.store.standing ids (StandingCall.Listen place) Unused e tt)) (move (Spends _ refl) (go_on_walks ids (record m { store = unstood m.store }) tt (StandingCall.Listen place) tt)))
@@ -233,6 +240,7 @@ step_walks line (Step.Call c (GuestCall.P3TcpGet s option)) m b f = and_then (p3
 step_walks line (Step.Call c (GuestCall.P3TcpSet s setting)) m b f = and_then (p3_set_walks m s (chosen setting) (inl refl) (p3_option_set c s setting) (p3_backlog_set c s setting)) (λ done. give _)
 step_walks {contexts} line (Step.Call c (GuestCall.P3UdpCreate family)) m b f = and_then (and_then (create_udp_walks P3 m (context_at contexts c) family (refl, refl, refl) (f refl)) (λ done. give _)) (λ done. give _)
 step_walks line (Step.Call c (GuestCall.P3UdpBind s a)) m b f = and_then (p3_udp_bind_walks m s a (inl refl) refl (none_stands (f refl))) (λ done. give _)
+step_walks line (Step.Call c (GuestCall.P3UdpConnect s a)) m b f = and_then (p3_udp_connect_walks m s a (inl refl) refl (none_stands (f refl))) (λ done. give _)
 step_walks line (Step.Call c (GuestCall.P3UdpDisconnect s)) m b f = and_then (p3_disconnect_walks m s (inl refl) tt) (λ done. give _)
 step_walks line (Step.Call c (GuestCall.P3UdpLocalAddress s)) m b f = and_then (p3_udp_local_walks m s (inl refl)) (λ done. give _)
 step_walks line (Step.Call c (GuestCall.P3UdpRemoteAddress s)) m b f = gives _ (Spends _ refl)

@@ -2,7 +2,7 @@
 use Rattle.std.specs.Prelude.{◌≡◌, ℕ, true, List, [], ◌∷◌, ◌++◌, Some, None}
 use Rattle.wasi_walks.proofs.Words.{Asks, Ask, Call, End, Entry, Item, Operation, SocketAddressFamily, Step, Told, WasiSocketsCtx}
 use Rattle.wasi_walks.proofs.Words.{ap, bind, entry, ◌∙◌, make_asks, own_of, poll_asks, subst, told_addr}
-use Rattle.wasi_records.specs.Datagrams.{udp_connect_left, with_sending}
+use Rattle.wasi_records.specs.Datagrams.{udp_connect_left, udp_reconnect_left, with_sending}
 use Rattle.wasi_host.specs.Kinds.{kind_at, udp_of}
 use Rattle.wasi_records.specs.Receiving.{receive_left, with_receiving}
 use Rattle.wasi_records.specs.Records.{udp2_at}
@@ -23,7 +23,7 @@ use Rattle.wasi_records.specs.declared.udp.UdpInProgress.{UdpInProgress}
 use Rattle.wasi_records.specs.Udp.{udp_side, udp_create_left, udp_bind_progress, with_udp_inner, with_udp_progress}
 use Rattle.wasi_udp.specs.Create.{Create, new_asks}
 use Rattle.wasi_udp.specs.Socket.{after_local, after_peer}
-use Rattle.wasi_walks.proofs.walks.Moves.{Interface, HasNewStream, Here, MarksNext, put_udp, FoundUdp, IsCreated, NoStart, ReleasesUdp, IsUdpQuestionOf, CreatesUdp, udp_begun, ToSend, part_of, SettlesSend, Unused, Past, Spends, Held, UdpCreates, UdpBindsOn, UdpConnectsOn, SendsOn, ReceivesOn}
+use Rattle.wasi_walks.proofs.walks.Moves.{Interface, HasNewStream, Here, MarksNext, put_udp, FoundUdp, IsCreated, NoStart, ReleasesUdp, IsUdpQuestionOf, CreatesUdp, udp_begun, ToSend, part_of, SettlesSend, Unused, Past, Spends, Held, UdpCreates, UdpBindsOn, UdpConnectsOn, UdpReconnectsOn, SendsOn, ReceivesOn}
 use Rattle.wasi_walks.proofs.walks.Asked.{MarksStream, MarksUdp, Polls, UdpBegins, UdpCloses, UdpDisconnects, UdpLearns, UdpPeers, UdpQuestions}
 use Rattle.wasi_walks.proofs.walks.Law.{Law, Walks, ends, by_if, gives}
 use Rattle.wasi_walks.proofs.Places.{put_again, put_finds, put_twice, udp_sort}
@@ -133,6 +133,10 @@ module _ {contexts : List WasiSocketsCtx} {line : ℕ} {origin : Step} {law : La
 
     pub poll_udp_connect_walks : (o : OpenUdp) (op : Operation) → NoStart h → o.connecting ≡ Some op → Walks law (put_udp h place (UdpRecord.Open o)) (λ ended. put_udp h place (UdpRecord.Open (udp_connect_left op o ended))) (poll_asks op)
     poll_udp_connect_walks o op q e = udp_polled (UdpRecord.Open o) (λ ended. UdpRecord.Open (udp_connect_left op o ended)) (UdpConnectsOn place o op q (udp_found here (UdpRecord.Open o)) e)
+
+    -- one of 0.3
+    pub poll_reconnect_walks : (o : OpenUdp) (op : Operation) → NoStart h → o.connecting ≡ Some op → Walks law (put_udp h place (UdpRecord.Open o)) (λ ended. put_udp h place (UdpRecord.Open (udp_reconnect_left op o ended))) (poll_asks op)
+    poll_reconnect_walks o op q e = udp_polled (UdpRecord.Open o) (λ ended. UdpRecord.Open (udp_reconnect_left op o ended)) (UdpReconnectsOn place o op q (udp_found here (UdpRecord.Open o)) e)
 
     pub poll_send_walks : (o : OpenUdp) (out : Outgoing) (op : Operation) (left : End × List Item → Sending) → o.outgoing ≡ Some out → out.sending ≡ Sending.InProgress op → SettlesSend op left
         → Walks law (put_udp h place (UdpRecord.Open o)) (λ ended. put_udp h place (UdpRecord.Open (record o { outgoing = Some (with_sending out (left ended)) }))) (poll_asks (at_remote o.inner.remote op))
