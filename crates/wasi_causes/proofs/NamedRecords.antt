@@ -183,7 +183,7 @@ module _ (contexts : List WasiSocketsCtx) (line : ℕ) (origin : Step) where
   moves_in _ _ (walk.CancelsBind h place r op q g e) i = put_in h place _ i
   moves_in _ _ (walk.UdpChanges h place o now g p keeps) i = put_udp_in h place (UdpRecord.Open now) i
   moves_in _ _ (walk.BeginsUdpBind h place o a at g to own) i = put_udp_in h place _ i
-  moves_in _ _ (walk.BeginsUdpConnect h place o a at g to bound none own) i = put_udp_in h place _ i
+  moves_in _ _ (walk.BeginsUdpConnect h place o a bound at g to known none own) i = put_udp_in h place _ i
   moves_in _ _ (walk.BeginsSend h place n o out d bound at g e item known own) i = put_udp_in h place _ i
   moves_in _ _ (walk.BeginsReceive h place n o inc bound at g e is own) i = put_udp_in h place _ i
   moves_in _ _ (walk.CancelsUdpBind h place o op q g e) i = put_udp_in h place _ i
@@ -194,6 +194,7 @@ module _ (contexts : List WasiSocketsCtx) (line : ℕ) (origin : Step) where
   moves_in _ _ (walk.Stands h ids call r quiet at g k) i = (goes_in h.machine.store.records call r g k, i.1)
   moves_in _ _ (walk.StandsUdpBind h ids place face o op quiet at g e) i = (udp_goes_in h.machine.store.records place (UdpRecord.Open o) g, i.1)
   moves_in _ _ (walk.StandsUdpCreate h ids place face create quiet made g) i = (udp_goes_in h.machine.store.records place (UdpRecord.Creating create) g, i.1)
+  moves_in _ _ (walk.StandsConnect h ids place o op quiet at past g e) i = (udp_goes_in h.machine.store.records place (UdpRecord.Open o) g, i.1)
   moves_in _ _ (walk.StandsUdpConnect h ids place handle o op quiet at made g e) i = (udp_goes_in h.machine.store.records place (UdpRecord.Open o) g, i.1)
   moves_in _ _ (walk.StandsDropOutgoing h ids place o quiet at g e) i = (udp_goes_in h.machine.store.records place (UdpRecord.Open o) g, i.1)
   moves_in _ _ (walk.StandsBlocking h ids call handles made its) i = (λ place e. absurd (cc), i.1)
@@ -209,6 +210,7 @@ module _ (contexts : List WasiSocketsCtx) (line : ℕ) (origin : Step) where
   polls_in h _ _ (walk.UdpCreates place create q g) end i = put_udp_in h place _ i
   polls_in h _ _ (walk.UdpBindsOn place o op q g e) end i = put_udp_in h place _ i
   polls_in h _ _ (walk.UdpConnectsOn place o op q g e) end i = put_udp_in h place _ i
+  polls_in h _ _ (walk.UdpReconnectsOn place o op q g e) end i = put_udp_in h place _ i
   polls_in h _ _ (walk.SendsOn place o out op left g e s settles) end i = put_udp_in h place _ i
   polls_in h _ _ (walk.ReceivesOn place o inc op g e s) end i = put_udp_in h place _ i
 

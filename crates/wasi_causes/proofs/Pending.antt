@@ -17,7 +17,7 @@ use Rattle.wasi_host.specs.declared.kind.Kind.TheVariants.{PlainInput}
 use Rattle.wasi_udp.specs.Create.{Create, after_create as udp_after_create}
 use Rattle.wasi_walks.proofs.fits.Law.{whatever}
 use Rattle.wasi_walks.proofs.fits.Polls.{Anything}
-use Rattle.wasi_walks.proofs.walks.Moves.{Numbers, AwaitsCreate, CallKind, CallsHandles, Empties, GoesOn, Here, IsCall, IsStreamCall, Joins, LooksAtPollables, OfPollables, OfStreams, Leaves, Made, Move, RecallsCall, RecallsStreams, RemembersStreams, Stands, StandsBlocking, StandsDropOutgoing, StandsUdpBind, StandsUdpConnect, StandsUdpCreate, Unstands, Watches, udp_begun}
+use Rattle.wasi_walks.proofs.walks.Moves.{Numbers, AwaitsCreate, CallKind, CallsHandles, Empties, GoesOn, Here, IsCall, IsStreamCall, Joins, LooksAtPollables, OfPollables, OfStreams, Leaves, Made, Move, RecallsCall, RecallsStreams, RemembersStreams, Stands, StandsBlocking, StandsConnect, StandsDropOutgoing, StandsUdpBind, StandsUdpConnect, StandsUdpCreate, Unstands, Watches, udp_begun}
 use Rattle.wasi_walks.proofs.walks.Runs.{run_ends}
 use Rattle.wasi_walks.proofs.walks.Steps.{machine_walks}
 use Rattle.wasi_steps.specs.Steps.{context_of}
@@ -108,6 +108,7 @@ module _ (contexts : List WasiSocketsCtx) (line : ℕ) (origin : Step) (plain : 
   moves_none _ _ (StandsDropOutgoing h ids place o quiet at g e) i = (tt, i.1)
   moves_none _ _ (RemembersStreams h c handle place remote is of o g none) i = absurd (plain (inl (subst IsUdpStream (sym is) tt)))
   moves_none _ _ (RecallsStreams h ids place handle e own) i = absurd (subst NoStreamsStand e i.0)
+  moves_none _ _ (StandsConnect h ids place o op quiet at past g e) i = (tt, i.1)
   moves_none _ _ (StandsUdpConnect h ids place handle o op quiet at made g e) i = absurd (subst MakesNone made i.1)
   moves_none _ _ (CallsHandles h kind calls quiet) i = absurd (plain (may_call kind origin calls))
   moves_none _ _ (RecallsCall h ids call e) i = absurd (subst NoStreamsStand e i.0)
@@ -286,6 +287,7 @@ module _ (contexts : List WasiSocketsCtx) (m : Machine) (line : ℕ) (inputs : (
         by_call (StandingCall.UdpCreate place face) is = polled_other (no_blocking (StandingCall.UdpCreate place face) is (λ k. k)) stands well
         by_call (StandingCall.UdpBind place face) is = polled_other (no_blocking (StandingCall.UdpBind place face) is (λ k. k)) stands well
         by_call (StandingCall.UdpConnect place handle) is = polled_other (no_blocking (StandingCall.UdpConnect place handle) is (λ k. k)) stands well
+        by_call (StandingCall.UdpConnect3 place) is = polled_other (no_blocking (StandingCall.UdpConnect3 place) is (λ k. k)) stands well
         by_call (StandingCall.DropOutgoing place) is = polled_other (no_blocking (StandingCall.DropOutgoing place) is (λ k. k)) stands well
 
     polled_well : PendingHandleIsLive m → PendingHandleIsLive after

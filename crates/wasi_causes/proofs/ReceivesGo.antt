@@ -18,7 +18,7 @@ use Rattle.wasi_udp.specs.Receive.{IsLeftOfReceive, IsReceive, receive_start, wa
 use Rattle.wasi_udp.specs.Receive as receive
 use Rattle.wasi_udp.specs.Send.{at_remote}
 use Rattle.wasi_udp.specs.Shape.{Socket}
-use Rattle.wasi_records.specs.Datagrams.{udp_connect_left, with_sending}
+use Rattle.wasi_records.specs.Datagrams.{udp_connect_left, udp_reconnect_left, with_sending}
 use Rattle.wasi_records.specs.Numbered.{record_gone}
 use Rattle.wasi_records.specs.Receiving.{receive_left, with_receiving}
 use Rattle.wasi_records.specs.Records.{tcp2_put, tcp2_pushed, udp2_at, udp2_of, udp2_put, udp2_pushed}
@@ -203,7 +203,7 @@ module _ (contexts : List WasiSocketsCtx) (line : ℕ) (origin : Step) where
       (UdpRecord.Open now) (kept_goes _ _ p.receives (i place (UdpRecord.Open o) g))
   moves_go _ _ (walk.BeginsUdpBind h place o a at g to own) i = udp_put h.machine.store.records i place _
       (i place (UdpRecord.Open o) g)
-  moves_go _ _ (walk.BeginsUdpConnect h place o a at g to bound none own) i = udp_put h.machine.store.records i place _
+  moves_go _ _ (walk.BeginsUdpConnect h place o a bound at g to known none own) i = udp_put h.machine.store.records i place _
       (i place (UdpRecord.Open o) g)
   moves_go _ _ (walk.BeginsSend h place n o out d bound at g e is known own) i = udp_put h.machine.store.records i place
       _ (i place (UdpRecord.Open o) g)
@@ -228,6 +228,12 @@ module _ (contexts : List WasiSocketsCtx) (line : ℕ) (origin : Step) where
   connected o op (Waits, items) k = k
   connected o op (Done given, items) k = tt
   connected o op (Refused c given, items) k = k
+
+  reconnected : (o : OpenUdp) (op : Operation) (ended : End × List Item) → GoesIn (UdpRecord.Open o) → GoesIn
+      (UdpRecord.Open (udp_reconnect_left op o ended))
+  reconnected o op (Waits, items) k = k
+  reconnected o op (Done given, items) k = k
+  reconnected o op (Refused c given, items) k = k
 
   polls_go : (es : List Entry) (h : Here) (op : Operation) (after : End × List Item → Here) → Held h op after → Go h →
       Allows Anything (λ fs ended. Go (after ended)) es (poll_asks op)
@@ -263,6 +269,10 @@ module _ (contexts : List WasiSocketsCtx) (line : ℕ) (origin : Step) where
   polls_go es h _ _ (walk.UdpConnectsOn place o op q g e) i = whatever
       (λ end. Go (put_udp h place (UdpRecord.Open (udp_connect_left op o end))))
       (λ end. udp_put h.machine.store.records i place _ (connected o op end (i place (UdpRecord.Open o) g))) es
+      (poll_asks op)
+  polls_go es h _ _ (walk.UdpReconnectsOn place o op q g e) i = whatever
+      (λ end. Go (put_udp h place (UdpRecord.Open (udp_reconnect_left op o end))))
+      (λ end. udp_put h.machine.store.records i place _ (reconnected o op end (i place (UdpRecord.Open o) g))) es
       (poll_asks op)
   polls_go es h _ _ (walk.SendsOn place o out op left g e f s) i = whatever
       (λ end. Go (put_udp h place (UdpRecord.Open (record o { outgoing = Some (with_sending out (left end)) }))))

@@ -31,7 +31,7 @@ use Rattle.wasi_causes.proofs.operations.ConnectPolls.{ConnectRow, udp_connect_g
 use Rattle.wasi_causes.proofs.operations.Marks.{poll_marks_none}
 use Rattle.wasi_causes.specs.Datagrams.{LacksRoomForStreams, PendingHandleIsLive, with_both}
 use Rattle.wasi_host.specs.DatagramCalls.{drop_outgoing_at, drop_outgoing_by, mark_streams, mark_streams_of, reconnect_udp_at, remake_streams_asks, streams_so}
-use Rattle.wasi_records.specs.Datagrams.{poll_udp_connecting, sends, udp_connect_ended, udp_connect_left}
+use Rattle.wasi_records.specs.Datagrams.{poll_udp_connecting, sends, udp_connect_ended, udp_connect_left, udp_reconnect_asks, udp_reconnect_ended, udp_reconnecting}
 use Rattle.wasi_host.specs.Machine.{udp_socket_at}
 use Rattle.wasi_steps.specs.Reply.{pair_fields}
 use Rattle.wasi_causes.proofs.operations.Polls.{CreateFails, create_ends, udp_bind_ends}
@@ -42,6 +42,7 @@ use Rattle.wasi_records.specs.Udp.{opened_udp, poll_create_asks, udp_create_ende
 use Rattle.wasi_host.specs.GivingBack.{given_back}
 use Rattle.wasi_records.specs.declared.records.Record.{Record}
 use Rattle.wasi_causes.proofs.GivenBack.{put_gone}
+use Rattle.wasi_host.specs.UdpConnects.{udp_reconnect_of}
 use Rattle.wasi_host.specs.UdpCalls.{udp_left, with_udp, with_open_udp, udp_call_answered}
 use Rattle.wasi_host.specs.UdpCreates.{create_answered, poll_create_at, create_so, create_on}
 use Rattle.wasi_host.specs.BaseStops.{BaseStop}
@@ -61,7 +62,7 @@ use Rattle.wasi_records.specs.declared.udp.UdpInProgress.{UdpInProgress}
 use Rattle.wasi_records.specs.declared.udp.UdpInProgress.TheVariants as doing
 use Rattle.wasi_udp.specs.Bind.{IsBind as IsUdpBind}
 use Rattle.wasi_udp.specs.Create.{Create, made_by, with_left}
-use Rattle.wasi_walks.specs.Waiting.{CreateFailed, CreateWaits, IsCreating, IsRestOfUdpConnect, IsUdpBinding, IsUdpConnecting, UdpConnectFailed, UdpConnectWaits, UdpBindFailed, UdpBindFails, UdpBindWaits}
+use Rattle.wasi_walks.specs.Waiting.{CreateFailed, CreateWaits, IsCreating, IsRestOfUdpConnect, IsUdpBinding, IsUdpConnecting, UdpConnect3Failed, UdpConnectFailed, UdpConnectWaits, UdpBindFailed, UdpBindFails, UdpBindWaits}
 use Rattle.wasi_records.specs.declared.tcp_listening.Listening.TheVariants as listening
 use Rattle.wasi_host.specs.declared.pending.Outcome.{Outcome as Given}
 use Rattle.wasi_udp.specs.Connect.{with_given}
@@ -90,6 +91,7 @@ gives_none m after (Bind place face) plain same = (refl, same)
 gives_none m after (Listen place) plain same = (refl, same)
 gives_none m after (DropOutput place) plain same = (refl, same)
 gives_none m after (StandingCall.UdpBind place face) plain same = (refl, same)
+gives_none m after (StandingCall.UdpConnect3 place) plain same = (refl, same)
 
 -- the words of its codes: those of its interface
 may_word : (call : StandingCall) (code : ErrorCode) → IsCodeWord (word_for call code) ⊎ IsP3Word (word_for call code)
@@ -97,6 +99,7 @@ may_word (Bind place P3) code = inr (record { code = code; is = refl })
 may_word (Bind place P2) code = inl (code_word code)
 may_word (StandingCall.UdpBind place P3) code = inr (record { code = code; is = refl })
 may_word (StandingCall.UdpBind place P2) code = inl (code_word code)
+may_word (StandingCall.UdpConnect3 place) code = inr (record { code = code; is = refl })
 may_word (StandingCall.UdpCreate place P3) code = inr (record { code = code; is = refl })
 may_word (StandingCall.UdpCreate place P2) code = inl (code_word code)
 may_word _ code = inl (code_word code)
@@ -473,6 +476,46 @@ module _ (contexts : List WasiSocketsCtx) (m : Machine) (line : ℕ) (ids : Ids)
     remakes : Meets PairRow [] (remake_streams_asks (nothing_stands m) ids place handle)
     remakes = chain {Mid = ConnectedRow} (reconnects (open_at m.store.records place) refl) (λ es done k. k)
 
+  -- == of a connect of 0.3
+  module _ (place : ℕ) (stands : Under (StandingCall.UdpConnect3 place)) where
+    abbrev connect_call : StandingCall
+    connect_call = StandingCall.UdpConnect3 place
+
+    abbrev ConnectDue : Rows (Answered × OpenUdp)
+    ConnectDue es begun = Due connect_call stands (λ k. k) es begun.0 (record m { store = with_open_udp free place begun.1 })
+
+    connect_kept : (es : List Entry) (answer : Answer (Unit {0})) (o : OpenUdp) → ConnectDue es (Ok answer, o) → BoundRow P3 es (let so = stood (with_open_udp free place o) ids connect_call answer in (Ok so.0, so.1))
+    connect_kept es Pending o h = waits connect_call stands (λ k. k) es (record m { store = record (with_open_udp free place o) { standing = Some (standing_as ids connect_call) } }) refl refl h
+    connect_kept es (Ready given) o h = done connect_call stands (λ k. k) es (record m { store = with_open_udp free place o }) refl (refl, refl)
+
+    module _ (o : OpenUdp) (at : open_at m.store.records place ≡ Some o) where
+      connect_holds : PendingCallsFit m → IsUdpConnecting o.connecting
+      connect_holds fits = let k : IfSome (open_at m.store.records place) (λ q. IsUdpConnecting q.connecting) = rw stands at fits in rw at at k
+
+      module _ (op : Operation) (is : o.connecting ≡ Some op) where
+        is_its_rest : PendingCallsFit m → IsRestOfUdpConnect op
+        is_its_rest fits = let k = connect_holds fits in rw is at k
+
+        its_waits : (es : List Entry) → EndsPending op.who.id es → CallWaits m (own_of n) es connect_call
+        its_waits es h = let k : UdpConnectWaits o.connecting es = rw is h in rw at k
+
+        its_ended : (es : List Entry) (end : End × List Item) → (PendingCallsFit m → ConnectRow op es end) → ConnectDue es (udp_reconnect_ended op o end)
+        its_ended es (Waits, items) h = λ fits. its_waits es (h fits)
+        its_ended es (Done given, items) h = tt
+        its_ended es (Refused code given, items) h =
+            λ fits. let it = h fits in (UdpConnect3Failed place o op code at is it.why, ap (λ (g : GivenByConnect). record m { store = with_open_udp free place (record o { inner = with_given o.inner g; connecting = None }) }) it.gives)
+
+      reconnect_by : (doing : Option Operation) → o.connecting ≡ doing → Meets ConnectDue [] (udp_reconnecting o doing)
+      reconnect_by (Some op) is = onto _ (widen (its_ended op is) (granted (λ fits. udp_connect_gives op (is_its_rest op is fits) [])))
+      reconnect_by None is = ends (λ fits. let k = connect_holds fits in absurd (rw is at k))
+
+    udp_reconnects : Meets (BoundRow P3) [] (udp_reconnect_of ids place free)
+    udp_reconnects =
+        finds (λ o. goes_on (Call Code (λ store. o) (λ store now. with_open_udp store place now) udp_reconnect_asks) (keeps ids connect_call)) (open_at m.store.records place) (missing connect_call stands (λ k. k))
+        (λ o at. calls {Mid = ConnectDue} _ (reconnect_by o at o.connecting refl)
+        (λ es code o h. ends (fails connect_call stands (λ k. k) es (record m { store = with_open_udp free place o }) code refl refl h))
+        (λ es answer o h. ends (connect_kept es answer o h)))
+
   -- == of the drop of an outgoing datagram stream
   module _ (place : ℕ) (stands : Under (StandingCall.DropOutgoing place)) where
     goes_by : (o : OpenUdp) → open_at m.store.records place ≡ Some o → (b : Bool) → sends o.outgoing ≡ b → CallRow [] (allowed_answer (drop_outgoing_by free ids place o b))
@@ -490,6 +533,7 @@ module _ (contexts : List WasiSocketsCtx) (m : Machine) (line : ℕ) (ids : Ids)
   goes_on_as (StandingCall.UdpCreate place face) stands = onto _ (recreates place face stands)
   goes_on_as (StandingCall.UdpBind place face) stands = onto _ (udp_rebinds place face stands)
   goes_on_as (StandingCall.UdpConnect place handle) stands = onto _ (remakes place handle stands)
+  goes_on_as (StandingCall.UdpConnect3 place) stands = onto _ (udp_reconnects place stands)
   goes_on_as (StandingCall.DropOutgoing place) stands = ends (goes place stands (open_at m.store.records place) refl)
   goes_on_as (StandingCall.Blocking call) stands = blocked_goes_on contexts m line ids call stands
   goes_on_as (DropOutput place) stands = onto _ (widen (of_output place stands) (outputs free ids place (tcp2_at m.store.records place) refl))

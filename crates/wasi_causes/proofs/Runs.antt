@@ -128,6 +128,9 @@ module _ (m : Machine) (f : Fit (Over m)) (i : Steady m.store.records) where
   by_call (standing.UdpConnect place handle) h =
       let connect : IsUdpConnecting (Some h.op) = (subst (FitConnecting h.was.inner.side) h.goes (f.udps place (UdpRecord.Open h.was) h.at).1).connect in
       subst (λ (o : Option OpenUdp). IfSome o (λ q. IsUdpConnecting q.connecting)) (sym (ap open_of h.at)) (subst IsUdpConnecting (sym h.goes) connect)
+  by_call (standing.UdpConnect3 place) h =
+      let connect : IsUdpConnecting (Some h.op) = (subst (FitConnecting h.was.inner.side) h.goes (f.udps place (UdpRecord.Open h.was) h.at).1).connect in
+      subst (λ (o : Option OpenUdp). IfSome o (λ q. IsUdpConnecting q.connecting)) (sym (ap open_of h.at)) (subst IsUdpConnecting (sym h.goes) connect)
   by_call (standing.DropOutgoing place) h = tt
   by_call (standing.Blocking call) h = tt
 
@@ -201,6 +204,7 @@ module _ (m : Machine) (f : Fit (Over m)) (well : PendingHandleIsLive m) where
   on_nothing (standing.DropOutput place) h its none = none
   on_nothing (standing.UdpCreate place face) h its none = let at = h.at in cc
   on_nothing (standing.UdpBind place face) h its none = let at : open_at m.store.records place ≡ Some h.was = ap open_of h.at in cc
+  on_nothing (standing.UdpConnect3 place) h its none = let at : open_at m.store.records place ≡ Some h.was = ap open_of h.at in cc
   on_nothing (standing.UdpConnect place handle) h its (inl none) = let at : open_at m.store.records place ≡ Some h.was = ap open_of h.at in cc
   on_nothing (standing.UdpConnect place handle) h its (inr none) = cc
   on_nothing (standing.DropOutgoing place) h its none = none

@@ -37,11 +37,11 @@ use Rattle.wasi_walks.specs.Waiting.{IsAskOfListen}
 use Rattle.wasi_causes.proofs.Words.{IpSocketAddress, gives_more, wildcard}
 use Rattle.wasi_tcp.specs.declared.listener.Accepting.TheVariants as accepting
 use Rattle.wasi_tcp.specs.declared.socket.TcpState.TheVariants as state
-use Rattle.wasi_records.specs.Datagrams.{udp_connect_left, with_sending}
+use Rattle.wasi_records.specs.Datagrams.{udp_connect_left, udp_reconnect_left, with_sending}
 use Rattle.wasi_records.specs.Receiving.{receive_left, with_receiving}
 use Rattle.wasi_udp.specs.Receive.{wanting}
 use Rattle.wasi_udp.specs.Send.{at_remote}
-use Rattle.wasi_walks.proofs.walks.Moves.{BeginsReceive, BeginsSend, BeginsUdpConnect, ReceivesOn, SendsOn, UdpConnectsOn}
+use Rattle.wasi_walks.proofs.walks.Moves.{BeginsReceive, BeginsSend, BeginsUdpConnect, ReceivesOn, SendsOn, UdpConnectsOn, UdpReconnectsOn}
 use Rattle.wasi_walks.proofs.walks.Moves.{Finds, SameSockets}
 use Rattle.wasi_records.specs.declared.name_lookup.LookupOp.{LookupOp}
 use Rattle.wasi_walks.proofs.GoneLists.{was_there}
@@ -175,7 +175,7 @@ module _ (contexts : List WasiSocketsCtx) (line : ℕ) (origin : Step) where
       let k = put_steady h place (accepting_now r l accepting.Idle) (listens_on r l accepting.Idle e (i place r g)) i in push_steady (tcp2_put h.machine.store.records place (accepting_now r l accepting.Idle)) (joined l new peer) (λ c. absurd (cc), λ side d. absurd (cc), (tt, tt)) k
   moves_steady _ _ (UdpChanges h place o now g p keeps) i = put_udp_steady h place (UdpRecord.Open now) i
   moves_steady _ _ (BeginsUdpBind h place o a at g to own) i = put_udp_steady h place _ i
-  moves_steady _ _ (BeginsUdpConnect h place o a at g to bound none own) i = put_udp_steady h place _ i
+  moves_steady _ _ (BeginsUdpConnect h place o a bound at g to known none own) i = put_udp_steady h place _ i
   moves_steady _ _ (BeginsSend h place n o out d bound at g e item known own) i = put_udp_steady h place _ i
   moves_steady _ _ (BeginsReceive h place n o inc bound at g e is own) i = put_udp_steady h place _ i
   moves_steady _ _ (CancelsBind h place r op q g e) i = put_steady h place _ (λ c. absurd (cc), (i place r g).1, (i place r g).2) i
@@ -236,6 +236,7 @@ module _ (contexts : List WasiSocketsCtx) (line : ℕ) (origin : Step) where
   polls_steady es h _ _ (UdpCreates place create q g) i = whatever (λ end. Steady (put_udp h place (udp_create_left create end)).machine.store.records) (λ end. put_udp_steady h place _ i) es (poll_asks create.operation)
   polls_steady es h _ _ (UdpBindsOn place o op q g e) i = whatever (λ end. Steady (put_udp h place (UdpRecord.Open (with_udp_progress o (udp_bind_progress op end)))).machine.store.records) (λ end. put_udp_steady h place _ i) es (poll_asks op)
   polls_steady es h _ _ (UdpConnectsOn place o op q g e) i = whatever (λ end. Steady (put_udp h place (UdpRecord.Open (udp_connect_left op o end))).machine.store.records) (λ end. put_udp_steady h place _ i) es (poll_asks op)
+  polls_steady es h _ _ (UdpReconnectsOn place o op q g e) i = whatever (λ end. Steady (put_udp h place (UdpRecord.Open (udp_reconnect_left op o end))).machine.store.records) (λ end. put_udp_steady h place _ i) es (poll_asks op)
   polls_steady es h _ _ (SendsOn place o out op left g e s settles) i =
       whatever (λ end. Steady (put_udp h place
       (UdpRecord.Open (record o { outgoing = Some (with_sending out (left end)) }))).machine.store.records)

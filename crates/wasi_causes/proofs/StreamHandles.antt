@@ -25,7 +25,7 @@ use Rattle.wasi_walks.proofs.walks.States.{Over, Starts}
 use Rattle.wasi_causes.proofs.GivenBack.{open_stays}
 use Rattle.wasi_walks.proofs.walks.States.{IsPlain, makes_plain}
 use Rattle.wasi_causes.proofs.UdpConnects.{HasConnects, Quiet, connects, connects_begin, first_connects, starts_with}
-use Rattle.wasi_causes.proofs.StreamsLive.{tcp_other, udp_other, Both, HasIncoming, IsOther, CallSo, MadeSo, Parts, StandsSo, Streams, begun, changed, connect_keeps, emptied, found, has_none, makes_left, has_next, has_other, has_handle, not_yet, push_tcp, put_none, put_open, put_tcp, remade, restood, stay, taken}
+use Rattle.wasi_causes.proofs.StreamsLive.{tcp_other, udp_other, Both, HasIncoming, IsOther, CallSo, MadeSo, Parts, StandsSo, Streams, begun, changed, connect_keeps, reconnect_keeps, emptied, found, has_none, makes_left, has_next, has_other, has_handle, not_yet, push_tcp, put_none, put_open, put_tcp, remade, restood, stay, taken}
 use Rattle.wasi_walks.proofs.walks.OfState.{Becomes, Created, CreatedWith, GivenUp, Handles, HasHandle, HasNoRoom, IsClosed, Learnt, NoRoom}
 use Rattle.wasi_walks.proofs.walks.OfState.{OfAccepted, OfCreated, OfError, OfLine, OfState, OfStream, Resolved, UdpBegun, UdpGivenUp, UdpIsClosed, UdpLearnt, Writing, begins_state, of_state}
 use Rattle.wasi_walks.proofs.walks.Layers.{begins_layer, begins_over, begins_stand, layer, over, stand}
@@ -58,6 +58,7 @@ no_streams o e = by_streams o.incoming o.outgoing e
 -- what goes on in a TCP record is no connect of this kind
 goes_so : (t : HandleTable) (call : StandingCall) (r : TcpRecord) → GoesOn call r → CallSo t call
 goes_so t (StandingCall.UdpConnect place handle) r k = absurd k
+goes_so t (StandingCall.UdpConnect3 place) r k = absurd k
 goes_so t _ r k = tt
 
 module _ (contexts : List WasiSocketsCtx) (line : ℕ) (origin : Step) where
@@ -94,10 +95,11 @@ module _ (contexts : List WasiSocketsCtx) (line : ℕ) (origin : Step) where
   moves_apart _ _ (walk.StandsUdpCreate h ids place face create quiet made g) i = restood _ _ h.made _ (Some (standing_as ids (StandingCall.UdpCreate place face))) tt i
   moves_apart _ _ (walk.StandsDropOutgoing h ids place o quiet at g e) i = restood _ _ h.made _ (Some (standing_as ids (StandingCall.DropOutgoing place))) tt i
   moves_apart _ _ (walk.StandsBlocking h ids call handles made its) i = restood _ _ h.made _ (Some (standing_as ids (StandingCall.Blocking call))) tt i
+  moves_apart _ _ (walk.StandsConnect h ids place o op quiet at past g e) i = restood _ _ h.made _ (Some (standing_as ids (StandingCall.UdpConnect3 place))) tt i
   moves_apart _ _ (walk.StandsUdpConnect h ids place handle o op quiet at made g e) i = restood _ _ h.made _ (Some (standing_as ids (StandingCall.UdpConnect place handle))) (subst (MadeSo h.machine.table) made i.makes) i
   moves_apart _ _ (walk.UdpChanges h place o now g p keeps) i = changed h place o now g (walk.keeps_incoming origin h place o.incoming now.incoming keeps.incoming) i
   moves_apart _ _ (walk.BeginsUdpBind h place o a at g to own) i = put_open h place o _ g (λ e. e) i
-  moves_apart _ _ (walk.BeginsUdpConnect h place o a at g to bound none own) i = put_open h place o _ g (λ e. e) i
+  moves_apart _ _ (walk.BeginsUdpConnect h place o a bound at g to known none own) i = put_open h place o _ g (λ e. e) i
   moves_apart _ _ (walk.BeginsSend h place n o out d bound at g e item known own) i = put_open h place o _ g (λ e. e) i
   moves_apart _ _ (walk.BeginsReceive h place n o inc bound at g e is own) i = put_open h place o _ g (λ e. refl) i
   moves_apart _ _ (walk.CancelsUdpBind h place o op q g e) i = put_open h place o _ g (λ e. e) i
@@ -130,6 +132,7 @@ module _ (contexts : List WasiSocketsCtx) (line : ℕ) (origin : Step) where
   polls_apart h _ _ (walk.UdpCreates place create q g) end i = put_none h place _ (not_yet h place create g i) i
   polls_apart h _ _ (walk.UdpBindsOn place o op q g e) end i = put_open h place o _ g (λ e. e) i
   polls_apart h _ _ (walk.UdpConnectsOn place o op q g e) end i = put_open h place o _ g (connect_keeps op o end) i
+  polls_apart h _ _ (walk.UdpReconnectsOn place o op q g e) end i = put_open h place o _ g (reconnect_keeps op o end) i
   polls_apart h _ _ (walk.SendsOn place o out op left g e s settles) end i = put_open h place o _ g (λ e. e) i
   polls_apart h _ _ (walk.ReceivesOn place o inc op g e s) end i = put_open h place o _ g (λ e. refl) i
 

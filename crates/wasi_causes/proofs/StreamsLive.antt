@@ -6,7 +6,7 @@ use Rattle.wasi_causes.proofs.Words.{ap, inl, inr, is_some, kind_at, refl, subst
 use Rattle.wasi_table.specs.Table.{Live}
 use Rattle.wasi_udp.specs.Create.{Create}
 use Rattle.wasi_world.specs.Operation.{Done, Refused, Waits}
-use Rattle.wasi_records.specs.Datagrams.{has_streams, udp_connect_left}
+use Rattle.wasi_records.specs.Datagrams.{has_streams, udp_connect_left, udp_reconnect_left}
 use Rattle.wasi_host.specs.Kinds.{udp_kind, udp_of}
 use Rattle.wasi_records.specs.Records.{tcp2_pushed, udp2_at, udp2_put}
 use Rattle.wasi_records.specs.declared.datagrams.Incoming.{Incoming as IncomingStream}
@@ -141,6 +141,11 @@ pub connect_keeps : (op : Operation) (o : OpenUdp) (end : End × List Item) → 
 connect_keeps op o (Waits, items) e = e
 connect_keeps op o (Done given, items) e = refl
 connect_keeps op o (Refused c given, items) e = e
+
+pub reconnect_keeps : (op : Operation) (o : OpenUdp) (end : End × List Item) → is_some o.incoming ≡ true → is_some (udp_reconnect_left op o end).incoming ≡ true
+reconnect_keeps op o (Waits, items) e = e
+reconnect_keeps op o (Done given, items) e = e
+reconnect_keeps op o (Refused c given, items) e = e
 
 -- == a handle is made
 -- any kind but that of an incoming stream

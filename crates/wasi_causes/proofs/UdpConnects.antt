@@ -7,7 +7,7 @@ use Rattle.std.specs.Prelude.{is_some, ◌+◌}
 use Rattle.wasi_tcp.specs.declared.listener.Accepting.TheVariants as accepting
 use Rattle.wasi_udp.specs.Create.{Create, after_create as udp_after_create}
 use Rattle.wasi_world.specs.Operation.{Done, Refused, Waits}
-use Rattle.wasi_records.specs.Datagrams.{has_streams, udp_connect_left}
+use Rattle.wasi_records.specs.Datagrams.{has_streams, udp_connect_left, udp_reconnect_left}
 use Rattle.wasi_records.specs.Records.{tcp2_put, tcp2_pushed, udp2_at, udp2_of, udp2_put, udp2_pushed}
 use Rattle.wasi_records.specs.Udp.{udp_create_left}
 use Rattle.wasi_records.specs.declared.name_lookup.LookupOp.{LookupOp}
@@ -56,6 +56,7 @@ none_stands (Some s) place n k = by_call s.call n k
   where
     by_call : (call : StandingCall) → NoConnectIn call → IsConnectOf call place → ⊥
     by_call (StandingCall.UdpConnect p handle) n k = n
+    by_call (StandingCall.UdpConnect3 p) n k = n
     by_call _ n k = k
 
 no_start : (standing : Option Standing) → NoStartStands standing → NoConnect standing
@@ -64,6 +65,7 @@ no_start (Some s) q = by_call s.call q
   where
     by_call : (call : StandingCall) → NoStartIn call → NoConnectIn call
     by_call (StandingCall.UdpConnect p handle) q = q
+    by_call (StandingCall.UdpConnect3 p) q = q
     by_call _ q = tt
 
 calls_so : (made : Made) (standing : Option Standing) → NoConnect standing → CallsSo made standing
@@ -191,6 +193,7 @@ ended h place own over i = (record { quiet = i.0.quiet; goes = λ k o op at c. e
 -- == of the moves
 goes_none : (call : StandingCall) (r : TcpRecord) → GoesOn call r → NoConnectIn call
 goes_none (StandingCall.UdpConnect place handle) r k = k
+goes_none (StandingCall.UdpConnect3 place) r k = k
 goes_none _ r k = tt
 
 -- another call is pending, where none of these was
@@ -223,6 +226,7 @@ module _ (contexts : List WasiSocketsCtx) (line : ℕ) (origin : Step) where
   moves_quiet _ _ (walk.Watches h own) i = (i.0, tt)
   moves_quiet _ _ (walk.AwaitsCreate h place face create is g) i = (i.0, tt)
   moves_quiet _ _ (walk.RemembersStreams h c handle place remote is of o g none) i = (i.0, tt)
+  moves_quiet _ _ (walk.RecallsConnect h ids place e own) i = spent h (ToConnect place) Unused own unused i
   moves_quiet _ _ (walk.RecallsStreams h ids place handle e own) i = ((spent h (ToConnect place) Unused own unused i).0, tt)
   moves_quiet _ _ (walk.CallsHandles h kind calls quiet) i = (i.0, no_start h.machine.store.standing quiet)
   moves_quiet _ _ (walk.RecallsCall h ids call e) i = (i.0, subst NoConnect (sym e) tt)
@@ -233,12 +237,14 @@ module _ (contexts : List WasiSocketsCtx) (line : ℕ) (origin : Step) where
   moves_quiet _ _ (walk.StandsDropOutgoing h ids place o quiet at g e) i = restood h (standing_as ids (StandingCall.DropOutgoing place)) quiet tt i
   moves_quiet _ _ (walk.StandsBlocking h ids call handles made its) i =
       let now = Some (standing_as ids (StandingCall.Blocking call)) in (stands_now h.machine.store.records h.machine.store.standing now h.own (subst (λ (m : Made). CallsSo m h.machine.store.standing) made i.1) i.0, calls_so h.made now tt)
+  moves_quiet _ _ (walk.StandsConnect h ids place o op quiet at past g e) i =
+      let now = Some (standing_as ids (StandingCall.UdpConnect3 place)) in (stands_now h.machine.store.records h.machine.store.standing now h.own (no_start h.machine.store.standing quiet) i.0, subst (λ (m : Made). CallsSo m now) (sym past) tt)
   moves_quiet _ _ (walk.StandsUdpConnect h ids place handle o op quiet at made g e) i =
       let now = Some (standing_as ids (StandingCall.UdpConnect place handle)) in (stands_now h.machine.store.records h.machine.store.standing now h.own (no_start h.machine.store.standing quiet) i.0, subst (λ (m : Made). CallsSo m now) (sym made) tt)
   moves_quiet _ _ (walk.Unstands h over) i = (record { quiet = i.0.quiet; goes = λ k o op at c. inr (elim (i.0.goes k o op at c) [ inl s ↦ over k s | inr e ↦ e ]) }, calls_so h.made None tt)
   moves_quiet _ _ (walk.UdpChanges h place o now g p keeps) i = changed h place o now g p.connects keeps.makes i
   moves_quiet _ _ (walk.BeginsUdpBind h place o a at g to own) i = begun_udp h place o _ g refl (λ some. some) Used Unused own unused i
-  moves_quiet _ _ (walk.BeginsUdpConnect h place o a at g to bound none own) i = begins h place o _ none own i
+  moves_quiet _ _ (walk.BeginsUdpConnect h place o a bound at g to known none own) i = begins h place o _ none own i
   moves_quiet _ _ (walk.BeginsSend h place n o out d bound at g e item known own) i = begun_udp h place o _ g refl (λ some. rw e (or_true (is_some o.incoming))) (Own.Names (n + 1)) (Own.Names n) own (names n) i
   moves_quiet _ _ (walk.BeginsReceive h place n o inc bound at g e is own) i = begun_udp h place o _ g refl (λ some. rw e refl) (Own.Names (n + 1)) (Own.Names n) own (names n) i
   moves_quiet _ _ (walk.CancelsUdpBind h place o op q g e) i = put_open h place o _ g refl (λ some. some) i
@@ -267,6 +273,15 @@ module _ (contexts : List WasiSocketsCtx) (line : ℕ) (origin : Step) where
   polled_connect h place o op g e (Done given, items) i = let now = udp_connect_left op o (Done given, items) in put_none h place (UdpRecord.Open now) (λ x p d c. (let is : now ≡ x = cc in let none : x.connecting ≡ None = ap (λ (y : OpenUdp). y.connecting) (sym is) in absurd (cc))) i
   polled_connect h place o op g e (Refused code given, items) i = let now = udp_connect_left op o (Refused code given, items) in put_none h place (UdpRecord.Open now) (λ x p d c. (let is : now ≡ x = cc in let none : x.connecting ≡ None = ap (λ (y : OpenUdp). y.connecting) (sym is) in absurd (cc))) i
 
+  polled_reconnect : (h : Here) (place : ℕ) (o : OpenUdp) (op : Operation) → FoundUdp h place (UdpRecord.Open o) → o.connecting ≡ Some op → (end : End × List Item) → Quiet h → Quiet (put_udp h place (UdpRecord.Open (udp_reconnect_left op o end)))
+  polled_reconnect h place o op g e (Waits, items) i =
+      let none = i.0.quiet place o op g e in
+      let goes = i.0.goes place o op g e in
+      let now = udp_reconnect_left op o (Waits, items) in
+      (put_by h.machine.store.records h.machine.store.standing h.own h.own place (UdpRecord.Open now) (λ x p d c. (let is : now ≡ x = cc in subst (λ (y : OpenUdp). has_streams y ≡ false) is none, goes)) (λ k d. d) i.0, i.1)
+  polled_reconnect h place o op g e (Done given, items) i = let now = udp_reconnect_left op o (Done given, items) in put_none h place (UdpRecord.Open now) (λ x p d c. (let is : now ≡ x = cc in let none : x.connecting ≡ None = ap (λ (y : OpenUdp). y.connecting) (sym is) in absurd (cc))) i
+  polled_reconnect h place o op g e (Refused code given, items) i = let now = udp_reconnect_left op o (Refused code given, items) in put_none h place (UdpRecord.Open now) (λ x p d c. (let is : now ≡ x = cc in let none : x.connecting ≡ None = ap (λ (y : OpenUdp). y.connecting) (sym is) in absurd (cc))) i
+
   pub polls_quiet : (h : Here) (op : Operation) (after : End × List Item → Here) → Held h op after → (end : End × List Item) → Quiet h → Quiet (after end)
   polls_quiet h _ _ (walk.BindsOn place r op q g e) end i = put_tcp h place _ i
   polls_quiet h _ _ (walk.Connects place r op g e) end i = put_tcp h place _ i
@@ -275,6 +290,7 @@ module _ (contexts : List WasiSocketsCtx) (line : ℕ) (origin : Step) where
   polls_quiet h _ _ (walk.UdpCreates place create q g) end i = put_none h place _ (created_none create end) i
   polls_quiet h _ _ (walk.UdpBindsOn place o op q g e) end i = put_open h place o _ g refl (λ some. some) i
   polls_quiet h _ _ (walk.UdpConnectsOn place o op q g e) end i = polled_connect h place o op g e end i
+  polls_quiet h _ _ (walk.UdpReconnectsOn place o op q g e) end i = polled_reconnect h place o op g e end i
   polls_quiet h _ _ (walk.SendsOn place o out op left g e s settles) end i = put_open h place o _ g refl (λ some. rw e (or_true (is_some o.incoming))) i
   polls_quiet h _ _ (walk.ReceivesOn place o inc op g e s) end i = put_open h place o _ g refl (λ some. rw e refl) i
 

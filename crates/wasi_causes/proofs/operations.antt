@@ -5,4 +5,5 @@ pub mod Polls
 pub mod Checks
 pub mod ConnectEnds
 pub mod ConnectPolls
+pub mod UdpConnectEnds
 pub mod DatagramPolls

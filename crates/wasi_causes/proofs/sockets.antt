@@ -8,4 +8,6 @@ pub mod Udp
 pub mod UdpBinds
 pub mod P3Binds
 pub mod P3Connects
+pub mod P3UdpConnects
+pub mod P3UdpPolls
 pub mod UdpCreates

@@ -11,7 +11,7 @@ use Rattle.wasi_records.specs.declared.tcp_listening.Listening.TheVariants.{Not}
 use Rattle.wasi_host.specs.declared.machine.Machine.{Machine}
 use Rattle.wasi_records.specs.declared.socket.TcpRecord.{TcpRecord}
 use Rattle.wasi_host.specs.declared.store.StandingCall.{StandingCall}
-use Rattle.wasi_host.specs.declared.store.StandingCall.TheVariants.{Bind, Listen, DropOutput, UdpCreate, UdpBind, UdpConnect, DropOutgoing, Blocking}
+use Rattle.wasi_host.specs.declared.store.StandingCall.TheVariants.{Bind, Listen, DropOutput, UdpCreate, UdpBind, UdpConnect, UdpConnect3, DropOutgoing, Blocking}
 use Rattle.wasi_records.specs.declared.udp.OpenUdp.{OpenUdp}
 use Rattle.wasi_records.specs.declared.udp.UdpRecord.TheVariants as udp
 use Rattle.wasi_records.specs.declared.udp.UdpInProgress.TheVariants as udp_doing
@@ -61,6 +61,7 @@ CancelsBy m es after (Listen place) = (r : TcpRecord) → tcp2_at m.store.record
 CancelsBy m es after (DropOutput place) = OnlyUnstands m es after
 CancelsBy m es after (UdpCreate place face) = (create : Create) → udp2_at m.store.records place ≡ Some (udp.Creating create) → CreateGivenUp m place create es after
 CancelsBy m es after (UdpBind place face) = (o : OpenUdp) → open_at m.store.records place ≡ Some o → (es ≡ []) × (after ≡ putting_udp (nothing_stands m) place (with_udp_progress o udp_doing.Nothing))
+CancelsBy m es after (UdpConnect3 place) = (o : OpenUdp) → open_at m.store.records place ≡ Some o → (es ≡ []) × (after ≡ putting_udp (nothing_stands m) place (record o { connecting = None }))
 CancelsBy m es after (UdpConnect place handle) = (o : OpenUdp) → open_at m.store.records place ≡ Some o → (es ≡ []) × (after ≡ putting_udp (nothing_stands m) place (record o { connecting = None }))
 CancelsBy m es after (DropOutgoing place) = (o : OpenUdp) → open_at m.store.records place ≡ Some o → OutgoingGivenUp m place o es after
 CancelsBy m es after (Blocking call) = OnlyUnstands m es after

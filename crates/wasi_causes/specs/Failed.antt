@@ -13,7 +13,7 @@ use Rattle.wasi_records.specs.Sockets.{with_progress}
 use Rattle.wasi_records.specs.Udp.{with_udp_progress}
 use Rattle.wasi_steps.specs.declared.reply.CodeWord.{CodeWord}
 use Rattle.wasi_walks.specs.Answered.{putting}
-use Rattle.wasi_walks.specs.Waiting.{BindFailed, CallFails, CreateFailed, ListenFailed, StandingFails, UdpBindFailed, UdpConnectFailed, nothing_stands}
+use Rattle.wasi_walks.specs.Waiting.{BindFailed, CallFails, CreateFailed, ListenFailed, StandingFails, UdpBindFailed, UdpConnect3Failed, UdpConnectFailed, nothing_stands}
 use Rattle.wasi_causes.specs.GivenUp.{giving_back}
 use Rattle.wasi_causes.specs.StreamCauses.{given_by}
 use Rattle.wasi_causes.specs.Udp.{putting_udp}
@@ -27,6 +27,7 @@ left_failed m (BindFailed place face r op c at is why) = putting (nothing_stands
 left_failed m (ListenFailed place r op c at is why) = putting (nothing_stands m) place (with_listening r listening.Not)
 left_failed m (CreateFailed place face create c at why) = giving_back (nothing_stands m) place
 left_failed m (UdpBindFailed place face o op c at is why) = putting_udp (nothing_stands m) place (with_udp_progress o udp_doing.Nothing)
+left_failed m (UdpConnect3Failed place o op c at is why) = putting_udp (nothing_stands m) place (record o { inner = with_given o.inner (given_by why); connecting = None })
 left_failed m (UdpConnectFailed place handle o op c at is why) = putting_udp (nothing_stands m) place (record o { inner = with_given o.inner (given_by why); connecting = None })
 
 -- The pending call failed with a code of this word, and this is what it left.

@@ -25,6 +25,7 @@ pub mod MayAnswer
 pub mod Refusals
 pub mod P3Udp
 pub mod P3Binds
+pub mod P3UdpConnects
 pub mod P3Connects
 pub mod NamedRecords
 pub mod TurnPolls

@@ -50,5 +50,6 @@ call_names (call.DropOutput place) = Some place
 call_names (call.UdpCreate place face) = Some place
 call_names (call.UdpBind place face) = Some place
 call_names (call.UdpConnect place handle) = Some place
+call_names (call.UdpConnect3 place) = Some place
 call_names (call.DropOutgoing place) = Some place
 call_names (call.Blocking blocks) = None

@@ -87,6 +87,7 @@ use Rattle.wasi_causes.specs.Datagrams.{IsUdpSend, IsUdpStream, HasUdpStreams, I
 use Rattle.wasi_causes.specs.P3Connects.{BesideCancelled, BesidePolled, ConnectStands, Connects, IsBeside, P3ConnectRefusal}
 use Rattle.wasi_causes.specs.P3Binds as binds
 use Rattle.wasi_causes.specs.P3Binds.{BindStands, Binds, P3BindRefusal, P3UdpBindRefusal}
+use Rattle.wasi_causes.specs.P3UdpConnects.{ConnectsUdp, UdpConnectRefusal, UdpConnectStands}
 use Rattle.wasi_causes.specs.P3Udp.{Disconnects, KnowsUdp3Bound, OfUdp3, P3DisconnectRefusal, P3UdpCreateRefusal, P3UdpGetRefusal, P3UdpLocalRefusal, P3UdpSetRefusal}
 use Rattle.wasi_host.specs.declared.kind.Interface.TheVariants.{P3}
 use Rattle.wasi_causes.specs.Udp.{OfUdp, RefusedOfUdp, HasUdpInProgress, HasNoUdpBind, KeepsNoRemote, WatchesUdp, udp_create_entry, writable_entry, with_udp_record, new_udp, UdpCreateRefusal, CreatesUdp, CreatesUdpFor, CreateStands, CreateStandsFor, KnowsUdpBound, UdpBindRefusal, BindsUdp, UdpBindStands, FinishesUdpBind, UdpLocalRefusal, TellsUdpLocal, TellsUdpRemote, UdpGetRefusal, GetsUdpOption, UdpSetRefusal, SetsUdpOption, udp_given_up, udp_left, GivesBy, IsPendingCreate}
@@ -291,6 +292,7 @@ Done contexts m line (step.Call c (guest.P3TcpSet s setting)) es fields after = 
 Done contexts m line (step.Call c (guest.P3UdpCreate family)) es fields after = CreatesUdpFor P3 m (own_of line) (context_at contexts c) family es fields after
 Done contexts m line (step.Call c (guest.P3TcpBind s a)) es fields after = OfTcp3 m s (λ place r. Binds m (own_of line) place r a es after)
 Done contexts m line (step.Call c (guest.P3TcpConnect s a)) es fields after = OfTcp3 m s (λ place r. Connects m (own_of line) place r a es after)
+Done contexts m line (step.Call c (guest.P3UdpConnect s a)) es fields after = OfUdp3 m s (λ place o. ConnectsUdp m (own_of line) place o a es after)
 Done contexts m line (step.Call c (guest.P3UdpBind s a)) es fields after = OfUdp3 m s (λ place o. binds.BindsUdp m (own_of line) place o a es after)
 Done contexts m line (step.Call c (guest.P3UdpDisconnect s)) es fields after = OfUdp3 m s (λ place o. Disconnects m (own_of line) place o es after)
 Done contexts m line (step.Call c (guest.P3UdpLocalAddress s)) es fields after = OfUdp3 m s (λ place o. TellsUdpLocal m (own_of line) place o es fields after)
@@ -340,6 +342,7 @@ Refused contexts m line (step.Call c (guest.P3TcpSet s setting)) es w after = P3
 Refused contexts m line (step.Call c (guest.P3UdpCreate family)) es w after = P3UdpCreateRefusal m (own_of line) (context_at contexts c) family es w after
 Refused contexts m line (step.Call c (guest.P3TcpBind s a)) es w after = P3BindRefusal m (own_of line) s a es w after
 Refused contexts m line (step.Call c (guest.P3TcpConnect s a)) es w after = P3ConnectRefusal m (own_of line) s a es w after
+Refused contexts m line (step.Call c (guest.P3UdpConnect s a)) es w after = UdpConnectRefusal m (own_of line) s a es w after
 Refused contexts m line (step.Call c (guest.P3UdpBind s a)) es w after = P3UdpBindRefusal m (own_of line) s a es w after
 Refused contexts m line (step.Call c (guest.P3UdpDisconnect s)) es w after = P3DisconnectRefusal m (own_of line) s es w after
 Refused contexts m line (step.Call c (guest.P3UdpLocalAddress s)) es w after = P3UdpLocalRefusal m (own_of line) s es w after × ((after ≡ m) ⊎ KnowsUdp3Bound m s after)
@@ -383,6 +386,7 @@ Pends contexts m line (step.Call c (guest.UdpCreate family)) es after = CreateSt
 Pends contexts m line (step.Call c (guest.P3UdpCreate family)) es after = CreateStandsFor P3 m line (own_of line) (context_at contexts c) family es after
 Pends contexts m line (step.Call c (guest.P3TcpBind s a)) es after = OfTcp3 m s (λ place r. BindStands m line place r a es after)
 Pends contexts m line (step.Call c (guest.P3TcpConnect s a)) es after = OfTcp3 m s (λ place r. ConnectStands m line place r a es after)
+Pends contexts m line (step.Call c (guest.P3UdpConnect s a)) es after = OfUdp3 m s (λ place o. UdpConnectStands m line place o a es after)
 Pends contexts m line (step.Call c (guest.P3UdpBind s a)) es after = OfUdp3 m s (λ place o. binds.UdpBindStands m line place o a es after)
 Pends contexts m line (step.Call c (guest.UdpStartBind s n a)) es after = OfUdp m s (λ place o. UdpBindStands m line (own_of line) place o a es after)
 Pends contexts m line (step.Call c (guest.UdpStream s remote)) es after = (after.table ≡ m.table) × OfUdp m s (λ place o. StreamsStand m line s place o remote es after)

@@ -15,6 +15,7 @@ pub mod p3;
 pub mod p3_binds;
 pub mod p3_connects;
 pub mod p3_udp;
+pub mod p3_udp_connects;
 pub mod pending_calls;
 pub mod readiness;
 pub mod received;

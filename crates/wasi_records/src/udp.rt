@@ -151,7 +151,7 @@ pub struct OpenUdp {
     /// Its outgoing datagram stream, while that one is live.
     pub outgoing: Option<Outgoing>,
     pub in_progress: UdpInProgress,
-    /// The connect that comes before its datagram streams, while that is pending.
+    /// The connect in progress, while it is pending: of 0.3, or before its datagram streams.
     pub connecting: Option<PendingUdpConnect>,
 }
 

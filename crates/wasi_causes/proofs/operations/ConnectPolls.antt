@@ -4,11 +4,12 @@ use Rattle.wasi_causes.proofs.Words.{AccessDenied, Asks, Check, Done, End, EndsP
 use Rattle.wasi_causes.proofs.Words.{Item, LastAsk, List, Nothing, NothingLast, Operation, Refused, SocketAddressFamily, SocketAddrUse, Told, Waits}
 use Rattle.wasi_causes.proofs.Words.{UdpConnect, [], after, append_assoc, bind, entry, inl, inr, last_ask, poll_asks, polls, refl, round, subst, sym}
 use Rattle.wasi_causes.proofs.Words.{told_addr, told_done, told_verdict, verdict_front, ℕ, ⊤, ◌++◌, ◌∷◌, ◌≡◌}
+use Rattle.wasi_addr.specs.Address.{wildcard}
 use Rattle.wasi_addr.specs.declared.address.SocketAddrUse.TheVariants as usages
 use Rattle.wasi_world.specs.Operation.{peer_front, remote_told}
 use Rattle.wasi_world.specs.declared.call.Call.TheVariants as call
 use Rattle.wasi_world.specs.declared.call.Told.TheVariants as told
-use Rattle.wasi_walks.specs.Waiting.{ConnectSendChecked, ConnectToldNo, ConnectToldWhy, ConnectUnchecked, IsLeftOfUdpConnect, IsRestOfUdpConnect, UdpConnectFails}
+use Rattle.wasi_walks.specs.Waiting.{ConnectSendChecked, ConnectToldNo, ConnectToldWhy, ConnectUnbound, ConnectUnchecked, IsLeftOfUdpConnect, IsRestOfUdpConnect, UdpConnectFails}
 use Rattle.wasi_causes.proofs.tables.Meets.{Meets, Rows, asks, ends}
 use Rattle.wasi_causes.specs.StreamCauses.{given_by}
 
@@ -63,8 +64,15 @@ module _ (op : Operation) (plain : op.who.last ≡ NothingLast) (again : List It
     unfolding bind
     first_check send receive es = asks (λ t fits. by_verdict es a usages.UdpSend (Check a usages.UdpReceive ∷ UdpConnect family a ∷ []) send (second_check receive) t fits)
 
+    -- no check was
+    wildcard_check : Has op.left (Check (wildcard family) usages.UdpBind) → Has op.left (Check a usages.UdpSend) → Has op.left (Check a usages.UdpReceive)
+        → (es : List Entry) → Meets (ConnectRow op) es (round again op.who Nothing (Check (wildcard family) usages.UdpBind ∷ Check a usages.UdpSend ∷ Check a usages.UdpReceive ∷ UdpConnect family a ∷ []))
+    unfolding bind
+    wildcard_check any send receive es = asks (λ t fits. by_verdict es (wildcard family) usages.UdpBind (Check a usages.UdpSend ∷ Check a usages.UdpReceive ∷ UdpConnect family a ∷ []) any (first_check send receive) t fits)
+
   -- by what is left
   by_left : (items : List Item) → IsLeftOfUdpConnect items → ((item : Item) → Has items item → Has op.left item) → (es : List Entry) → Meets (ConnectRow op) es (round again op.who Nothing items)
+  by_left _ (ConnectUnbound family a) in_left es = wildcard_check family a (in_left _ (inr (inr (inr (inl refl))))) (in_left _ (inl refl)) (in_left _ (inr (inl refl))) (in_left _ (inr (inr (inl refl)))) es
   by_left _ (ConnectUnchecked family a) in_left es = first_check family a (in_left _ (inr (inr (inl refl)))) (in_left _ (inl refl)) (in_left _ (inr (inl refl))) es
   by_left _ (ConnectSendChecked family a) in_left es = second_check family a (in_left _ (inr (inl refl))) (in_left _ (inl refl)) es
 

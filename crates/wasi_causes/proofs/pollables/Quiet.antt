@@ -25,7 +25,7 @@ use Rattle.wasi_walks.proofs.walks.Law.{InCall}
 use Rattle.wasi_walks.proofs.walks.Moves.{AwaitsCreate, CallKind, CallsHandles, Empties, GoesOn, Here, IsCall, Joins}
 use Rattle.wasi_walks.proofs.walks.Moves.{Leaves, LooksAtPollables, Made, Move, Numbers, OfPollables, OfStreams, Past}
 use Rattle.wasi_walks.proofs.walks.Moves.{RecallsCall, RecallsStreams, RemembersStreams, Stands, StandsBlocking}
-use Rattle.wasi_walks.proofs.walks.Moves.{StandsDropOutgoing, StandsUdpBind, StandsUdpConnect, StandsUdpCreate, ToSend}
+use Rattle.wasi_walks.proofs.walks.Moves.{StandsConnect, StandsDropOutgoing, StandsUdpBind, StandsUdpConnect, StandsUdpCreate, ToSend}
 use Rattle.wasi_walks.proofs.walks.Moves.{Unstands, Watches, kind_of, udp_begun}
 use Rattle.wasi_walks.proofs.walks.OfState.{Becomes, Handles, HasHandle, HasNoRoom, NoRoom, OfError, OfLine, OfState}
 use Rattle.wasi_walks.proofs.walks.OfState.{UdpBegun, Writing, begins_state, of_state}
@@ -107,6 +107,7 @@ module _ (contexts : List WasiSocketsCtx) (line : ℕ) (origin : Step) (plain : 
   moves_none _ _ (StandsDropOutgoing h ids place o quiet at g e) i = (tt, i.1)
   moves_none _ _ (RemembersStreams h c handle place remote is of o g none) i = (i.0, tt)
   moves_none _ _ (RecallsStreams h ids place handle e own) i = (i.0, tt)
+  moves_none _ _ (StandsConnect h ids place o op quiet at past g e) i = (tt, i.1)
   moves_none _ _ (StandsUdpConnect h ids place handle o op quiet at made g e) i = (tt, i.1)
   moves_none _ _ (CallsHandles h kind calls quiet) i = (i.0, calls_none kind calls _)
   moves_none _ _ (RecallsCall h ids call e) i = (i.0, makes_by ids.line _ call (subst NoWaitStands e i.0))

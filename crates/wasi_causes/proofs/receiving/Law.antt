@@ -9,7 +9,7 @@ use Rattle.wasi_udp.specs.Create.{Create, after_create as udp_after_create, crea
 use Rattle.wasi_udp.specs.Receive.{receive_start}
 use Rattle.wasi_udp.specs.Send.{at_remote}
 use Rattle.wasi_world.specs.declared.datagram.IncomingDatagram.{IncomingDatagram}
-use Rattle.wasi_records.specs.Datagrams.{udp_connect_left, with_sending}
+use Rattle.wasi_records.specs.Datagrams.{udp_connect_left, udp_reconnect_left, with_sending}
 use Rattle.wasi_host.specs.Kinds.{udp_kind, udp_of}
 use Rattle.wasi_records.specs.Receiving.{with_receiving}
 use Rattle.wasi_records.specs.Records.{tcp2_at, tcp2_put, udp2_at, udp2_put}
@@ -133,7 +133,7 @@ module _ (handle : ℕ) (list : List IncomingDatagram) (contexts : List WasiSock
         (stream_push_tcp handle list es h.machine.table (tcp2_put h.machine.store.records place (walk.accepting_now r l accepting.Idle)) (joined l new peer) (tcp es h place r (walk.accepting_now r l accepting.Idle) g i).0, i.1)
     moves_exact es _ _ (walk.UdpChanges h place o now g p keeps) b i = udp es h place (UdpRecord.Open o) (UdpRecord.Open now) g (changes es h b place o now g p keeps.incoming (walk.UdpChanges h place o now g p keeps)) i
     moves_exact es _ _ (walk.BeginsUdpBind h place o a at g to own) b i = udp_same es h place o _ g refl refl i
-    moves_exact es _ _ (walk.BeginsUdpConnect h place o a at g to bound none own) b i = udp_same es h place o _ g refl refl i
+    moves_exact es _ _ (walk.BeginsUdpConnect h place o a bound at g to known none own) b i = udp_same es h place o _ g refl refl i
     moves_exact es _ _ (walk.BeginsSend h place n o out d bound at g e is known own) b i = udp_same es h place o _ g refl refl i
     moves_exact es _ _ (walk.BeginsReceive h place n o inc bound at g e is own) b i = udp es h place (UdpRecord.Open o) (UdpRecord.Open _) g (λ live. begins es h b n own o inc bound e is.1) i
     moves_exact es _ _ (walk.CancelsBind h place r op q g e) b i = tcp es h place r _ g i
@@ -165,6 +165,11 @@ module _ (handle : ℕ) (list : List IncomingDatagram) (contexts : List WasiSock
         let its : UdpConnectOn o.inner.side op = subst (FitConnecting o.inner.side) e (b.0.0.0.udps place (UdpRecord.Open o) g).1 in
         let first : IsFirst (Some op.who.id) = subst (λ (x : Option Operation). IsFirst (name_of_op x)) e (b.1.1.0.connects place (UdpRecord.Open o) g) in
         polled_udp handle list contexts line origin es h place (UdpRecord.Open o) op (λ ended. UdpRecord.Open (udp_connect_left op o ended)) g (λ fs ended. connecting_none handle list contexts line origin es h b place o op g e fs (UdpRecord.Open (udp_connect_left op o ended)))
+        (λ p s. udp_connect_silent s.socket.inner.side ⊤ (HandName (hand_of s.stream.receiving)) op.who (λ x. not_first handle list contexts line origin es h b p s op.who.id first) op.left its.connect.left) i
+    polls_exact es h _ _ (walk.UdpReconnectsOn place o op q g e) b i =
+        let its : UdpConnectOn o.inner.side op = subst (FitConnecting o.inner.side) e (b.0.0.0.udps place (UdpRecord.Open o) g).1 in
+        let first : IsFirst (Some op.who.id) = subst (λ (x : Option Operation). IsFirst (name_of_op x)) e (b.1.1.0.connects place (UdpRecord.Open o) g) in
+        polled_udp handle list contexts line origin es h place (UdpRecord.Open o) op (λ ended. UdpRecord.Open (udp_reconnect_left op o ended)) g (λ fs ended. connecting_none handle list contexts line origin es h b place o op g e fs (UdpRecord.Open (udp_reconnect_left op o ended)))
         (λ p s. udp_connect_silent s.socket.inner.side ⊤ (HandName (hand_of s.stream.receiving)) op.who (λ x. not_first handle list contexts line origin es h b p s op.who.id first) op.left its.connect.left) i
     polls_exact es h _ _ (walk.SendsOn place o out op left g e f s) b i =
         let its : SendOn o.inner.side op = subst (FitSending o.inner.side) (ap sending_in e ∙ ap send_op f) (b.0.0.0.udps place (UdpRecord.Open o) g).2 in

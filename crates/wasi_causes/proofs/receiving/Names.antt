@@ -2,7 +2,7 @@
 use Rattle.wasi_walks.proofs.walks.Law.{BeginsWrites, InCall, Rests}
 use Rattle.wasi_causes.proofs.Words.{Allows, Done, End, Entry, Err, ErrorCode, Item, Job, List, None, Ok, Operation, Option, Refused, Result, Some, Step, TcpRecord, Waits, WasiSocketsCtx, WriteState, allows_then, ap, arith, inl, inr, job_asks, job_in, own_of, poll_asks, refl, subst, sym, turn_asks, with_writer, ℕ, ⊤, ◌+◌, ◌∙◌, ◌≡◌}
 use Rattle.wasi_udp.specs.Create.{Create, after_create as udp_after_create}
-use Rattle.wasi_records.specs.Datagrams.{udp_connect_left}
+use Rattle.wasi_records.specs.Datagrams.{udp_connect_left, udp_reconnect_left}
 use Rattle.wasi_records.specs.Receiving.{receive_left, with_receiving}
 use Rattle.wasi_records.specs.Udp.{udp_create_left}
 use Rattle.wasi_records.specs.declared.datagrams.Receiving.{Receiving}
@@ -74,7 +74,8 @@ module _ (contexts : List WasiSocketsCtx) (line : ℕ) (origin : Step) where
   moves_apart _ _ (walk.UdpChanges h place o now g p keeps) i =
       put_udps line h.own h.machine.store.records place (UdpRecord.Open o) (UdpRecord.Open now) g (kept_name (walk.receiving_in o.incoming) (walk.receiving_in now.incoming) p.receives) i (subst (λ (x : Option Operation). IsFirst (name_of_op x)) (sym p.connects) (i.connects place (UdpRecord.Open o) g))
   moves_apart _ _ (walk.BeginsUdpBind h place o a at g to own) i = used (put_udp h place _) (udp_stays h place o _ g refl refl i)
-  moves_apart _ _ (walk.BeginsUdpConnect h place o a at g to bound none own) i = connects (put_udp h place _) place (put_udps line h.own h.machine.store.records place (UdpRecord.Open o) (UdpRecord.Open _) g (inl refl) i refl)
+  moves_apart _ _ (walk.BeginsUdpConnect h place o a bound at g to known none own) i = connects (put_udp h place _) place (put_udps line h.own h.machine.store.records place (UdpRecord.Open o) (UdpRecord.Open _) g (inl refl) i refl)
+  moves_apart _ _ (walk.RecallsConnect h ids place e own) i = connects h place i
   moves_apart _ _ (walk.RecallsStreams h ids place handle e own) i = connects h place i
   moves_apart _ _ (walk.EndsConnect h place own over) i = used h i
   moves_apart _ _ (walk.BeginsSend h place n o out d bound at g e is known own) i = owns_apart line h.own (Names (n + 1)) _ (next_grows line n h.own own) (next_gives h.own n own i.gives) (udp_stays h place o _ g refl refl i)
@@ -100,6 +101,11 @@ module _ (contexts : List WasiSocketsCtx) (line : ℕ) (origin : Step) where
   connected h place o op (Done given, items) g e i = udp_other h place (UdpRecord.Open o) (UdpRecord.Open _) g refl tt i
   connected h place o op (Refused c given, items) g e i = put_udps line h.own h.machine.store.records place (UdpRecord.Open o) (UdpRecord.Open _) g (inl refl) i tt
 
+  reconnected : (h : Here) (place : ℕ) (o : OpenUdp) (op : Operation) (ended : End × List Item) → FoundUdp h place (UdpRecord.Open o) → o.connecting ≡ Some op → Apart h → Apart (put_udp h place (UdpRecord.Open (udp_reconnect_left op o ended)))
+  reconnected h place o op (Waits, items) g e i = put_udps line h.own h.machine.store.records place (UdpRecord.Open o) (UdpRecord.Open _) g (inl refl) i (subst (λ (x : Option Operation). IsFirst (name_of_op x)) e (i.connects place (UdpRecord.Open o) g))
+  reconnected h place o op (Done given, items) g e i = put_udps line h.own h.machine.store.records place (UdpRecord.Open o) (UdpRecord.Open _) g (inl refl) i tt
+  reconnected h place o op (Refused c given, items) g e i = put_udps line h.own h.machine.store.records place (UdpRecord.Open o) (UdpRecord.Open _) g (inl refl) i tt
+
   received_name : (h : Here) (place : ℕ) (o : OpenUdp) (inc : _) (op : Operation) (ended : End × List Item) → FoundUdp h place (UdpRecord.Open o) → o.incoming ≡ Some inc → inc.receiving ≡ Receiving.InProgress op → Apart h → Apart (put_udp h place (UdpRecord.Open (record o { incoming = Some (with_receiving inc (receive_left op ended)) })))
   received_name h place o inc op ended g e f i =
       put_udps line h.own h.machine.store.records place (UdpRecord.Open o) (UdpRecord.Open _) g
@@ -118,6 +124,7 @@ module _ (contexts : List WasiSocketsCtx) (line : ℕ) (origin : Step) where
   polls_apart h _ _ (walk.UdpCreates place create q g) ended i = udp_other h place (UdpRecord.Creating create) _ g (created_none create ended).0 (created_none create ended).1 i
   polls_apart h _ _ (walk.UdpBindsOn place o op q g e) ended i = udp_stays h place o _ g refl refl i
   polls_apart h _ _ (walk.UdpConnectsOn place o op q g e) ended i = connected h place o op ended g e i
+  polls_apart h _ _ (walk.UdpReconnectsOn place o op q g e) ended i = reconnected h place o op ended g e i
   polls_apart h _ _ (walk.SendsOn place o out op left g e f s) ended i = udp_stays h place o _ g refl refl i
   polls_apart h _ _ (walk.ReceivesOn place o inc op g e f) ended i = received_name h place o inc op ended g e f i
 

@@ -162,7 +162,8 @@ module _ (contexts : List WasiSocketsCtx) (line : ℕ) (origin : Step) where
   moves_older es _ _ (walk.BeginsListen h place r x at g d bound none to idle own) b i = used es h i
   moves_older es _ _ (walk.BeginsAccept h place n r l at g e a own) b i = next es h n own i
   moves_older es _ _ (walk.BeginsUdpBind h place o a at g to own) b i = used es h i
-  moves_older es _ _ (walk.BeginsUdpConnect h place o a at g to bound none own) b i = connecting es h place i
+  moves_older es _ _ (walk.BeginsUdpConnect h place o a bound at g to known none own) b i = connecting es h place i
+  moves_older es _ _ (walk.RecallsConnect h ids place e own) b i = connecting es h place i
   moves_older es _ _ (walk.RecallsStreams h ids place handle e own) b i = connecting es h place i
   moves_older es _ _ (walk.EndsConnect h place own over) b i = used es h i
   moves_older es _ _ (walk.BeginsSend h place n o out d bound at g e is known own) b i = next es h n own i
@@ -190,6 +191,8 @@ module _ (contexts : List WasiSocketsCtx) (line : ℕ) (origin : Step) where
   polls_older es h _ _ (walk.UdpBindsOn place o op q g e) b i = let its : UdpBindOn o.inner.side op = subst (FitUdpProgress o.inner.side) e (b.0.0.udps place (UdpRecord.Open o) g).0 in
       quiet_poll es h op (λ side. udp_bind_silent side ⊤ NoName op.who op.left its.bind.left) i
   polls_older es h _ _ (walk.UdpConnectsOn place o op q g e) b i = let its : UdpConnectOn o.inner.side op = subst (FitConnecting o.inner.side) e (b.0.0.udps place (UdpRecord.Open o) g).1 in
+      quiet_poll es h op (λ side. udp_connect_silent side ⊤ NoName op.who (λ x n. n) op.left its.connect.left) i
+  polls_older es h _ _ (walk.UdpReconnectsOn place o op q g e) b i = let its : UdpConnectOn o.inner.side op = subst (FitConnecting o.inner.side) e (b.0.0.udps place (UdpRecord.Open o) g).1 in
       quiet_poll es h op (λ side. udp_connect_silent side ⊤ NoName op.who (λ x n. n) op.left its.connect.left) i
   polls_older es h _ _ (walk.SendsOn place o out op left g e f s) b i =
       let its : SendOn o.inner.side op = subst (FitSending o.inner.side) (ap sending_in e ∙ ap send_op f) (b.0.0.udps place (UdpRecord.Open o) g).2 in

@@ -103,6 +103,10 @@ module _ (m : Machine) where
     connect_goes place handle None at = (λ o there. absurd (cc), refl)
     connect_goes place handle (Some o) at = (λ q there. let its : o ≡ q = cc in (refl, ap (λ (x : OpenUdp). let after : Machine = record m { store = cancel_udp_connect_at free place (Some x) } in after) its), refl)
 
+    reconnect_goes : (place : ℕ) (o : Option OpenUdp) → open_at m.store.records place ≡ o → LeftRow (StandingCall.UdpConnect3 place) [] (cancel_udp_connect_at free place o)
+    reconnect_goes place None at = (λ o there. absurd (cc), refl)
+    reconnect_goes place (Some o) at = (λ q there. let its : o ≡ q = cc in (refl, ap (λ (x : OpenUdp). let after : Machine = record m { store = cancel_udp_connect_at free place (Some x) } in after) its), refl)
+
     outgoing_goes : (place : ℕ) (o : Option OpenUdp) → open_at m.store.records place ≡ o → LeftRow (StandingCall.DropOutgoing place) [] (cancel_drop_outgoing_at free place o)
     outgoing_goes place None at = (λ o there. absurd (cc), refl)
     outgoing_goes place (Some o) at = (λ q there. let its : o ≡ q = cc in record { quiet = refl; left = ap (λ (x : OpenUdp). let after : Machine = record m { store = cancel_drop_outgoing_at free place (Some x) } in after) its; job = no_datagram place m.store.jobs }, refl)
@@ -114,6 +118,7 @@ module _ (m : Machine) where
     goes (StandingCall.UdpCreate place face) stands = create_goes place face stands (udp2_at m.store.records place) refl
     goes (StandingCall.UdpBind place face) stands = ends (udp_bind_goes place face (open_at m.store.records place) refl)
     goes (StandingCall.UdpConnect place handle) stands = ends (connect_goes place handle (open_at m.store.records place) refl)
+    goes (StandingCall.UdpConnect3 place) stands = ends (reconnect_goes place (open_at m.store.records place) refl)
     goes (StandingCall.DropOutgoing place) stands = ends (outgoing_goes place (open_at m.store.records place) refl)
     goes (StandingCall.Blocking blocks) stands = ends ((refl, refl), refl)
 

@@ -7,7 +7,7 @@ use Rattle.wasi_udp.specs.Shape.{Socket}
 use Rattle.wasi_records.specs.declared.records.Record.TheVariants.{Gone}
 use Rattle.wasi_records.specs.declared.datagrams.Receiving.TheVariants as receiving
 use Rattle.wasi_records.specs.declared.udp.UdpRecord.TheVariants as udp
-use Rattle.wasi_walks.specs.Waiting.{BindFailed, CallFails, CreateFailed, ListenFailed, UdpBindFailed, UdpConnectFailed}
+use Rattle.wasi_walks.specs.Waiting.{BindFailed, CallFails, CreateFailed, ListenFailed, UdpBindFailed, UdpConnect3Failed, UdpConnectFailed}
 use Rattle.wasi_walks.specs.Answered.{EndsPending}
 use Rattle.wasi_causes.specs.DatagramAsks.{AreHandedOut, AreSent, AsksForDatagram, AsksToReceive, AsksToSend, CameInTurn, ChecksDestination, ChecksSender, ChecksWildcard, HandsOutHeld, HandsOutNew, HandsOutNone, ReceiveAsksIfBound, SendAsksIfBound, SendsIt, part_of}
 use Rattle.wasi_causes.specs.Failed.{left_failed}
@@ -62,6 +62,7 @@ ClosesBy after _ = ⊤
 closes : (m : Machine) (es : List Entry) (pending : StandingCall) (c : ErrorCode) → (why : CallFails m es pending c) → ClosesBy (left_failed m why) pending
 closes m es _ _ (CreateFailed place face create c at why) = gone_at m.store.records place (udp.Creating create) at
 closes m es _ _ (UdpConnectFailed place handle o op c at is why) = tt
+closes m es _ _ (UdpConnect3Failed place o op c at is why) = tt
 closes m es _ _ (UdpBindFailed place face o op c at is why) = tt
 closes m es _ _ (BindFailed place face r op c at is why) = tt
 closes m es _ _ (ListenFailed place r op c at is why) = tt

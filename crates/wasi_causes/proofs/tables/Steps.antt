@@ -6,6 +6,7 @@ use Rattle.wasi_causes.proofs.Resumes.{poll}
 use Rattle.wasi_causes.proofs.sockets.Makes.{network, create, finish_connect_row, accept}
 use Rattle.wasi_causes.proofs.sockets.Questions.{get, set, local_address_row, remote_address_row, is_listens, family}
 use Rattle.wasi_causes.proofs.sockets.P3Binds.{p3_tcp_bind, p3_udp_bind}
+use Rattle.wasi_causes.proofs.sockets.P3UdpConnects.{p3_udp_connect}
 use Rattle.wasi_causes.proofs.sockets.P3Connects.{p3_tcp_connect}
 use Rattle.wasi_causes.proofs.sockets.P3Udp.{p3_udp_disconnect, p3_udp_family, p3_udp_get, p3_udp_local_address, p3_udp_remote_address, p3_udp_set}
 use Rattle.wasi_causes.proofs.sockets.Tcp3.{p3_address_family, p3_create, p3_get, p3_is_listening, p3_local_address, p3_remote_address, p3_set}
@@ -114,6 +115,7 @@ module _ (contexts : List WasiSocketsCtx) (m : Machine) (line : ℕ) where
   rows (step.Call c (guest.P3TcpBind s a)) = p3_tcp_bind contexts m line c s a
   rows (step.Call c (guest.P3TcpConnect s a)) = p3_tcp_connect contexts m line c s a
   rows (step.Call c (guest.P3UdpBind s a)) = p3_udp_bind contexts m line c s a
+  rows (step.Call c (guest.P3UdpConnect s a)) = p3_udp_connect contexts m line c s a
   rows (step.Call c (guest.P3UdpDisconnect s)) = p3_udp_disconnect contexts m line c s
   rows (step.Call c (guest.P3UdpLocalAddress s)) = p3_udp_local_address contexts m line c s
   rows (step.Call c (guest.P3UdpRemoteAddress s)) = p3_udp_remote_address contexts m line c s
@@ -214,6 +216,7 @@ waits m line n (step.Call ctx (guest.P3TcpBind _ _)) h = h
 waits m line n (step.Call ctx (guest.P3TcpConnect _ _)) h = h
 waits m line n (step.Call ctx (guest.P3UdpCreate _)) h = h
 waits m line n (step.Call ctx (guest.P3UdpBind _ _)) h = h
+waits m line n (step.Call ctx (guest.P3UdpConnect _ _)) h = h
 waits m line n (step.Call ctx (guest.UdpStartBind socket _ a)) h = h
 waits m line n (step.Call ctx (guest.UdpStream socket remote)) h = h
 waits m line n (step.Call ctx (guest.Drop handle)) h = h.1

@@ -7,7 +7,7 @@ use Rattle.wasi_addr.specs.declared.code.ErrorCode.TheVariants.{InvalidState}
 use Rattle.wasi_world.specs.Operation.{Datagram, Remote}
 use Rattle.wasi_records.specs.Datagrams.{udp_connect_left, udp_reconnect_left, with_sending}
 use Rattle.wasi_records.specs.Receiving.{receive_left, with_receiving}
-use Rattle.wasi_records.specs.Udp.{is_udp_idle, udp_bind_progress, with_udp_inner, with_udp_progress}
+use Rattle.wasi_records.specs.Udp.{udp_bind_progress, with_udp_inner, with_udp_progress}
 use Rattle.wasi_records.specs.declared.datagrams.Incoming.{Incoming}
 use Rattle.wasi_records.specs.declared.datagrams.Outgoing.{Outgoing}
 use Rattle.wasi_records.specs.declared.datagrams.Receiving.{Receiving}

@@ -3,24 +3,22 @@ use Rattle.std.specs.Prelude.{◌≡◌, ⊤, ℕ, Bool, true, false, if◌then�
 use Rattle.wasi_addr.specs.declared.address.IpSocketAddress.{IpSocketAddress}
 use Rattle.wasi_addr.specs.declared.code.ErrorCode.TheVariants.{InvalidState}
 use Rattle.wasi_addr.specs.Code.{p3_of_code}
-use Rattle.wasi_walks.proofs.Words.{Answer, Done, End, ErrorCode, Give, Has, InvalidArgument, Item, Machine, Operation, Pending, Ready, Refused, Step, Trap, Waits, WasiSocketsCtx, List}
+use Rattle.wasi_walks.proofs.Words.{Answer, Done, End, ErrorCode, Give, Has, InvalidArgument, Item, Machine, Operation, Pending, Ready, Refused, Step, Waits, WasiSocketsCtx, List}
 use Rattle.wasi_walks.proofs.Words.{ap, bind, inl, inr, kind_at, left_of, own_of, poll_asks, refl, subst, sym}
 use Rattle.wasi_machine.specs.Machine.{first_ids}
 use Rattle.wasi_world.specs.declared.ids.Ids.{Ids}
 use Rattle.wasi_world.specs.declared.ids.OpId.{OpId}
-use Rattle.wasi_world.specs.declared.outcome.TrapKind.TheVariants.{NoSuchHandle}
-use Rattle.wasi_world.specs.Asks.{Asks}
 use Rattle.wasi_udp.specs.Connect.{connect_asks, connect_start, is_connectable}
 use Rattle.wasi_udp.specs.Shape.{Socket}
 use Rattle.wasi_udp.specs.Socket.{bound_asks}
 use Rattle.wasi_records.specs.declared.udp.OpenUdp.{OpenUdp}
 use Rattle.wasi_records.specs.declared.udp.UdpRecord.TheVariants.{Open}
 use Rattle.wasi_records.specs.Datagrams.{has_streams, udp_alone_begun, udp_connect_asks, udp_reconnect_asks, udp_reconnect_ended, udp_reconnect_left, udp_reconnecting}
-use Rattle.wasi_records.specs.Records.{open_at, udp2_at}
+use Rattle.wasi_records.specs.Records.{open_at}
 use Rattle.wasi_records.specs.Stops.{Code}
 use Rattle.wasi_records.specs.Udp.{with_udp_inner}
 use Rattle.wasi_host.specs.declared.store.StandingCall.TheVariants.{UdpConnect3}
-use Rattle.wasi_host.specs.BaseStops.{BaseStop, renamed}
+use Rattle.wasi_host.specs.BaseStops.{renamed}
 use Rattle.wasi_host.specs.Binds.{Answered, keeps}
 use Rattle.wasi_host.specs.Block.{Call, goes_on, or_trap, need, ◌>>=◌, ◌>>◌}
 use Rattle.wasi_host.specs.Machine.{udp3_at}
@@ -30,7 +28,7 @@ use Rattle.wasi_p3.specs.Udp.{connect_to}
 use Rattle.wasi_steps.specs.Steps.{handles_of}
 use Rattle.wasi_walks.specs.Licence.{IsUdpConnectTo}
 use Rattle.wasi_walks.proofs.walks.Here.{no_open}
-use Rattle.wasi_walks.proofs.walks.Moves.{BeginsUdpConnect, EndsConnect, FoundUdp, Here, NoStart, NoStartStands, Own, ReachesUdp, Spends, StandsConnect, ToConnect, Unused, Used, put_udp}
+use Rattle.wasi_walks.proofs.walks.Moves.{BeginsUdpConnect, EndsConnect, FoundUdp, Here, NoStart, NoStartStands, ReachesUdp, Spends, StandsConnect, ToConnect, Unused, Used, put_udp}
 use Rattle.wasi_walks.proofs.walks.Datagrams.{Ends, Going, HasUdpConnect, KeepsBound, bound_given, goes}
 use Rattle.wasi_walks.proofs.walks.Law.{Given, Law, Walks, and_given, and_then, by_if, from, give, given_along, given_on, given_then, gives, move}
 use Rattle.wasi_walks.proofs.walks.Lines.{call_given, look}
