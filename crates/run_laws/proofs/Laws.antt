@@ -18,6 +18,7 @@ use Rattle.wasi_laws.specs.Permitted.{IsOfSteps, Did, Begun}
 use Rattle.wasi_laws.proofs.order.Law.{runs_ordered}
 use Rattle.wasi_laws.proofs.permits.Runs.{runs_let, runs_let_begun}
 use Rattle.wasi_laws.proofs.permits.Steps.{runs_of_steps}
+use Rattle.wasi_laws.proofs.receivers.Law.{runs_receive_on_one}
 use Rattle.wasi_laws.proofs.sockets.Law.{runs_open}
 use Rattle.wasi_causes.proofs.receiving.Runs.{runs_hand_out_fronts}
 use Rattle.wasi_run.specs.declared.error.RunError.{RunError}
@@ -52,6 +53,7 @@ keeps_laws contexts steps log replies h licensed = record {
   licensed = licensed;
   checks_first = λ op. runs_ordered op contexts steps log h.rest h.begun;
   while_open = runs_open contexts steps log h.rest h.begun;
+  on_one = runs_receive_on_one contexts steps log h.rest h.begun;
   taken = λ side. took_permitted contexts side steps log (runs_of_steps contexts side steps log h.rest h.begun);
   in_order = λ side. runs_in_order contexts side steps log replies h;
   handed_out = λ handle. runs_hand_out_fronts handle contexts h.done h.front replies h.state h.ran;

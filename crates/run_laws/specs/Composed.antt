@@ -16,6 +16,7 @@ use Rattle.wasi_walks.specs.Received.{HandsOutInOrder}
 use Rattle.wasi_laws.specs.Opened.{AsksOpenSockets}
 use Rattle.wasi_laws.specs.Order.{ChecksFirst, asked_by}
 use Rattle.wasi_laws.specs.Permitted.{IsOfSteps, permitted_by}
+use Rattle.wasi_laws.specs.Receivers.{ReceivesOnOne}
 use Rattle.wasi_causes.specs.ReceivedList.{HandsOutFront, handed_out}
 use Rattle.wasi_run.specs.declared.error.RunError.{RunError}
 use Rattle.wasi_run.specs.declared.run.RunEnd.{RunEnd}
@@ -39,6 +40,7 @@ pub record KeepsLaws (contexts : List WasiSocketsCtx) (steps : List Step) (log :
   pub checks_first : (op : OpId) → ChecksFirst (asked_by op log)
   pub while_open : AsksOpenSockets log
   pub taken : (side : OpId) → TookPermitted contexts side steps log
+  pub on_one : ReceivesOnOne log
   pub in_order : (side : OpId) → HandsOutInOrder log side steps replies
   pub handed_out : (handle : ℕ) → (handed_out handle run.done replies ≡ []) ⊎ HandsOutFront run.front run.done replies handle
 

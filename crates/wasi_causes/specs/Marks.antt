@@ -54,3 +54,11 @@ pub record FailsOnItsSide (log : List Entry) (own : OpId) (stream : ℕ) (word :
   pub word_is : word ≡ word_of_code code
   pub cut : entries ≡ entry own (Read side size) (Code code) ∷ entry own (Shutdown side Receive) Done
       ∷ entry own (Made (marks_in log + 1) ErrorValue (Some stream) (Some side)) Done ∷ []
+
+-- So the last entries of a call that blocks are, after those of its look.
+pub record FailsAtLast (log : List Entry) (own : OpId) (stream : ℕ) (word : CodeWord) (entries : List Entry)
+    : Type 0 where
+  pub front : List Entry
+  pub rest : List Entry
+  pub cut : entries ≡ front ++ rest
+  pub fails : FailsOnItsSide log own stream word rest

@@ -1,12 +1,16 @@
 //! Marks of handles in the logs of runs: laws over the definitions of specs/. Each is a function
 //! that does nothing, whose contract is the law.
 
-ghost use Rattle.std.specs.Prelude.{ℕ, ◌<◌, List, []};
+ghost use Rattle.std.specs.Prelude.{◌≡◌, ℕ, ◌<◌, List, [], Some};
 ghost use Rattle.wasi_world.specs.declared.call.Entry.{Entry};
 ghost use Rattle.wasi_world.specs.declared.outcome.WasiSocketsCtx.{WasiSocketsCtx};
+ghost use Rattle.wasi_world.specs.declared.ids.Ids.{Ids};
 ghost use Rattle.wasi_world.specs.Asks.{Asks, Give, Left};
+ghost use Rattle.wasi_host.specs.declared.blocking.BlockingCall.{BlockingCall};
 ghost use Rattle.wasi_host.specs.declared.machine.Machine.{Machine};
+ghost use Rattle.wasi_host.specs.declared.store.StandingCall.{StandingCall};
 ghost use Rattle.wasi_host.specs.Machine.{first_state, own_of};
+ghost use Rattle.wasi_host.specs.Standing.{standing_as};
 ghost use Rattle.wasi_machine.specs.Machine.{run};
 ghost use Rattle.wasi_steps.specs.declared.guest_call.GuestCall.{GuestCall};
 ghost use Rattle.wasi_steps.specs.declared.reply.CodeWord.{CodeWord};
@@ -14,7 +18,7 @@ ghost use Rattle.wasi_steps.specs.declared.reply.Field.{Field};
 ghost use Rattle.wasi_steps.specs.declared.reply.Reply.{Reply};
 ghost use Rattle.wasi_steps.specs.declared.step.Step.{Step};
 ghost use Rattle.wasi_walks.specs.Answered.{Answered};
-ghost use Rattle.wasi_causes.specs.Marks.{FailsOnItsSide, MarksThree, TwoMarks};
+ghost use Rattle.wasi_causes.specs.Marks.{FailsAtLast, FailsOnItsSide, MarksThree, TwoMarks};
 
 /// In a run no two marks have one handle, so the three of an accept are three.
 ///
@@ -35,15 +39,34 @@ pub fn marks_have_handles_of_their_own()
         → MarksThree log (own_of line) listener fields entries }
 {}
 
-/// In a run a `read` that fails asked for bytes of the network socket that the stream's handle was
+/// In a run a read that fails asked for bytes of the network socket that the stream's handle was
 /// marked with, and got the code that its word is of; the half that it shut is of that network
 /// socket, and so is the error's mark.
+///
+/// - `read`: all that a `read` asks.
+/// - `blocking_read`: the last that a `blocking-read` asks, in its line.
+/// - `polled`: the last that a poll of a pending one asks, by the operation of the read's own line.
 pub fn failed_reads_are_of_their_stream()
-    ensures { (contexts : List WasiSocketsCtx) (steps : List Step) (log : List Entry)
+    ensures read { (contexts : List WasiSocketsCtx) (steps : List Step) (log : List Entry)
         (replies : List Reply) (m : Machine) (line ctx stream len : ℕ) (entries : List Entry)
         (word : CodeWord) (handle : ℕ) (after : Machine)
         → Left (run contexts [] first_state 1 steps) log (Give (replies, m))
         → Answered contexts m line (Step.Call ctx (GuestCall.Read stream len)) entries
         (Reply.Failed word handle) after
         → FailsOnItsSide log (own_of line) stream word entries }
+    ensures blocking_read { (contexts : List WasiSocketsCtx) (steps : List Step) (log : List Entry)
+        (replies : List Reply) (m : Machine) (line ctx stream len : ℕ) (entries : List Entry)
+        (word : CodeWord) (handle : ℕ) (after : Machine)
+        → Left (run contexts [] first_state 1 steps) log (Give (replies, m))
+        → Answered contexts m line (Step.Call ctx (GuestCall.BlockingRead stream len)) entries
+        (Reply.Failed word handle) after
+        → FailsAtLast log (own_of line) stream word entries }
+    ensures polled { (contexts : List WasiSocketsCtx) (steps : List Step) (log : List Entry)
+        (replies : List Reply) (m : Machine) (line stream len : ℕ) (ids : Ids)
+        (entries : List Entry) (word : CodeWord) (handle : ℕ) (after : Machine)
+        → Left (run contexts [] first_state 1 steps) log (Give (replies, m))
+        → m.store.standing ≡ Some (standing_as ids (StandingCall.Blocking
+        (BlockingCall.Read stream len)))
+        → Answered contexts m line (Step.Poll ids.line) entries (Reply.Failed word handle) after
+        → FailsAtLast log (own_of ids.line) stream word entries }
 {}

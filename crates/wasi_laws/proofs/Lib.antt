@@ -5,3 +5,4 @@ pub mod order
 pub mod permits
 pub mod sockets
 pub mod bounds
+pub mod receivers

@@ -3,3 +3,4 @@ pub mod Writes
 pub mod Permitted
 pub mod Opened
 pub mod Bounds
+pub mod Receivers

@@ -3,6 +3,7 @@
 #![tactic(auto)]
 
 pub mod polls;
+pub mod receives;
 
 ghost use Rattle.std.specs.Prelude.{◌≡◌, ℕ, ◌+◌, ◌<◌, List, [], ◌∷◌, ◌++◌, Some, length};
 ghost use Rattle.wasi_world.specs.declared.call.Call.TheVariants as Call;

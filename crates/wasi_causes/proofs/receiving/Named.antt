@@ -11,7 +11,8 @@ use Rattle.wasi_records.specs.declared.records.Record.{Record}
 use Rattle.wasi_records.specs.declared.udp.UdpRecord.{UdpRecord}
 use Rattle.wasi_walks.proofs.GoneLists.{was_there}
 use Rattle.wasi_walks.proofs.walks.Here.{Grows, IsOlder}
-use Rattle.wasi_walks.proofs.walks.Moves.{Collects, Closes, KeepsOp, Lasts, LastsAfter, Names, Own, Permits, SameSockets, WriterMoves, receive_op, receiving_in}
+pub use Rattle.wasi_walks.proofs.walks.Later.{GivesLater}
+use Rattle.wasi_walks.proofs.walks.Moves.{Collects, Closes, KeepsOp, Lasts, LastsAfter, Own, Permits, SameSockets, WriterMoves, receive_op, receiving_in}
 use Rattle.wasi_walks.proofs.Places.{push_found, push_new, push_was, put_found, put_was, tcp_sort, udp_sort}
 
 -- == of a record
@@ -40,11 +41,6 @@ streams_name None = None
 abbrev pub IsFirst : Option OpId → Type 0
 IsFirst (Some x) = x.part ≡ 0
 IsFirst None = ⊤
-
--- what a line gives to its parts begins past its first name
-abbrev pub GivesLater : Own → Type 0
-GivesLater (Names n) = 1 ≤ n
-GivesLater own = ⊤
 
 -- == of all of them
 pub record NamesApart (line : ℕ) (own : Own) (records : List Record) : Type 0 where

@@ -1,7 +1,7 @@
 -- In runs handles of marks rise; an accept marks the next three; a read that fails is of its stream's network socket.
 use Rattle.wasi_causes.proofs.Words.{◌≡◌, ◌∙◌, ℕ, ◌+◌, ◌++◌, ◌∷◌, [], Answered, Asks, Entry, Give, Left, List, Machine, OpId}
-use Rattle.wasi_causes.proofs.Words.{Option, Reply, Some, Step, TcpRecord, WasiSocketsCtx, ap, arith, entry, first_state}
-use Rattle.wasi_causes.proofs.Words.{input_at, kind_at, own_of, run, subst, sym, Field, CodeWord}
+use Rattle.wasi_causes.proofs.Words.{None, Option, Reply, Some, Standing, StandingCall, Step, TcpRecord, WasiSocketsCtx, ap, arith, bytes_fields, entry, first_ids, first_state}
+use Rattle.wasi_causes.proofs.Words.{inl, input_at, kind_at, own_of, refl, run, standing_as, subst, sym, Field, CodeWord}
 use Rattle.std.specs.Prelude.{◌<◌}
 use Rattle.wasi_world.specs.declared.call.Call.TheVariants as call
 use Rattle.wasi_world.specs.declared.call.HandleKind.TheVariants as name
@@ -17,11 +17,14 @@ use Rattle.wasi_walks.proofs.remotes.State.{ReadsBy}
 use Rattle.wasi_walks.specs.Answered.{FailsWith, OfStreams, ReadFails, read_entry, shut_entry}
 use Rattle.wasi_walks.specs.Licence.{marks_in}
 use Rattle.wasi_walks.specs.Listens.{AcceptsAt, accepted_marks}
-use Rattle.wasi_causes.proofs.tables.Steps.{its_own}
+use Rattle.wasi_world.specs.declared.ids.Ids.{Ids}
+use Rattle.wasi_host.specs.declared.blocking.BlockingCall.TheVariants as blocking
+use Rattle.wasi_causes.proofs.tables.Steps.{busy_exactly, its_own, while_free}
 use Rattle.wasi_causes.proofs.streams.ErrorMarks.{failed_read}
 use Rattle.wasi_causes.proofs.streams.ReadsInRuns.{input_kind, side_of_half}
+use Rattle.wasi_causes.specs.Blocking.{AsRead, ReadsOn}
 use Rattle.wasi_causes.specs.ErrorMarks.{MarksItsSocket}
-use Rattle.wasi_causes.specs.Marks.{FailsOnItsSide, MarksThree, TwoMarks}
+use Rattle.wasi_causes.specs.Marks.{FailsAtLast, FailsOnItsSide, MarksThree, TwoMarks}
 
 -- == marks
 marks_both : (es fs : List Entry) → marks_in (es ++ fs) ≡ marks_in es + marks_in fs
@@ -76,15 +79,19 @@ module _ (contexts : List WasiSocketsCtx) (steps : List Step) (log : List Entry)
       by_rest [] e = cc
       by_rest (z ∷ zs) e = cc
 
-  pub failed_so : (line ctx stream len : ℕ) (es : List Entry) (word : CodeWord) (handle : ℕ) (after : Machine)
-      → Answered contexts m line (step.Call ctx (guest.Read stream len)) es (reply.Failed word handle) after
+  -- whatever is pending
+  abbrev Pends : Option Standing → Machine
+  Pends pending = record m { store = record m.store { standing = pending } }
+
+  failed_while : (pending : Option Standing) (line ctx stream len : ℕ) (es : List Entry) (word : CodeWord) (handle : ℕ) (after : Machine)
+      → Answered contexts (Pends pending) line (step.Call ctx (guest.Read stream len)) es (reply.Failed word handle) after
       → FailsOnItsSide log (own_of line) stream word es
-  failed_so line ctx stream len es word handle after a =
-      let k : OfStreams m (input_at m stream) (λ place r s. FailsWith m (own_of line) stream (ReadFails (own_of line) len s.reader) es word handle × _) =
-      (its_own contexts m line (step.Call ctx (guest.Read stream len)) es (reply.Failed word handle) after a (λ e. cc)).1.1 in
+  failed_while pending line ctx stream len es word handle after a =
+      let k : OfStreams (Pends pending) (input_at m stream) (λ place r s. FailsWith (Pends pending) (own_of line) stream (ReadFails (own_of line) len s.reader) es word handle × _) =
+      (its_own contexts (Pends pending) line (step.Call ctx (guest.Read stream len)) es (reply.Failed word handle) after a (λ e. cc)).1.1 in
       let fails = k.holds.0 in
       let reads = fails.cause in
-      let marks : MarksItsSocket m (own_of line) stream (input_at m stream) es = failed_read contexts m line stream es word handle after ctx len a in
+      let marks : MarksItsSocket (Pends pending) (own_of line) stream (input_at m stream) es = failed_read contexts (Pends pending) line stream es word handle after ctx len a in
       let kind = input_kind contexts steps log replies m w (kind_at m.table stream) k.place k.names in
       let same : marks.place ≡ k.place = (let p : Some marks.place ≡ Some k.place = sym marks.names ∙ k.names in cc) in
       let found : marks.found ≡ k.found = (let p : Some marks.found ≡ Some k.found = sym marks.at ∙ (ap (λ (n : ℕ). tcp2_at m.store.records n) same ∙ k.at) in cc) in
@@ -95,7 +102,7 @@ module _ (contexts : List WasiSocketsCtx) (steps : List Step) (log : List Entry)
       let x : Entry = entry (own_of line) (call.Made m.table.next name.ErrorValue (Some stream) fails.side) fails.told in
       let y : Entry = entry (own_of line) (call.Made m.table.next name.ErrorValue (Some stream) marks.found.side) told.Done in
       let cut : es ≡ r ∷ s ∷ x ∷ [] = fails.marked ∙ ap (λ (before : List Entry). before ++ x ∷ []) reads.asked in
-      let last : x ≡ y = last_is [] marks.before r s x y (sym cut ∙ marks.cut) in
+      let last : x ≡ y = last_is [] marks.before r s x y (sym {b = r ∷ s ∷ x ∷ []} cut ∙ marks.cut) in
       record {
         side = reads.half.side;
         of_handle = side_of_half contexts steps log replies m w stream k.place k.found k.streams reads.half kind k.at k.has reads.is_open;
@@ -105,3 +112,35 @@ module _ (contexts : List WasiSocketsCtx) (steps : List Step) (log : List Entry)
         cut = cut ∙ ap (λ (e : Entry). r ∷ s ∷ e ∷ []) (last ∙ (ap (λ (side : Option OpId). entry (own_of line) (call.Made m.table.next name.ErrorValue (Some stream) side) told.Done) its
             ∙ ap (λ (n : ℕ). entry (own_of line) (call.Made n name.ErrorValue (Some stream) (Some reads.half.side)) told.Done) count));
       }
+
+  pub failed_so : (line ctx stream len : ℕ) (es : List Entry) (word : CodeWord) (handle : ℕ) (after : Machine)
+      → Answered contexts m line (step.Call ctx (guest.Read stream len)) es (reply.Failed word handle) after
+      → FailsOnItsSide log (own_of line) stream word es
+  failed_so line ctx stream len es word handle after a = failed_while m.store.standing line ctx stream len es word handle after a
+
+  -- a call that blocks, as it fails
+  reads_on : (pending : Option Standing) (ids : Ids) (ctx stream len : ℕ) (es : List Entry) (word : CodeWord) (handle : ℕ) (after : Machine)
+      → ReadsOn contexts (Pends pending) ids (blocking.Read stream len) stream len (step.Call ctx (guest.Read stream len)) (reply.Ok (bytes_fields [])) es (reply.Failed word handle) after
+      → FailsAtLast log (own_of ids.line) stream word es
+  reads_on pending ids ctx stream len _ word handle _ (AsRead es fs _ after look w other) =
+      record { front = es; rest = fs; cut = refl; fails = failed_while pending ids.line ctx stream len fs word handle after w }
+
+  pub blocking_failed_so : (line ctx stream len : ℕ) (es : List Entry) (word : CodeWord) (handle : ℕ) (after : Machine)
+      → Answered contexts m line (step.Call ctx (guest.BlockingRead stream len)) es (reply.Failed word handle) after
+      → FailsAtLast log (own_of line) stream word es
+  blocking_failed_so line ctx stream len es word handle after a = by_standing m.store.standing refl
+    where
+      by_standing : (o : Option Standing) → m.store.standing ≡ o → FailsAtLast log (own_of line) stream word es
+      by_standing None e = reads_on m.store.standing (first_ids line) ctx stream len es word handle after
+          ((while_free contexts m line (step.Call ctx (guest.BlockingRead stream len)) e es (reply.Failed word handle) after a).0 e)
+      by_standing (Some s) e = absurd (let busy =
+          (busy_exactly contexts m line (step.Call ctx (guest.BlockingRead stream len)) es (reply.Failed word handle) after a).1 (rw e refl, inl refl) in cc)
+
+  -- and a poll of it
+  pub polled_failed_so : (line stream len : ℕ) (ids : Ids) (es : List Entry) (word : CodeWord) (handle : ℕ) (after : Machine)
+      → m.store.standing ≡ Some (standing_as ids (StandingCall.Blocking (blocking.Read stream len)))
+      → Answered contexts m line (step.Poll ids.line) es (reply.Failed word handle) after
+      → FailsAtLast log (own_of ids.line) stream word es
+  polled_failed_so line stream len ids es word handle after stands a =
+      reads_on None ids 0 stream len es word handle after
+      ((its_own contexts m line (step.Poll ids.line) es (reply.Failed word handle) after a (λ e. cc)).0.2 0 ids (blocking.Read stream len) stands refl tt)

@@ -19,27 +19,33 @@ is_calm (call.Write sock offered) = false
 is_calm (call.Close sock) = false
 is_calm _ = true
 
--- A calm call on the network socket.
+-- it asks for no datagram
+abbrev pub NoRecv : Call → Type 0
+NoRecv (call.Recv sock) = ⊥
+NoRecv _ = ⊤
+
+-- A calm call on the network socket, which asks for no datagram.
 pub record CalmOn (side : OpId) (c : Call) : Type 0 where
   pub calm : is_calm c ≡ true
+  pub quiet : NoRecv c
   pub on : socket_of c ≡ Some side
 
 pub question_calm : (line : ℕ) (origin : Step) (n : ℕ) (side : OpId) (c : Call) → IsQuestionOf line origin n side c → CalmOn side c
-question_calm line origin n side (call.Local s) q = record { calm = refl; on = ap (λ (x : OpId). Some x) q }
-question_calm line origin n side (call.Peer s) q = record { calm = refl; on = ap (λ (x : OpId). Some x) q }
-question_calm line origin n side (call.GetOption s option) q = record { calm = refl; on = ap (λ (x : OpId). Some x) q.0 }
-question_calm line origin n side (call.SetOption s option value) q = record { calm = refl; on = ap (λ (x : OpId). Some x) q.0 }
-question_calm line origin n side (call.Read s size) q = record { calm = refl; on = ap (λ (x : OpId). Some x) q }
-question_calm line origin n side (call.ReadReady s) q = record { calm = refl; on = ap (λ (x : OpId). Some x) q }
-question_calm line origin n side (call.WriteReady s) q = record { calm = refl; on = ap (λ (x : OpId). Some x) q }
-question_calm line origin n side (call.Shutdown s how) q = record { calm = refl; on = ap (λ (x : OpId). Some x) q }
+question_calm line origin n side (call.Local s) q = record { calm = refl; quiet = tt; on = ap (λ (x : OpId). Some x) q }
+question_calm line origin n side (call.Peer s) q = record { calm = refl; quiet = tt; on = ap (λ (x : OpId). Some x) q }
+question_calm line origin n side (call.GetOption s option) q = record { calm = refl; quiet = tt; on = ap (λ (x : OpId). Some x) q.0 }
+question_calm line origin n side (call.SetOption s option value) q = record { calm = refl; quiet = tt; on = ap (λ (x : OpId). Some x) q.0 }
+question_calm line origin n side (call.Read s size) q = record { calm = refl; quiet = tt; on = ap (λ (x : OpId). Some x) q }
+question_calm line origin n side (call.ReadReady s) q = record { calm = refl; quiet = tt; on = ap (λ (x : OpId). Some x) q }
+question_calm line origin n side (call.WriteReady s) q = record { calm = refl; quiet = tt; on = ap (λ (x : OpId). Some x) q }
+question_calm line origin n side (call.Shutdown s how) q = record { calm = refl; quiet = tt; on = ap (λ (x : OpId). Some x) q }
 question_calm line origin n side _ q = absurd q
 
 -- the same of a UDP socket
 pub udp_question_calm : (line : ℕ) (origin : Step) (n : ℕ) (side : OpId) (c : Call) → IsUdpQuestionOf line origin n side c → CalmOn side c
-udp_question_calm line origin n side (call.Local s) q = record { calm = refl; on = ap (λ (x : OpId). Some x) q }
-udp_question_calm line origin n side (call.GetOption s option) q = record { calm = refl; on = ap (λ (x : OpId). Some x) q.0 }
-udp_question_calm line origin n side (call.SetOption s option value) q = record { calm = refl; on = ap (λ (x : OpId). Some x) q.0 }
+udp_question_calm line origin n side (call.Local s) q = record { calm = refl; quiet = tt; on = ap (λ (x : OpId). Some x) q }
+udp_question_calm line origin n side (call.GetOption s option) q = record { calm = refl; quiet = tt; on = ap (λ (x : OpId). Some x) q.0 }
+udp_question_calm line origin n side (call.SetOption s option value) q = record { calm = refl; quiet = tt; on = ap (λ (x : OpId). Some x) q.0 }
 udp_question_calm line origin n side _ q = absurd q
 
 pub unwritten : (c : Call) → is_calm c ≡ true → NoWrite c

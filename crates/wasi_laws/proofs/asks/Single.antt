@@ -7,13 +7,14 @@ use Rattle.wasi_tcp.specs.declared.socket.TcpState.TheVariants as state
 use Rattle.socket_common.specs.Rounds.{is_going, some_left}
 use Rattle.wasi_walks.proofs.claims.Law.{begins_on_names}
 use Rattle.wasi_walks.proofs.walks.Runs.{each_entry}
-use Rattle.wasi_laws.proofs.Words.{made_to, false, ErrorValue, BeginsWrites, Accepts, Allows, Asks, Base, BaseBetween, Begins, Call, End, Entry, Err, ErrorCode, FitListening, Found, HandleTable, Held, Here, HoldsAccept, IpSocketAddress, IsAcceptOn, IsDoneOrCode, Item, Job, Kind, Law, Left, List, Listener, Machine, Made, Move, None, Not, Ok, OpId, Operation, Option, Over, Own, Reply, Result, Socket, SocketAddressFamily, Some, Spends, Starts, Step, Streams, Tcp2, TcpRecord, Told, Unused, Used, Walks, WasiSocketsCtx, WriteState, [], after_create, allows_if, allows_then, allows_weaker, ap, base_over, base_starts, bind, closed_record, created_asks, entry, first_base, first_state, job_after, length, machine_asks, machine_walks, made_so, make_asks, may_while, new_asks, new_socket, on_along, on_names, own_of, poll_asks, put, refl, run, side_at, side_in, side_of, socket_of, subst, sym, told_addr, told_done, told_same, true, with_listening, with_writer, ℕ, ◌++◌, ◌+◌, ◌∙◌, ◌∷◌, ◌≡◌}
+use Rattle.wasi_laws.proofs.Words.{made_to, false, ErrorValue, BeginsWrites, Accepts, Allows, Asks, Base, BaseBetween, Begins, Call, End, Entry, Err, ErrorCode, FitListening, Found, HandleTable, Held, Here, HoldsAccept, IpSocketAddress, IsAcceptOn, IsDoneOrCode, Item, Job, Kind, Law, Left, List, Listener, Machine, Made, Move, None, Not, Ok, OpId, Operation, Option, Over, Own, Reply, Result, Socket, SocketAddressFamily, Some, Spends, Starts, Step, Streams, Tcp2, TcpRecord, Told, Unused, Used, Walks, WasiSocketsCtx, WriteState, [], after_create, allows_if, allows_then, allows_weaker, ap, base_over, base_starts, bind, closed_record, entry, first_base, first_state, job_after, length, machine_asks, machine_walks, made_so, make_asks, may_while, new_asks, new_socket, on_along, on_names, own_of, poll_asks, put, refl, run, side_at, side_in, side_of, socket_of, subst, sym, told_addr, told_done, told_same, true, with_listening, with_writer, ℕ, ◌++◌, ◌+◌, ◌∙◌, ◌∷◌, ◌≡◌}
 use Rattle.wasi_walks.proofs.walks.Asked.{Asked, Questions, SetsBacklog, Learns, Closes, UdpQuestions, UdpDisconnects, UdpLearns, UdpPeers, UdpCloses, UdpBegins, Resolves, Looks, MarksOne, MarksAccepted, MarksUdp, MarksStream, MarksError, AsksCreate, Polls, Turns, GivesUp, UdpGivesUp}
 use Rattle.wasi_walks.proofs.walks.Layers.{begins_layer, layer}
 use Rattle.wasi_walks.proofs.walks.OfState.{begins_state, creating, of_state}
 use Rattle.wasi_laws.proofs.Words.{BeginsIn, Rests}
+use Rattle.wasi_walks.proofs.walks.Later.{GivesLater, may_later}
 use Rattle.wasi_walks.proofs.Words.{Stop}
-use Rattle.wasi_laws.proofs.asks.Fronts.{is_calm, CalmOn, question_calm, udp_question_calm}
+use Rattle.wasi_laws.proofs.asks.Fronts.{is_calm, CalmOn, NoRecv, question_calm, udp_question_calm}
 use Rattle.wasi_laws.proofs.asks.Trees as tree
 use Rattle.wasi_laws.proofs.asks.Trees.{GoesOn, Undoes, Then, makes_by, turns_by, gives_up_by}
 use Rattle.wasi_laws.proofs.shapes.Shape.{ListenerShape, on_socket, Same, SocketsStay, sockets_stay, UdpLives}
@@ -41,11 +42,11 @@ module _ (contexts : List WasiSocketsCtx) (line : ℕ) (origin : Step) where
   abbrev pub Grounds : Here → Type 0
   Grounds h = Base contexts line origin h × Shaped h
 
-  -- the socket that a calm call is on, where it is on one
+  -- the socket that a calm call is on, where it is on one; it asks for no datagram
   pub data IsAskedOn (h : Here) (c : Call) : Type 0 where
     OnNone : socket_of c ≡ None → IsAskedOn h c
-    OnSide : (place : ℕ) (r : TcpRecord) (side : OpId) → Found h place r → side_of r.inner ≡ Some side → socket_of c ≡ Some side → Grounds h → IsAskedOn h c
-    OnUdp : (place : ℕ) (o : OpenUdp) → FoundUdp h place (UdpRecord.Open o) → socket_of c ≡ Some o.inner.side → Grounds h → IsAskedOn h c
+    OnSide : (place : ℕ) (r : TcpRecord) (side : OpId) → Found h place r → side_of r.inner ≡ Some side → socket_of c ≡ Some side → Grounds h → NoRecv c → IsAskedOn h c
+    OnUdp : (place : ℕ) (o : OpenUdp) → FoundUdp h place (UdpRecord.Open o) → socket_of c ≡ Some o.inner.side → Grounds h → NoRecv c → IsAskedOn h c
 
   -- P is what each ask must be, and Inv what holds between the asks.
   pub record Single (P : List Entry → OpId → Call → Type 0) (Inv : List Entry → Here → Type 0) : Type 0 where
@@ -76,7 +77,7 @@ module _ (contexts : List WasiSocketsCtx) (line : ℕ) (origin : Step) where
   module _ {P : List Entry → OpId → Call → Type 0} {Inv : List Entry → Here → Type 0} (a : Single P Inv) where
     -- a calm call on a record
     on_record : (es : List Entry) (h : Here) (place : ℕ) (r : TcpRecord) (op side : OpId) (c : Call) → Found h place r → side_of r.inner ≡ Some side → CalmOn side c → Grounds h → Inv es h → Then P (λ fs. Inv fs h) es op c
-    on_record es h place r op side c g s k b i = a.asks es h op c k.calm (OnSide place r side g s k.on b) i
+    on_record es h place r op side c g s k b i = a.asks es h op c k.calm (OnSide place r side g s k.on b k.quiet) i
 
     -- a create of a UDP socket that was answered
     udp_created : (es : List Entry) (h : Here) (ctx : WasiSocketsCtx) (family : SocketAddressFamily) → h.own ≡ Unused → Grounds h → Inv es h → (t : Told) → IsDoneOrCode t → Inv (es ++ entry (own_of line) (call.UdpCreate ctx.name family) t ∷ []) (udp_begun h (udp_after_create (own_of line) ctx.name family (told_done t)))
@@ -85,9 +86,9 @@ module _ (contexts : List WasiSocketsCtx) (line : ℕ) (origin : Step) where
     udp_created es h ctx family u b i _ f = absurd f
 
     -- whatever is learnt of a UDP socket
-    udp_told : (es : List Entry) (h : Here) (place : ℕ) (o : OpenUdp) (op : OpId) (c : Call) (socket : Told → UdpShape) → is_calm c ≡ true → socket_of c ≡ Some o.inner.side → ((told : Told) → (socket told).side ≡ o.inner.side) → FoundUdp h place (UdpRecord.Open o) → Grounds h → Inv es h
+    udp_told : (es : List Entry) (h : Here) (place : ℕ) (o : OpenUdp) (op : OpId) (c : Call) (socket : Told → UdpShape) → CalmOn o.inner.side c → ((told : Told) → (socket told).side ≡ o.inner.side) → FoundUdp h place (UdpRecord.Open o) → Grounds h → Inv es h
         → P es op c × ((told : Told) → Inv (es ++ entry op c told ∷ []) (put_udp h place (UdpRecord.Open (with_udp_inner o (socket told)))))
-    udp_told es h place o op c socket calm on same g b i = let x = a.asks es h op c calm (OnUdp place o g on b) i in (x.0, λ told. a.udp_same _ h place o (with_udp_inner o (socket told)) g (same told) refl (x.1 told))
+    udp_told es h place o op c socket k same g b i = let x = a.asks es h op c k.calm (OnUdp place o g k.on b k.quiet) i in (x.0, λ told. a.udp_same _ h place o (with_udp_inner o (socket told)) g (same told) refl (x.1 told))
 
     marked : (es : List Entry) (h : Here) (kind : Kind) (parent : Option ℕ) (sock : Option OpId) → Inv es h → Allows P (λ fs made. Inv fs h) es (make_asks h.machine.table (own_of line) kind parent sock)
     marked es h kind parent sock i = makes_by P (λ fs. Inv fs h) es h.machine.table (own_of line) kind parent sock i (a.asks es h (own_of line) _ refl (OnNone refl) i)
@@ -122,7 +123,7 @@ module _ (contexts : List WasiSocketsCtx) (line : ℕ) (origin : Step) where
     undoes es h place r _ _ g (tree.RefusesArrival l op peer e d) b i =
         let its : IsAcceptOn l.side l.maker op = subst (HoldsAccept l.side l.maker) d (subst FitListening e (b.0.0.records place r g).1) in
         let listens : r.inner.state ≡ state.Listening l.side = subst (ListenerShape r.inner.state) e (b.1 place r g).1 in
-        let x = on_record es h place r op.who.id op.who.side (call.Refuse op.who.side peer) g (ap side_in listens ∙ ap (λ (y : OpId). Some y) (sym its.of_side)) (record { calm = refl; on = refl }) b i in
+        let x = on_record es h place r op.who.id op.who.side (call.Refuse op.who.side peer) g (ap side_in listens ∙ ap (λ (y : OpId). Some y) (sym its.of_side)) (record { calm = refl; quiet = tt; on = refl }) b i in
         (x.0, λ told. a.stops _ h place r g (x.1 told))
     undoes es h place r _ _ g (tree.ClosesArrived l new peer e d) b i = a.closes es h place r _ new new g (ClosesArrived l new peer e d) b i
 
@@ -143,15 +144,15 @@ module _ (contexts : List WasiSocketsCtx) (line : ℕ) (origin : Step) where
         → Asked contexts line origin es h A tree end → Grounds h → Inv es h
         → Allows P (λ fs x. Inv fs (end x)) es tree
     single_asks es h _ _ _ (Questions place n r side c at g o q) b i = let x = on_record es h place r (own_of n) side c g (on_socket r side (b.1 place r g) o) (question_calm line origin n side c q) b i in (x.0, λ told f. x.1 told)
-    single_asks es h _ _ _ (SetsBacklog place r side backlog at g s is) b i = let x = on_record es h place r (own_of line) side (call.SetBacklog side backlog) g (ap side_in s) (record { calm = refl; on = refl }) b i in (x.0, λ told f. x.1 told)
+    single_asks es h _ _ _ (SetsBacklog place r side backlog at g s is) b i = let x = on_record es h place r (own_of line) side (call.SetBacklog side backlog) g (ap side_in s) (record { calm = refl; quiet = tt; on = refl }) b i in (x.0, λ told f. x.1 told)
     single_asks es h _ _ _ (Learns place r side at g e) b i =
-        let x = on_record es h place r (own_of line) side (call.Local side) g (ap side_in e) (record { calm = refl; on = refl }) b i in
+        let x = on_record es h place r (own_of line) side (call.Local side) g (ap side_in e) (record { calm = refl; quiet = tt; on = refl }) b i in
         (x.0, λ told f. a.same _ h place r _ g (record { side = refl; streams = refl; listening = refl; does = told_same r.inner (told_addr told); doing = refl }) (x.1 told))
     single_asks es h _ _ _ (Closes place r side q g e) b i = let x = a.closes es h place r _ (own_of line) side g (ClosesSocket side e) b i in (x.0, λ told f. x.1 told)
-    single_asks es h _ _ _ (UdpQuestions place n o c at g q) b i = let k = udp_question_calm line origin n o.inner.side c q in let x = a.asks es h (own_of n) c k.calm (OnUdp place o g k.on b) i in (x.0, λ told f. x.1 told)
-    single_asks es h _ _ _ (UdpLearns place part o at g) b i = let x = udp_told es h place o (part_of line part) (call.Local o.inner.side) (λ told. (udp_after_local o.inner (told_addr told)).1) refl refl (λ told. learnt_side o.inner (told_addr told)) g b i in (x.0, λ told f. x.1 told)
-    single_asks es h _ _ _ (UdpDisconnects place o at g is) b i = let x = udp_told es h place o (own_of line) (call.UdpDisconnect o.inner.side) (λ told. let now : UdpShape = record o.inner { bound = true } in now) refl refl (λ told. refl) g b i in (x.0, λ told f. x.1 told)
-    single_asks es h _ _ _ (UdpPeers place o at g) b i = let x = udp_told es h place o (own_of line) (call.Peer o.inner.side) (λ told. after_peer o.inner (told_addr told)) refl refl (λ told. refl) g b i in (x.0, λ told f. x.1 told)
+    single_asks es h _ _ _ (UdpQuestions place n o c at g q) b i = let k = udp_question_calm line origin n o.inner.side c q in let x = a.asks es h (own_of n) c k.calm (OnUdp place o g k.on b k.quiet) i in (x.0, λ told f. x.1 told)
+    single_asks es h _ _ _ (UdpLearns place part o at g) b i = let x = udp_told es h place o (part_of line part) (call.Local o.inner.side) (λ told. (udp_after_local o.inner (told_addr told)).1) (record { calm = refl; quiet = tt; on = refl }) (λ told. learnt_side o.inner (told_addr told)) g b i in (x.0, λ told f. x.1 told)
+    single_asks es h _ _ _ (UdpDisconnects place o at g is) b i = let x = udp_told es h place o (own_of line) (call.UdpDisconnect o.inner.side) (λ told. let now : UdpShape = record o.inner { bound = true } in now) (record { calm = refl; quiet = tt; on = refl }) (λ told. refl) g b i in (x.0, λ told f. x.1 told)
+    single_asks es h _ _ _ (UdpPeers place o at g) b i = let x = udp_told es h place o (own_of line) (call.Peer o.inner.side) (λ told. after_peer o.inner (told_addr told)) (record { calm = refl; quiet = tt; on = refl }) (λ told. refl) g b i in (x.0, λ told f. x.1 told)
     single_asks es h _ _ _ (UdpCloses place o q g) b i = let x = a.udp_closes es h place (UdpRecord.Open o) (own_of line) g tt b i in (x.0, λ told f. x.1 told)
     single_asks es h _ _ _ (UdpBegins face ctx family c may at u m) b i = ((a.asks es h (own_of line) (call.UdpCreate ctx.name family) refl (OnNone refl) i).0, λ told f. udp_created es h ctx family u b i told f)
     single_asks es h _ _ _ (Resolves host records l s) b i = let x = a.asks es h (own_of line) (call.Lookup host) refl (OnNone refl) i in (x.0, λ told f. a.lookups _ h (records told) (sockets_stay (s told)) (x.1 told))
@@ -192,12 +193,12 @@ module _ (contexts : List WasiSocketsCtx) {P : List Entry → OpId → Call → 
     pub shaped : Shaped (Over m)
     pub kept : Inv line es (Starts m Unused)
 
-  module _ (starts : (line : ℕ) (es : List Entry) (m : Machine) (own : Own) → Inv line es (Starts m Unused) → Inv line es (Starts m own)) (next : (line : ℕ) (es : List Entry) (m : Machine) → Inv line es (Over m) → Inv (line + 1) es (Starts m Unused)) where
+  module _ (starts : (line : ℕ) (es : List Entry) (m : Machine) (own : Own) → GivesLater own → Inv line es (Starts m Unused) → Inv line es (Starts m own)) (next : (line : ℕ) (es : List Entry) (m : Machine) → Inv line es (Over m) → Inv (line + 1) es (Starts m Unused)) where
     line_kept : (line : ℕ) (s : Step) (m : Machine) (es : List Entry) → Between line es m → Allows P (λ fs done. Between (line + 1) fs done.1) es (machine_asks contexts m line s)
     line_kept line s m es i =
         let own = may_while m s m.store.standing in
         allows_weaker P _ (λ fs done. Between (line + 1) fs done.1) (λ fs done k. record { base = base_over contexts line s done.1 k.0; shaped = k.1.0; kept = next line fs done.1 k.1.1 }) es (machine_asks contexts m line s)
-        (single_along contexts line s (law line s) (machine_walks line s (single_begins contexts line s (law line s) (writes line s)) m m.store.standing refl) es (base_starts contexts line s m own i.base) i.shaped (starts line es m own i.kept))
+        (single_along contexts line s (law line s) (machine_walks line s (single_begins contexts line s (law line s) (writes line s)) m m.store.standing refl) es (base_starts contexts line s m own i.base) i.shaped (starts line es m own (may_later m s m.store.standing) i.kept))
 
     pub each_ask : Inv 1 [] (Starts first_state Unused) → (steps : List Step) (log : List Entry) (rest : Asks (List Reply × Machine)) → Left (run contexts [] first_state 1 steps) log rest → (before : List Entry) (e : Entry) (after : List Entry) → log ≡ before ++ e ∷ after → P before e.op e.call
     each_ask first steps log rest w before e after cut = each_entry contexts P Between line_kept (record { base = first_base; shaped = λ place r e. absurd (cc); kept = first }) steps log rest w before e after cut

@@ -1,0 +1,4 @@
+-- An operation receives on one network socket alone.
+pub mod Going
+pub mod Law
+pub mod Examples
