@@ -26,7 +26,11 @@ use Rattle.wasi_walks.proofs.walks.Later.{GivesLater}
 use Rattle.wasi_walks.proofs.walks.Moves as walk
 use Rattle.wasi_walks.proofs.walks.Moves.{FoundUdp, Names, put_udp, receive_op, receiving_in, sending_in, send_op}
 use Rattle.wasi_laws.specs.Receivers.{AsksToReceive, ReceivesOnOne}
-use Rattle.wasi_laws.proofs.Words.{Allows, Asks, Ask, AskWrite, Call, CloseLast, Done, End, Entry, FitListening, FitProgress, Give, Given, Held, Here, HoldsAccept, Has, HoldsConnect, InCall, IsAcceptOn, Item, LastAsk, Left, List, Machine, Move, None, NothingLast, OpId, Operation, Option, Over, Own, Refused, Reply, ShutdownLast, Some, Starts, Step, TcpRecord, ToConnect, Told, Unused, Used, Waits, WasiSocketsCtx, Who, [], allows_keep, allows_weaker, ap, append_assoc, arith, bind, cut_of, entry, first_state, has_back, inl, inr, last_ask, new_record, new_socket, own_of, part_of, poll_asks, put, refl, run, socket_of, subst, sym, ℕ, ⊤, ◌+◌, ◌++◌, ◌∙◌, ◌∷◌, ◌≡◌, ◌≤◌, ◌⊎◌}
+use Rattle.wasi_laws.proofs.Words.{Allows, Asks, Ask, AskWrite, Call, CloseLast, Done, End, Entry, FitListening, FitProgress, Give, Given, Held, Here, HoldsAccept, Has, HoldsConnect}
+use Rattle.wasi_laws.proofs.Words.{InCall, IsAcceptOn, Item, LastAsk, Left, List, Machine, Move, None, NothingLast, OpId, Operation, Option, Over, Own, Refused, Reply, ShutdownLast}
+use Rattle.wasi_laws.proofs.Words.{Some, Starts, Step, TcpRecord, ToConnect, Told, Unused, Used, Waits, WasiSocketsCtx, Who, [], allows_keep, allows_weaker, ap, append_assoc, arith}
+use Rattle.wasi_laws.proofs.Words.{bind, cut_of, entry, first_state, has_back, inl, inr, last_ask, new_record, new_socket, own_of, part_of, poll_asks, put, refl, run, socket_of, subst}
+use Rattle.wasi_laws.proofs.Words.{sym, ℕ, ⊤, ◌+◌, ◌++◌, ◌∙◌, ◌∷◌, ◌≡◌, ◌≤◌, ◌⊎◌}
 use Rattle.wasi_laws.proofs.asks.Fronts.{NoRecv}
 use Rattle.wasi_laws.proofs.asks.Single.{Grounds, IsAskedOn, KeepsWrites, OnNone, OnSide, OnUdp, Single, each_ask}
 use Rattle.wasi_laws.proofs.shapes.Law.{job_of}
@@ -233,6 +237,12 @@ module _ (line : ℕ) where
     calmly : (es : List Entry) (h : Here) (op : OpId) (c : Call) → NoRecv c → Kept es h → MayReceive es op c × ((t : Told) → Kept (es ++ entry op c t ∷ []) h)
     calmly es h op c n i = (may_quietly es op c n, λ t. asked_else line h.own es h.machine.store.records op c t n i)
 
+    -- a socket that is created joins the records, and receives nothing
+    joins : (es : List Entry) (h : Here) (c : Call) (now : List Record) → NoRecv c → ((w : Who) → Going now w → Going h.machine.store.records w) → Kept es h
+        → Receivers line Used (es ++ entry (own_of line) c told.Done ∷ []) now
+    joins es h c now n k i =
+        gives_more line h.own _ now Used (older_used line h.own) tt (going_on line h.own _ h.machine.store.records now k ((calmly es h (own_of line) c n i).1 told.Done))
+
     receivers : Single contexts line origin MayReceive Kept
     receivers = record {
       moves = λ es h now m b i. moves es h now m i;
@@ -240,10 +250,10 @@ module _ (line : ℕ) where
       tables = λ es h t m i. i;
       stops = λ es h place r g i. tcp es h place _ i;
       asks = λ es h op c calm on i. calmly es h op c (not_on h c on) i;
-      creates = λ es h ctx family u b i. (let k = (calmly es h (own_of line) (call.TcpCreate ctx.name family) tt i).1 told.Done in gives_more line h.own _ _ Used (older_used line h.own) tt (going_on line h.own _ h.machine.store.records _ (λ w g. of_more_tcp h.machine.store.records w (new_record (new_socket (own_of line) ctx.name family)) g) k));
+      creates = λ es h ctx family u b i. joins es h (call.TcpCreate ctx.name family) _ tt (λ w g. of_more_tcp h.machine.store.records w (new_record (new_socket (own_of line) ctx.name family)) g) i;
       closes = λ es h place r now op side g c b i. (tt, λ t. tcp _ h place now ((calmly es h op (call.Close side) tt i).1 t));
       udp_same = λ es h place o now g s e i. udp es h place (UdpRecord.Open o) (UdpRecord.Open now) g (inl (ap (λ (x : OpenUdp). receiver (UdpRecord.Open x)) e)) i;
-      udp_creates = λ es h ctx family u b i. (let k = (calmly es h (own_of line) (call.UdpCreate ctx.name family) tt i).1 told.Done in gives_more line h.own _ _ Used (older_used line h.own) tt (going_on line h.own _ h.machine.store.records _ (λ w g. of_more_udp h.machine.store.records w (UdpRecord.Creating (new_create (own_of line) ctx.name family)) refl g) k));
+      udp_creates = λ es h ctx family u b i. joins es h (call.UdpCreate ctx.name family) _ tt (λ w g. of_more_udp h.machine.store.records w (UdpRecord.Creating (new_create (own_of line) ctx.name family)) refl g) i;
       udp_closes = λ es h place u op g l b i. (tt, λ t. udp _ h place u (UdpRecord.Closed (udp_side u)) g (inr refl) ((calmly es h op (call.Close (udp_side u)) tt i).1 t));
       lookups = λ es h records s i. going_on line h.own es h.machine.store.records records (λ w g. of_same h.machine.store.records w records s g) i;
       polls = polls;
