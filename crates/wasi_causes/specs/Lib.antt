@@ -12,6 +12,7 @@ pub mod KeptAddress
 pub mod ErrorMarks
 pub mod SendCauses
 pub mod ReceivedList
+pub mod ReceivedApart
 pub mod Plain
 pub mod Parts
 pub mod Blocking

@@ -13,6 +13,7 @@ ghost use Rattle.wasi_machine.specs.Machine.{run};
 ghost use Rattle.wasi_steps.specs.declared.reply.Reply.{Reply};
 ghost use Rattle.wasi_steps.specs.declared.step.Step.{Step};
 ghost use Rattle.wasi_causes.specs.Datagrams.{OfIncoming};
+ghost use Rattle.wasi_causes.specs.ReceivedApart.{ReceivedApart};
 ghost use Rattle.wasi_causes.specs.ReceivedList.{HandsOutFront, HasAllReceived};
 ghost use Rattle.wasi_causes.specs.ReceivedList.{KeepsLastRemote, handed_out};
 
@@ -51,4 +52,16 @@ pub fn streams_keep_the_last_remote_address()
         → kind_at m.table handle ≡ Some (Kind.Incoming place)
         → OfIncoming m (Some place) (λ place o stream. KeepsLastRemote log handle o.inner.side
         stream.remote) }
+{}
+
+/// In a run no operation serves two incoming datagram streams of one network socket, also where the
+/// one was made after the other was dropped: what the replies handed out on two handles was
+/// received by different operations.
+pub fn streams_receive_by_different_operations()
+    ensures { (contexts : List WasiSocketsCtx) (steps : List Step) (log : List Entry)
+        (replies : List Reply) (m : Machine) (first second : ℕ)
+        → Left (run contexts [] first_state 1 steps) log (Give (replies, m))
+        → (first ≡ second → ⊥)
+        → (handed_out first steps replies ≡ []) ⊎ ((handed_out second steps replies ≡ [])
+        ⊎ ReceivedApart log steps replies first second) }
 {}

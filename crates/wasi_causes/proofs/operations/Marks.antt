@@ -36,6 +36,9 @@ owned op before = polls_by (own_law op.who) op.left before tt
 pub poll_asks_by : (op : Operation) (before : List Entry) → Allows (λ es o call. o ≡ op.who.id) AnyEnd before (poll_asks op)
 poll_asks_by op before = allows_ask (IsOwn op.who) (λ es o call. o ≡ op.who.id) AnyEnd (λ es o call h. h.0) before (poll_asks op) (owned op before)
 
+pub poll_unmarked : (op : Operation) (before : List Entry) → Allows (λ es o call. marked_by call ≡ 0) AnyEnd before (poll_asks op)
+poll_unmarked op before = allows_ask (IsOwn op.who) (λ es o call. marked_by call ≡ 0) AnyEnd (λ es o call h. h.1) before (poll_asks op) (owned op before)
+
 pub poll_marks_none : (op : Operation) → Gives (λ es ended. marks_in es ≡ 0) [] (poll_asks op)
 poll_marks_none op =
     gives_more (λ es ended. (marks_in es ≡ 0) × AnyEnd es ended) (λ es ended. marks_in es ≡ 0) (λ es ended h. h.0) [] (poll_asks op)

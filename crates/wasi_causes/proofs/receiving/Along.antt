@@ -1,19 +1,21 @@
 -- What a stream received, along a log that grows: what each kind of entry does to it.
-use Rattle.wasi_causes.proofs.Words.{Allows, Asks, IfSome, allows_keep, told_verdict, Verdict, Bool, Call, Entry, IpSocketAddress, List, None, OpId, Option, Some, Told, [], ap, append-nil, append_assoc, entry, false, if◌then◌else◌, refl, subst, sym, true, inl, inr, ℕ, ⊤, ◌&&◌, ◌++◌, ◌∙◌, ◌∷◌, ◌≡◌, ◌⊎◌}
+use Rattle.wasi_causes.proofs.Words.{Allows, Asks, IfSome, allows_keep, told_verdict, Verdict, Bool, Call, Entry, IpSocketAddress, List, None, OpId, Option, Some, Told, [], ap, append-nil, append_assoc, entry, false, if◌then◌else◌, refl, subst, sym, true, inl, inr, ℕ, ⊤, ◌&&◌, ◌++◌, ◌∙◌, ◌∷◌, ◌≡◌, ◌⊎◌, arith, marked_by}
 use Rattle.wasi_addr.specs.Address.{same_address}
 use Rattle.wasi_addr.specs.declared.address.SocketAddrUse.TheVariants.{UdpReceive}
 use Rattle.wasi_addr.proofs.SameAddresses.{same_address-self}
 use Rattle.wasi_world.specs.declared.datagram.IncomingDatagram.{IncomingDatagram}
+use Rattle.wasi_world.specs.declared.call.HandleKind.TheVariants.{Incoming}
 use Rattle.wasi_world.specs.Operation.{is_wanted}
 use Rattle.wasi_world.specs.Sides.{is_same}
 use Rattle.wasi_walks.specs.Allowed.{Has}
-use Rattle.wasi_walks.proofs.Lists.{cut_more, has_back, has_front}
+use Rattle.wasi_walks.proofs.Lists.{cut_more, has_back, has_front, has_split}
 use Rattle.wasi_world.specs.declared.asks.Verdict.TheVariants.{Pending}
 use Rattle.wasi_walks.proofs.fits.Polls.{Anything}
 use Rattle.wasi_walks.proofs.licence.State.{RemoteIs}
 use Rattle.wasi_walks.proofs.Words.{allows_weaker}
 use Rattle.wasi_walks.proofs.received.Polls.{Elsewhere, Spares}
 pub use Rattle.wasi_walks.proofs.remotes.Along.{same_self, same_true}
+use Rattle.wasi_causes.proofs.receiving.Unmarked.{Unmarked, both_so}
 use Rattle.wasi_causes.specs.ReceivedList.{AreApart, AsksNoMore, EachByItsOwn, InHand, LastRemote, MarkedBefore, NoneIsReplaced, in_hand_or, left_in_hand, received, received_at, received_if, served, served_at, served_if, still_in_hand, then_in_hand, told_by, unless_answered, verdict_on}
 
 -- == lists
@@ -117,6 +119,43 @@ pub free : (o : Option InHand) → IfSome o (λ d. let none : Option InHand = No
 free None = tt
 free (Some d) = refl
 
+-- == of one stream alone
+-- the mark of an incoming stream of the network socket
+abbrev pub MarksStream : OpId → Call → Type 0
+MarksStream side (Call.Made handle Incoming parent (Some x)) = x ≡ side
+MarksStream side _ = ⊥
+
+-- These entries come after the mark of an incoming stream, and the front comes before it. No other stream of the network socket is marked
+-- among them, and it is asked for datagrams by operations alone that hadn't asked it in the front.
+pub record IsOfOne (side : OpId) (front entries : List Entry) : Type 0 where
+  pub alone : (e : Entry) → Has entries e → MarksStream side e.call → ⊥
+  pub begun : (e : Entry) → Has entries e → e.call ≡ Call.Recv side → AsksNoMore side front e.op
+
+-- any call but such a mark
+abbrev pub MarksNoStream : OpId → Call → Type 0
+MarksNoStream side (Call.Made handle Incoming parent (Some x)) = x ≡ side → ⊥
+MarksNoStream side _ = ⊤
+
+-- a call that is no mark
+pub unmarked : (side : OpId) (c : Call) → marked_by c ≡ 0 → MarksNoStream side c
+unmarked side (Call.Made handle kind parent sock) e = absurd (omega (arith, e))
+unmarked side _ e = tt
+
+-- more entries, of which one is new
+module _ {side : OpId} {front later : List Entry} where
+  pub one_more : (e : Entry) → IsOfOne side front later → MarksNoStream side e.call → (e.call ≡ Call.Recv side → AsksNoMore side front e.op) → IsOfOne side front (later ++ e ∷ [])
+  one_more e k none new = record {
+    alone = λ d h m. elim (has_split later e d h) [ inl old ↦ k.alone d old m | inr it ↦ not_it e.call none (subst (λ (x : Entry). MarksStream side x.call) (sym it) m) ];
+    begun = λ d h q. elim (has_split later e d h) [
+      | inl old ↦ k.begun d old q
+      | inr it ↦ subst (λ (x : Entry). AsksNoMore side front x.op) it (new (ap (λ (x : Entry). x.call) it ∙ q))
+    ];
+  }
+    where
+      not_it : (c : Call) → MarksNoStream side c → MarksStream side c → ⊥
+      not_it (Call.Made handle Incoming parent (Some x)) none m = none m
+      not_it _ none m = absurd m
+
 -- == of one handle
 -- What the stream of the handle received since its mark, on its network socket and from the address that it keeps, and what is in hand.
 -- The address was reported last where the handle was marked. Nothing was received by the operation of this name, if there is one.
@@ -130,12 +169,21 @@ pub record Along (handle : ℕ) (side : OpId) (kept : Option IpSocketAddress) (e
   pub one : NoneIsReplaced side None later
   pub each : EachByItsOwn side kept None later
   pub free : IfSome name (λ x. Has (served side kept None later) x → ⊥)
+  pub mine : IsOfOne side marked.front later
+  pub new : IfSome name (λ x. AsksNoMore side marked.front x)
 
 -- == by operations
 -- of entries one after another
 pub asks_more : (side : OpId) (es fs : List Entry) (x : OpId) → AsksNoMore side es x → AsksNoMore side fs x → AsksNoMore side (es ++ fs) x
 asks_more side [] fs x k l = l
 asks_more side (e ∷ es) fs x k l = (k.0, asks_more side es fs x k.1 l)
+
+-- The network socket is asked by the operation of this name.
+pub record AsksIt (side : OpId) (es : List Entry) (x : OpId) : Type 0 where
+  pub asked : Entry
+  pub has : Has es asked
+  pub by : asked.op ≡ x
+  pub on : asked.call ≡ Call.Recv side
 
 module _ (side : OpId) (kept : Option IpSocketAddress) where
   pub served_more : (hand : Option InHand) (es fs : List Entry) → served side kept hand (es ++ fs) ≡ served side kept hand es ++ served side kept (left_in_hand side hand es) fs
@@ -198,6 +246,20 @@ module _ (side : OpId) (kept : Option IpSocketAddress) where
     ]) k.1 later
   ]
 
+  -- it was asked
+  pub served_asked : (hand : Option InHand) (es : List Entry) (x : OpId) → Has (served side kept hand es) x → HandName hand x ⊎ AsksIt side es x
+  served_asked hand [] x h = absurd h
+  served_asked hand (e ∷ es) x h = elim (has_or (served_at kept hand e) (served side kept (then_in_hand side hand e) es) x h) [
+    | inl here ↦ inl (served_was hand e x here)
+    | inr later ↦ elim (served_asked (then_in_hand side hand e) es x later) [
+      | inl m ↦ elim (in_or (told_by side e.op e.call e.answer) (still_in_hand hand e) x m) [
+        | inl new ↦ (let t = told_by_it e.op e.call e.answer x new in inr (record { asked = e; has = inl refl; by = t.0; on = t.1 }))
+        | inr was ↦ inl (still_was hand e x was)
+      ]
+      | inr a ↦ inr (record { asked = a.asked; has = inr a.has; by = a.by; on = a.on })
+    ]
+  ]
+
   -- so no operation received two
   none_left : (hand : Option InHand) (e : Entry) (x : OpId) → Has (served_at kept hand e) x → HandName (then_in_hand side hand e) x → ⊥
   none_left None e x h m = absurd h
@@ -253,8 +315,8 @@ module _ (handle : ℕ) (side : OpId) (kept : Option IpSocketAddress) where
       ]
 
   -- one more entry
-  pub along_more : (es : List Entry) (e : Entry) (list now : List IncomingDatagram) (hand held : Option InHand) (name named : Option OpId) → Along handle side kept es list hand name → IfSome (told_by side e.op e.call e.answer) (λ d. hand ≡ None) → then_in_hand side hand e ≡ held → list ++ received_at kept hand e ≡ now → AsksByIt hand name e → StaysFree hand name named e → Along handle side kept (es ++ e ∷ []) now held named
-  along_more es e list now hand held name named k free stays gives asks serves =
+  pub along_more : (es : List Entry) (e : Entry) (list now : List IncomingDatagram) (hand held : Option InHand) (name named : Option OpId) → Along handle side kept es list hand name → IfSome (told_by side e.op e.call e.answer) (λ d. hand ≡ None) → then_in_hand side hand e ≡ held → list ++ received_at kept hand e ≡ now → AsksByIt hand name e → StaysFree hand name named e → MarksNoStream side e.call → Along handle side kept (es ++ e ∷ []) now held named
+  along_more es e list now hand held name named k free stays gives asks serves none =
       let m = k.marked in
       record {
         later = k.later ++ e ∷ [];
@@ -266,7 +328,13 @@ module _ (handle : ℕ) (side : OpId) (kept : Option IpSocketAddress) where
         left = left_more side None k.later (e ∷ []) ∙ (ap (λ (o : Option InHand). then_in_hand side o e) k.left ∙ stays);
         each = each_more side kept None k.later e k.each (λ q. k.left ∙ (asks q).0) (λ x h same q. not_it k.later name x ((asks q).1 ∙ ap (λ (y : OpId). Some y) same) k.free h);
         free = still_free k.later hand name named e k.left k.free serves;
+        mine = one_more e k.mine none (λ q. subst (λ (o : Option OpId). IfSome o (λ x. AsksNoMore side m.front x)) (asks q).1 k.new);
+        new = still_new named serves;
       }
+    where
+      still_new : (named : Option OpId) → StaysFree hand name named e → IfSome named (λ x. AsksNoMore side k.marked.front x)
+      still_new None s = tt
+      still_new (Some x) s = subst (λ (o : Option OpId). IfSome o (λ y. AsksNoMore side k.marked.front y)) s.0 k.new
 
   -- a name that asked for nothing here
   pub along_named : (es : List Entry) (list : List IncomingDatagram) (hand : Option InHand) (name : Option OpId) (x : OpId) → ((e : Entry) → Has es e → e.op ≡ x → e.call ≡ Call.Recv side → ⊥) → Along handle side kept es list hand name → Along handle side kept es list hand (Some x)
@@ -280,6 +348,8 @@ module _ (handle : ℕ) (side : OpId) (kept : Option IpSocketAddress) where
     one = k.one;
     each = k.each;
     free = served_none side kept None k.later x (λ m. m) (asks_none k.later (λ e h. n e (subst (λ (xs : List Entry). Has xs e) (sym k.marked.cut) (has_back k.marked.front _ e (inr h)))));
+    mine = k.mine;
+    new = asks_none k.marked.front (λ e h. n e (subst (λ (xs : List Entry). Has xs e) (sym k.marked.cut) (has_front k.marked.front _ e h)));
   }
     where
       asks_none : (fs : List Entry) → ((e : Entry) → Has fs e → e.op ≡ x → e.call ≡ Call.Recv side → ⊥) → AsksNoMore side fs x
@@ -291,15 +361,21 @@ module _ (handle : ℕ) (side : OpId) (kept : Option IpSocketAddress) where
   nothing_served hand None e none = tt
   nothing_served hand (Some x) e none = (refl, λ h. subst (λ (xs : List OpId). Has xs x) none h)
 
-  pub along_quiet : (es : List Entry) (e : Entry) (list : List IncomingDatagram) (hand : Option InHand) (name : Option OpId) → IsQuiet side kept hand e → AsksByIt hand name e → Along handle side kept es list hand name → Along handle side kept (es ++ e ∷ []) list hand name
-  along_quiet es e list hand name q asks k = along_more es e list list hand hand name name k (subst (λ (o : Option InHand). IfSome o (λ d. hand ≡ None)) (sym q.untold) tt) q.stays (ap (λ (ds : List IncomingDatagram). list ++ ds) q.none ∙ append-nil list) asks (nothing_served hand name e q.serves)
+  pub along_quiet : (es : List Entry) (e : Entry) (list : List IncomingDatagram) (hand : Option InHand) (name : Option OpId) → IsQuiet side kept hand e → AsksByIt hand name e → MarksNoStream side e.call → Along handle side kept es list hand name → Along handle side kept (es ++ e ∷ []) list hand name
+  along_quiet es e list hand name q asks none k = along_more es e list list hand hand name name k (subst (λ (o : Option InHand). IfSome o (λ d. hand ≡ None)) (sym q.untold) tt) q.stays (ap (λ (ds : List IncomingDatagram). list ++ ds) q.none ∙ append-nil list) asks (nothing_served hand name e q.serves) none
 
   -- one that doesn't ask the network socket
   pub asks_other : (hand : Option InHand) (name : Option OpId) (Names : OpId → Type 0) (op : OpId) (c : Call) (t : Told) → Spares side Names op c → AsksByIt hand name (entry op c t)
   asks_other hand name Names op c t n q = absurd ((subst (λ (d : Call). Spares side Names op d) q n) refl)
 
-  -- along a tree that does nothing to it
-  pub along_silent : {A : Type 0} (es : List Entry) (asks : Asks A) (list : List IncomingDatagram) (hand : Option InHand) (name : Option OpId) → Along handle side kept es list hand name → Allows (Elsewhere side ⊤ (HandName hand)) (λ fs a. ⊤) es asks → Allows Anything (λ fs a. Along handle side kept fs list hand name) es asks
-  along_silent es asks list hand name k n =
+  -- along a tree that does nothing to it, and marks nothing
+  abbrev Silently : Option InHand → List Entry → OpId → Call → Type 0
+  Silently hand fs op c = Elsewhere side ⊤ (HandName hand) fs op c × Unmarked fs op c
+
+  pub along_silent : {A : Type 0} (es : List Entry) (asks : Asks A) (list : List IncomingDatagram) (hand : Option InHand) (name : Option OpId) → Along handle side kept es list hand name → Allows (Elsewhere side ⊤ (HandName hand)) (λ fs a. ⊤) es asks → Allows Unmarked (λ fs a. ⊤) es asks
+      → Allows Anything (λ fs a. Along handle side kept fs list hand name) es asks
+  along_silent es asks list hand name k n u =
       allows_weaker Anything (λ fs a. Along handle side kept fs list hand name × ⊤) (λ fs a. Along handle side kept fs list hand name) (λ fs a m. m.0) es asks
-      (allows_keep (Elsewhere side ⊤ (HandName hand)) Anything (λ fs. Along handle side kept fs list hand name) (λ fs a. ⊤) (λ fs op c t fits m s. along_quiet fs (entry op c t) list hand name (quiet side kept hand op c t (s tt)) (asks_other hand name (HandName hand) op c t (s tt)) m) (λ fs op c s. tt) es asks k n)
+      (allows_keep (Silently hand) Anything (λ fs. Along handle side kept fs list hand name) (λ fs a. ⊤)
+      (λ fs op c t fits m s. along_quiet fs (entry op c t) list hand name (quiet side kept hand op c t (s.0 tt)) (asks_other hand name (HandName hand) op c t (s.0 tt)) (unmarked side c s.1) m) (λ fs op c s. tt) es asks k
+      (both_so (Elsewhere side ⊤ (HandName hand)) Unmarked (λ fs a. ⊤) (λ fs a. ⊤) es asks n u))

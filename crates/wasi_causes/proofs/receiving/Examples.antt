@@ -12,6 +12,7 @@ use Rattle.wasi_steps.specs.declared.reply.Reply.{Reply}
 use Rattle.wasi_steps.specs.declared.guest_call.GuestCall.{GuestCall}
 use Rattle.wasi_steps.specs.declared.step.Step.{Step}
 use Rattle.std.specs.Prelude.{flat_map}
+use Rattle.wasi_causes.specs.ReceivedApart.{NoneInBoth}
 use Rattle.wasi_causes.specs.ReceivedList.{AreApart, AsksNoMore, EachByItsOwn, HandedOut, NoneIsReplaced, handed_out, left_in_hand, received_since, served}
 
 abbrev at_port : ℕ → IpSocketAddress
@@ -147,6 +148,20 @@ not_asked_in_hand k = let p : Some _ ≡ None = k.2.0 refl in absurd (cc)
 -- a datagram that was refused, and another one of the same operation
 pub after_a_no : EachByItsOwn ours (Some (at_port 70)) None (told ours (of_line 4) 1 70 ∷ checked (of_line 4) 70 Told.No ∷ told ours (of_line 4) 2 70 ∷ checked (of_line 4) 70 Told.Yes ∷ [])
 after_a_no = ((λ c. refl), (λ op h. absurd h), ((λ c. absurd (cc)), (λ op h. absurd h), ((λ c. refl), (λ op h. absurd h), ((λ c. absurd (cc)), (λ op h. tt), tt))))
+
+-- == of two streams
+-- a stream's datagram, and one of a later stream of the network socket, by the same operation or by another one
+abbrev of_first : List Entry
+of_first = told ours (of_line 4) 1 70 ∷ checked (of_line 4) 70 Told.Yes ∷ []
+
+abbrev of_second : OpId → List Entry
+of_second op = told ours op 2 70 ∷ checked op 70 Told.Yes ∷ []
+
+pub not_by_one : NoneInBoth (served ours None None of_first) (served ours None None (of_second (of_line 4))) → ⊥
+not_by_one k = k (of_line 4) (inl refl) (inl refl)
+
+pub by_two_apart : NoneInBoth (served ours None None of_first) (served ours None None (of_second (of_line 5)))
+by_two_apart op h l = elim h [ inl e ↦ elim l [ inl f ↦ none_of op e f | inr none ↦ none ] | inr none ↦ none ]
 
 -- == wrong replies
 -- the one datagram twice in a reply, where one was received

@@ -40,7 +40,7 @@ module _ (handle : ℕ) (side : OpId) (only : Option IpSocketAddress) where
       (λ no. (
         tt,
         λ t fits. (
-          (learnt_side socket (told_addr t) ∙ on, along_quiet handle side only es _ list None None (quiet side only None op (Call.Local socket.side) t tt) (asks_other handle side only None None (HandName None) op (Call.Local socket.side) t tt) k),
+          (learnt_side socket (told_addr t) ∙ on, along_quiet handle side only es _ list None None (quiet side only None op (Call.Local socket.side) t tt) (asks_other handle side only None None (HandName None) op (Call.Local socket.side) t tt) tt k),
           (one_older ids.line (Names ids.next_part) es op (Call.Local socket.side) t (else_none ids.line (Names ids.next_part) op (Call.Local socket.side) tt) old.0, old.1),
         ),
       ))

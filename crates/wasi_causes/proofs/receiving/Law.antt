@@ -32,7 +32,7 @@ use Rattle.wasi_walks.proofs.remotes.State.{OpenKeeps, WritesBy}
 use Rattle.wasi_walks.proofs.walks.Moves as walk
 use Rattle.wasi_walks.proofs.walks.Moves.{Interface, tcp_kind, Found, FoundUdp, HasNewStream, Held, Here, MarksNext, Move, Names, StreamMoves, UdpPlain, joined, listen_after, part_of, put, put_udp, receive_op, receiving_in, send_op, sending_in, udp_begun}
 use Rattle.wasi_causes.proofs.Slots.{SlotOf, slot_of}
-use Rattle.wasi_causes.proofs.StreamsLive.{IsOther, tcp_other, udp_other}
+use Rattle.wasi_causes.proofs.StreamsLive.{IsOther, MadeSo, NoIncoming, tcp_other, udp_other}
 use Rattle.wasi_causes.proofs.StreamHandles.{apart_in, is_other, streams_law}
 use Rattle.wasi_walks.specs.Allowed.{Has}
 use Rattle.wasi_walks.proofs.Words.{◌≤◌}
@@ -43,7 +43,8 @@ use Rattle.wasi_causes.proofs.receiving.Polled.{Exact, hand_of}
 use Rattle.wasi_causes.proofs.GivenBack.{open_stays}
 use Rattle.wasi_causes.proofs.receiving.Older.{question_else, udp_question_else}
 use Rattle.wasi_causes.proofs.receiving.Polls.{Mine, Rest, apart_of, begun_none, connecting_none, no_stream, not_first, polled_tcp, polled_udp, quietly, receives, same_open}
-use Rattle.wasi_causes.proofs.receiving.Streams.{Becomes, IsElse, IsFresh, Knows, StreamAt, StreamIs, fresh_with, put_at, stays_so, stream_more, stream_push, stream_push_tcp, stream_put, stream_put_tcp, stream_same, stream_stays, stream_with, stream_without, tcp_at}
+use Rattle.wasi_causes.proofs.receiving.Unmarked.{Unmarked, cancels_unmarked, creates_unmarked, releases_unmarked, turns_unmarked}
+use Rattle.wasi_causes.proofs.receiving.Streams.{Becomes, IsElse, IsFresh, Knows, StreamAt, StreamIs, at_more, fresh_with, mark_else, put_at, stays_so, stream_more, stream_push, stream_push_tcp, stream_put, stream_put_tcp, stream_same, stream_stays, stream_with, stream_without, tcp_at}
 use Rattle.wasi_walks.proofs.Places.{put_finds, udp_sort}
 
 module _ (handle : ℕ) (list : List IncomingDatagram) (contexts : List WasiSocketsCtx) (line : ℕ) (origin : Step) where
@@ -187,13 +188,13 @@ module _ (handle : ℕ) (list : List IncomingDatagram) (contexts : List WasiSock
         (λ free. (
           tt,
           λ told f. (
-            stream_with handle list _ h.machine.table h.machine.store.records kind parent not (stream_more handle list es op (Call.Made h.machine.table.next (name_of kind) parent sock) told h.machine.table h.machine.store.records tt i.0),
+            stream_with handle list _ h.machine.table h.machine.store.records kind parent not (stream_more handle list es op (Call.Made h.machine.table.next (name_of kind) parent sock) told h.machine.table h.machine.store.records (mark_else h.machine.table.next kind parent sock not) i.0),
             fresh_with handle list h.machine.table kind parent i.1,
           ),
         ))
 
     -- that of a new stream: nothing was received on it
-    module _ (es : List Entry) (h : Here) (b : B es h) (place n socket : ℕ) (o : OpenUdp) (at : FoundUdp h place (UdpRecord.Open o)) (new : o.incoming ≡ Some (record { remote = o.inner.remote; receiving = Receiving.Nothing })) (i : Inv es h) where
+    module _ (es : List Entry) (h : Here) (b : B es h) (place n socket : ℕ) (o : OpenUdp) (at : FoundUdp h place (UdpRecord.Open o)) (new : o.incoming ≡ Some (record { remote = o.inner.remote; receiving = Receiving.Nothing })) (none : NoIncoming h.machine.table place) (i : Inv es h) where
       abbrev mark : ℕ → Told → Entry
       mark number told = entry (own_of n) (Call.Made number (name_of (Incoming place)) (Some socket) (Some o.inner.side)) told
 
@@ -214,6 +215,8 @@ module _ (handle : ℕ) (list : List IncomingDatagram) (contexts : List WasiSock
           one = tt;
           each = tt;
           free = tt;
+          mine = record { alone = λ e h m. absurd h; begun = λ e h q. absurd h };
+          new = tt;
         };
       }
 
@@ -226,9 +229,16 @@ module _ (handle : ℕ) (list : List IncomingDatagram) (contexts : List WasiSock
           same_place : (p : ℕ) → Incoming place ≡ Incoming p → place ≡ p
           same_place p e = cc
 
+          -- a live one is of another network socket
+          another : (p : ℕ) → kind_at h.machine.table handle ≡ Some (Incoming p) → (s : StreamAt handle list es h.machine.store.records p) → o.inner.side ≡ s.socket.inner.side → ⊥
+          another p was s same =
+              let slot : SlotOf h.machine.table.live handle (Incoming p) = slot_of h.machine.table.live handle (Incoming p) was in
+              let its : place ≡ p = b.0.0.1.udps.one s.socket.inner.side place p (UdpRecord.Open o) (UdpRecord.Open s.socket) at s.at same refl in
+              none slot.slot slot.live_one (slot.value ∙ ap (λ (k : ℕ). Incoming k) (sym its))
+
           live : (told : Told) → StreamIs handle list (es ++ mark h.machine.table.next told ∷ []) (with_handle h.machine.table (Incoming place) (Some socket)) h.machine.store.records
           live told p e = elim (was_or_new h.machine.table (Incoming place) (Some socket) handle (Incoming p) e) [
-            | inl was ↦ stream_more handle list es (own_of n) (Call.Made h.machine.table.next (name_of (Incoming place)) (Some socket) (Some o.inner.side)) told h.machine.table h.machine.store.records tt i.0 p was
+            | inl was ↦ at_more handle list es (own_of n) (Call.Made h.machine.table.next (name_of (Incoming place)) (Some socket) (Some o.inner.side)) told h.machine.store.records p (i.0 p was) tt (another p was (i.0 p was))
             | inr is ↦ subst (StreamAt handle list (es ++ mark h.machine.table.next told ∷ []) h.machine.store.records) (same_place p is.1) (new_stream told is.0)
           ]
 
@@ -239,9 +249,10 @@ module _ (handle : ℕ) (list : List IncomingDatagram) (contexts : List WasiSock
         let under : Under h = (apart_in contexts line origin es h b.1.0).1.1 in
         let same : place ≡ reached = (subst (MakesUnder h.machine.table) made under.makes).of place of in
         let at : FoundUdp h place (UdpRecord.Open new.socket) = ap (udp2_at h.machine.store.records) same ∙ new.at in
+        let none : NoIncoming h.machine.table reached = subst (MadeSo h.machine.table) made (apart_in contexts line origin es h b.1.0).1.0.makes in
         subst (λ (k : Kind). Allows Anything (λ fs made. StreamIs handle list fs made.1 h.machine.store.records × IsFresh handle list made.1) es (make_asks h.machine.table (own_of n) k (Some socket) (udp_side_at (udp2_at h.machine.store.records place)))) (sym e)
         (subst (λ (sock : Option OpId). Allows Anything (λ fs made. StreamIs handle list fs made.1 h.machine.store.records × IsFresh handle list made.1) es (make_asks h.machine.table (own_of n) (Incoming place) (Some socket) sock)) (sym (ap udp_side_at at))
-        (marks_new es h b place n socket new.socket at new.new i))
+        (marks_new es h b place n socket new.socket at new.new (subst (NoIncoming h.machine.table) (sym same) none) i))
 
     -- == what is created
     pub joins : {T : Type 0} (tells : Result ℕ Stop → T) (fails : ErrorCode → T) (face : Interface) (es : List Entry) (h : Here) (own : OpId) (made : Result Socket ErrorCode) → Inv es h → Allows Anything (λ fs done. StreamIs handle list fs done.1.table done.1.store.records × IsFresh handle list done.1.table) es (made_to tells fails (tcp_kind face) h.machine own made)
@@ -259,8 +270,8 @@ module _ (handle : ℕ) (list : List IncomingDatagram) (contexts : List WasiSock
     asked es h op c told n i = (stream_more handle list es op c told h.machine.table h.machine.store.records n i.0, i.1)
 
     -- a tree that does nothing to it, and leaves the records
-    pub silent : {A : Type 0} (es : List Entry) (h : Here) (asks : Asks A) → ((side : OpId) (Names : OpId → Type 0) → Allows (Elsewhere side ⊤ Names) (λ fs a. ⊤) es asks) → Inv es h → Allows Anything (λ fs a. Inv fs h) es asks
-    silent es h asks n i = quietly handle list contexts line origin h (λ a. h.machine.store.records) es asks i (λ fs a place e s. s) (λ place e s. n s.socket.inner.side (HandName (hand_of s.stream.receiving)))
+    pub silent : {A : Type 0} (es : List Entry) (h : Here) (asks : Asks A) → ((side : OpId) (Names : OpId → Type 0) → Allows (Elsewhere side ⊤ Names) (λ fs a. ⊤) es asks) → Allows Unmarked (λ fs a. ⊤) es asks → Inv es h → Allows Anything (λ fs a. Inv fs h) es asks
+    silent es h asks n u i = quietly handle list contexts line origin h (λ a. h.machine.store.records) es asks i (λ fs a place e s. s) (λ place e s. n s.socket.inner.side (HandName (hand_of s.stream.receiving))) u
 
     -- a write is on a network socket of TCP, and has the first name of its line
     pub writer_apart : (es : List Entry) (h : Here) (b : B es h) (k : ℕ) (r : TcpRecord) (s : Streams) → Found h k r → r.streams ≡ Some s → (place : ℕ) (st : StreamAt handle list es h.machine.store.records place) → WritesApart st.socket.inner.side ⊤ (HandName (hand_of st.stream.receiving)) s.writer
@@ -293,11 +304,11 @@ module _ (handle : ℕ) (list : List IncomingDatagram) (contexts : List WasiSock
     exacts_asks es h _ _ _ (Learns place r x at g e) b i = (tt, λ told f. tcp _ h place r _ g (asked es h (own_of line) (Call.Local x) told tt i))
     exacts_asks es h _ _ _ (Closes place r x q g e) b i = (tt, λ told f. tcp _ h place r _ g (asked es h (own_of line) (Call.Close x) told tt i))
     exacts_asks es h _ _ _ (MarksOne kind parent sock m) b i = marks_other es h (own_of line) kind parent sock (is_other contexts line origin h kind parent sock m) i
-    exacts_asks es h _ _ _ (AsksCreate tells fails face ctx family c a o m) b i = allows_then Anything (λ fs made. Inv fs h) (λ fs done. StreamIs handle list fs done.1.table done.1.store.records × IsFresh handle list done.1.table) es (new_asks (own_of line) ctx family) (made_to tells fails (tcp_kind face) h.machine (own_of line)) (silent es h (new_asks (own_of line) ctx family) (λ side Names. new_silent side ⊤ Names es (own_of line) ctx family) i) (λ fs made k. joins tells fails face fs h (own_of line) made k)
+    exacts_asks es h _ _ _ (AsksCreate tells fails face ctx family c a o m) b i = allows_then Anything (λ fs made. Inv fs h) (λ fs done. StreamIs handle list fs done.1.table done.1.store.records × IsFresh handle list done.1.table) es (new_asks (own_of line) ctx family) (made_to tells fails (tcp_kind face) h.machine (own_of line)) (silent es h (new_asks (own_of line) ctx family) (λ side Names. new_silent side ⊤ Names es (own_of line) ctx family) (creates_unmarked es (own_of line) ctx family) i) (λ fs made k. joins tells fails face fs h (own_of line) made k)
     exacts_asks es h _ _ _ (MarksAccepted c s place r is e o g) b i = marks_other es h (own_of line) (Tcp2 place) (Some s) _ tt i
     exacts_asks es h _ _ _ (Polls op after k) b i = polls_exact es h op after k b i
-    exacts_asks es h _ _ _ (Turns place r s g e) b i = quietly handle list contexts line origin h (λ done. tcp2_put h.machine.store.records place (with_writer r s done.1)) es (turn_asks s.writer) i (λ fs done p live st. tcp_at handle list fs h.machine.store.records place p r _ g st) (λ p live st. turn_silent st.socket.inner.side ⊤ (HandName (hand_of st.stream.receiving)) es s.writer (writer_apart es h b place r s g e p st))
-    exacts_asks es h _ _ _ (GivesUp place r q g) b i = quietly handle list contexts line origin h (λ done. tcp2_put h.machine.store.records place (with_listening r listening.Not)) es (give_up_asks r.listening) i (λ fs done p live st. tcp_at handle list fs h.machine.store.records place p r _ g st) (λ p live st. given_up_silent st.socket.inner.side ⊤ (HandName (hand_of st.stream.receiving)) es r.listening)
+    exacts_asks es h _ _ _ (Turns place r s g e) b i = quietly handle list contexts line origin h (λ done. tcp2_put h.machine.store.records place (with_writer r s done.1)) es (turn_asks s.writer) i (λ fs done p live st. tcp_at handle list fs h.machine.store.records place p r _ g st) (λ p live st. turn_silent st.socket.inner.side ⊤ (HandName (hand_of st.stream.receiving)) es s.writer (writer_apart es h b place r s g e p st)) (turns_unmarked es s.writer)
+    exacts_asks es h _ _ _ (GivesUp place r q g) b i = quietly handle list contexts line origin h (λ done. tcp2_put h.machine.store.records place (with_listening r listening.Not)) es (give_up_asks r.listening) i (λ fs done p live st. tcp_at handle list fs h.machine.store.records place p r _ g st) (λ p live st. given_up_silent st.socket.inner.side ⊤ (HandName (hand_of st.stream.receiving)) es r.listening) (releases_unmarked es r.listening)
     exacts_asks es h _ _ _ (UdpQuestions place n o c at g q) b i = (tt, λ told f. asked es h (own_of n) c told (udp_question_else line origin n o.inner.side c q) i)
     exacts_asks es h _ _ _ (UdpLearns place part o at g) b i = (tt, λ told f. udp_same _ h place o _ g (learnt_side o.inner (told_addr told)) refl (asked es h (part_of line part) (Call.Local o.inner.side) told tt i))
     exacts_asks es h _ _ _ (UdpDisconnects place o at g is) b i = (tt, λ told f. udp_same _ h place o _ g refl refl (asked es h (own_of line) (Call.UdpDisconnect o.inner.side) told tt i))
@@ -307,7 +318,7 @@ module _ (handle : ℕ) (list : List IncomingDatagram) (contexts : List WasiSock
     exacts_asks es h _ _ _ (MarksUdp face place u g) b i = marks_other es h (udp_side u) (udp_kind face place) None (Some (udp_side u)) (udp_other face place) i
     exacts_asks es h _ _ _ (MarksStream place n socket reached kind next new of) b i = marks_next es h b place n socket reached kind next new of i
     exacts_asks es h _ _ _ (MarksError n its place handles m k e f) b i = marks_other es h (own_of n) ErrorValue (Some its) (side_at (tcp2_at h.machine.store.records place)) tt i
-    exacts_asks es h _ _ _ (UdpGivesUp place create q g) b i = quietly handle list contexts line origin h (λ done. udp2_put h.machine.store.records place (UdpRecord.Closed create.operation.who.side)) es (create_cancel_asks create) i (λ fs done p live st. put_at handle list fs h.machine.table h.machine.store.records place p (UdpRecord.Creating create) (UdpRecord.Closed create.operation.who.side) g live (λ same. no_stream handle list contexts line origin fs create (UdpRecord.Closed create.operation.who.side)) st) (λ p live st. cancelled_silent st.socket.inner.side ⊤ (HandName (hand_of st.stream.receiving)) es create)
+    exacts_asks es h _ _ _ (UdpGivesUp place create q g) b i = quietly handle list contexts line origin h (λ done. udp2_put h.machine.store.records place (UdpRecord.Closed create.operation.who.side)) es (create_cancel_asks create) i (λ fs done p live st. put_at handle list fs h.machine.table h.machine.store.records place p (UdpRecord.Creating create) (UdpRecord.Closed create.operation.who.side) g live (λ same. no_stream handle list contexts line origin fs create (UdpRecord.Closed create.operation.who.side)) st) (λ p live st. cancelled_silent st.socket.inner.side ⊤ (HandName (hand_of st.stream.receiving)) es create) (cancels_unmarked es create)
     exacts_asks es h _ _ _ (Resolves host records l same) b i = (tt, λ told f. (stream_same handle list _ h.machine.table h.machine.store.records (records told) (same told) (asked es h (own_of line) (Call.Lookup host) told tt i).0, i.1))
     exacts_asks es h _ _ _ (Looks place op g) b i = (tt, λ told f. asked es h op.id (Call.Lookup op.host) told tt i)
 

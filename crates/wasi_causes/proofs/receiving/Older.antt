@@ -35,11 +35,13 @@ use Rattle.wasi_causes.proofs.receiving.Streams.{IsElse}
 pub question_else : (line : ℕ) (origin : Step) (n : ℕ) (x : OpId) (c : Call) → IsQuestionOf line origin n x c → IsElse c
 question_else line origin n x (Call.Recv y) q = absurd q
 question_else line origin n x (Call.Check ctx a UdpReceive) q = absurd q
+question_else line origin n x (Call.Made handle kind parent sock) q = absurd q
 question_else line origin n x _ q = tt
 
 pub udp_question_else : (line : ℕ) (origin : Step) (n : ℕ) (x : OpId) (c : Call) → IsUdpQuestionOf line origin n x c → IsElse c
 udp_question_else line origin n x (Call.Recv y) q = absurd q
 udp_question_else line origin n x (Call.Check ctx a UdpReceive) q = absurd q
+udp_question_else line origin n x (Call.Made handle kind parent sock) q = absurd q
 udp_question_else line origin n x _ q = tt
 
 -- each `recv`, but by the first name of a line, is by a name that was given

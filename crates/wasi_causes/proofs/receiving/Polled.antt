@@ -54,7 +54,7 @@ module _ (handle : ℕ) (only : Option IpSocketAddress) (list : List IncomingDat
 
   -- which is over
   over : (es : List Entry) (ds : List IncomingDatagram) → So es ds None → SoBy es ds None None
-  over es ds k = record { later = k.later; marked = k.marked; reported = k.reported; exactly = k.exactly; all = k.all; left = k.left; one = k.one; each = k.each; free = tt }
+  over es ds k = record { later = k.later; marked = k.marked; reported = k.reported; exactly = k.exactly; all = k.all; left = k.left; one = k.one; each = k.each; free = tt; mine = k.mine; new = tt }
 
   -- before each ask
   abbrev Holds : List Entry → Given → List Item → Type 0
@@ -99,7 +99,7 @@ module _ (handle : ℕ) (only : Option IpSocketAddress) (list : List IncomingDat
         along_more handle op.who.side only es (answered t) list _ (Some held) _ (Some op.who.id) named k tt
         (ap (λ (v : Verdict). unless_answered held v) (checked op.who.side op.who.id bytes a op.who.context t))
         (ap (λ (v : Verdict). list ++ received_if only d v) (checked op.who.side op.who.id bytes a op.who.context t))
-        (λ q. absurd (cc)) (same_ops named _ _ (ap (λ (v : Verdict). served_if only held v) (checked op.who.side op.who.id bytes a op.who.context t)) goes)
+        (λ q. absurd (cc)) (same_ops named _ _ (ap (λ (v : Verdict). served_if only held v) (checked op.who.side op.who.id bytes a op.who.context t)) goes) tt
 
     -- a yes: it has come, or is dropped
     allowed : (es : List Entry) (b : Bool) → ((named : Option OpId) → GoesOn named (if b then op.who.id ∷ [] else []) → SoBy es (list ++ (if b then d ∷ [] else [])) None named) → Keeps [] es (if b then Goes (Datagram bytes a) else Again (Receive only))
@@ -120,9 +120,9 @@ module _ (handle : ℕ) (only : Option IpSocketAddress) (list : List IncomingDat
 
   -- the network socket was asked
   told : (es : List Entry) (t : Told) → So es list None → Allows Anything (λ fs f. Keeps [] fs f) (es ++ entry op.who.id (Call.Recv op.who.side) t ∷ []) (receive_front op.who only (told_datagram t))
-  told es (Told.Datagram bytes a) k = checks bytes a _ (along_more handle op.who.side only es (entry op.who.id (Call.Recv op.who.side) (Told.Datagram bytes a)) list list None (Some (holding op.who.id bytes a)) (Some op.who.id) (Some op.who.id) k (free _) (told_one op.who.side op.who.id bytes a) (append-nil list) (λ q. (refl, refl)) (refl, λ h. h))
-  told es (Told.Code c) k = ends _ c Nothing (along_quiet handle op.who.side only es _ list None (Some op.who.id) (told_none op.who.side only None op.who.id (Told.Code c) tt) (λ q. (refl, refl)) k)
-  told es t k = (LeftToReceive, along_quiet handle op.who.side only es _ list None (Some op.who.id) (told_none op.who.side only None op.who.id t tt) (λ q. (refl, refl)) k)
+  told es (Told.Datagram bytes a) k = checks bytes a _ (along_more handle op.who.side only es (entry op.who.id (Call.Recv op.who.side) (Told.Datagram bytes a)) list list None (Some (holding op.who.id bytes a)) (Some op.who.id) (Some op.who.id) k (free _) (told_one op.who.side op.who.id bytes a) (append-nil list) (λ q. (refl, refl)) (refl, λ h. h) tt)
+  told es (Told.Code c) k = ends _ c Nothing (along_quiet handle op.who.side only es _ list None (Some op.who.id) (told_none op.who.side only None op.who.id (Told.Code c) tt) (λ q. (refl, refl)) tt k)
+  told es t k = (LeftToReceive, along_quiet handle op.who.side only es _ list None (Some op.who.id) (told_none op.who.side only None op.who.id t tt) (λ q. (refl, refl)) tt k)
 
   fronts : (es : List Entry) (given : Given) (item : Item) (items : List Item) → IsLeft only (item ∷ items) → Holds es given (item ∷ items) → Allows Anything (λ fs f. Keeps items fs f) es (front op.who item)
   unfolding bind

@@ -24,6 +24,7 @@ use Rattle.wasi_causes.proofs.receiving.Along.{HandName}
 use Rattle.wasi_causes.proofs.receiving.Named.{NamesApart, name_of_op, receive_name}
 use Rattle.wasi_causes.proofs.receiving.Older.{AllOlder}
 use Rattle.wasi_causes.proofs.receiving.Polled.{Exact, hand_in, hand_of, poll_exact}
+use Rattle.wasi_causes.proofs.receiving.Unmarked.{Unmarked, polls_unmarked}
 use Rattle.wasi_causes.proofs.receiving.Streams.{Becomes, IsFresh, Knows, StreamAt, StreamIs, at_other, at_silent, its_name, put_at, same_place, stream_along, tcp_at}
 use Rattle.wasi_walks.proofs.Places.{put_finds, udp_sort}
 
@@ -64,24 +65,25 @@ module _ (handle : ℕ) (list : List IncomingDatagram) (contexts : List WasiSock
   pub quietly : {A : Type 0} (h : Here) (end : A → List Record) (es : List Entry) (asks : Asks A) → Mine es h
       → ((fs : List Entry) (a : A) (place : ℕ) → kind_at h.machine.table handle ≡ Some (Incoming place) → StreamAt handle list fs h.machine.store.records place → StreamAt handle list fs (end a) place)
       → ((place : ℕ) → kind_at h.machine.table handle ≡ Some (Incoming place) → (s : StreamAt handle list es h.machine.store.records place) → Allows (Elsewhere s.socket.inner.side ⊤ (HandName (hand_of s.stream.receiving))) (λ fs a. ⊤) es asks)
+      → Allows Unmarked (λ fs a. ⊤) es asks
       → Allows Anything (λ fs a. StreamIs handle list fs h.machine.table (end a) × IsFresh handle list h.machine.table) es asks
-  quietly h end es asks i ends n =
+  quietly h end es asks i ends n u =
       allows_weaker Anything (λ fs a. StreamIs handle list fs h.machine.table (end a)) (λ fs a. StreamIs handle list fs h.machine.table (end a) × IsFresh handle list h.machine.table) (λ fs a k. (k, i.1)) es asks
       (stream_along handle list h.machine.table end es asks (λ place e. let s = i.0 place e in
-      allows_weaker Anything (λ fs a. StreamAt handle list fs h.machine.store.records place) (λ fs a. StreamAt handle list fs (end a) place) (λ fs a k. ends fs a place e k) es asks (at_silent handle list es h.machine.store.records place asks s (n place e s))))
+      allows_weaker Anything (λ fs a. StreamAt handle list fs h.machine.store.records place) (λ fs a. StreamAt handle list fs (end a) place) (λ fs a k. ends fs a place e k) es asks (at_silent handle list es h.machine.store.records place asks s (n place e s) u)))
 
   -- a poll of an operation of a TCP socket
   pub polled_tcp : (es : List Entry) (h : Here) (k : ℕ) (r : TcpRecord) (op : Operation) (now : End × List Item → TcpRecord) → Found h k r → ((side : OpId) (Names : OpId → Type 0) → AreSilent side ⊤ Names op.who op.left) → Mine es h → Allows Anything (λ fs ended. Mine fs (put h k (now ended))) es (poll_asks op)
   polled_tcp es h k r op now g n i =
       quietly h (λ ended. tcp2_put h.machine.store.records k (now ended)) es (poll_asks op) i (λ fs ended place e s. tcp_at handle list fs h.machine.store.records k place r (now ended) g s)
-      (λ place e s. silent_poll s.socket.inner.side ⊤ (HandName (hand_of s.stream.receiving)) op es (n s.socket.inner.side (HandName (hand_of s.stream.receiving))))
+      (λ place e s. silent_poll s.socket.inner.side ⊤ (HandName (hand_of s.stream.receiving)) op es (n s.socket.inner.side (HandName (hand_of s.stream.receiving)))) (polls_unmarked op es)
 
   -- and of one of a UDP socket, which leaves what there is of the stream
   pub polled_udp : (es : List Entry) (h : Here) (k : ℕ) (u : UdpRecord) (op : Operation) (now : End × List Item → UdpRecord) → FoundUdp h k u → ((fs : List Entry) (ended : End × List Item) → Becomes handle list fs u (now ended))
       → ((place : ℕ) (s : StreamAt handle list es h.machine.store.records place) → AreSilent s.socket.inner.side ⊤ (HandName (hand_of s.stream.receiving)) op.who op.left) → Mine es h → Allows Anything (λ fs ended. Mine fs (put_udp h k (now ended))) es (poll_asks op)
   polled_udp es h k u op now g becomes n i =
       quietly h (λ ended. udp2_put h.machine.store.records k (now ended)) es (poll_asks op) i (λ fs ended place e s. put_at handle list fs h.machine.table h.machine.store.records k place u (now ended) g e (λ live. becomes fs ended) s)
-      (λ place e s. silent_poll s.socket.inner.side ⊤ (HandName (hand_of s.stream.receiving)) op es (n place s))
+      (λ place e s. silent_poll s.socket.inner.side ⊤ (HandName (hand_of s.stream.receiving)) op es (n place s)) (polls_unmarked op es)
 
   -- what isn't open has no stream
   pub no_stream : (es : List Entry) (create : Create) (now : UdpRecord) → Becomes handle list es (UdpRecord.Creating create) now
@@ -134,4 +136,4 @@ module _ (handle : ℕ) (list : List IncomingDatagram) (contexts : List WasiSock
       by_place place s (inr not) =
           allows_weaker Anything (λ fs ended. StreamAt handle list fs h.machine.store.records place) (λ fs ended. StreamAt handle list fs (udp2_put h.machine.store.records k (UdpRecord.Open (record o { incoming = Some (with_receiving inc (receive_left op ended)) }))) place)
           (λ fs ended m. at_other handle list fs h.machine.store.records k place (UdpRecord.Open (record o { incoming = Some (with_receiving inc (receive_left op ended)) })) not m) es (poll_asks (wanting inc.remote op))
-          (at_silent handle list es h.machine.store.records place (poll_asks (wanting inc.remote op)) s (silent_poll s.socket.inner.side ⊤ (HandName (hand_of s.stream.receiving)) (wanting inc.remote op) es (apart_silent s.socket.inner.side ⊤ (HandName (hand_of s.stream.receiving)) op.who (receives_apart es h b k o inc op g e f its place s not) (wanting inc.remote op).left)))
+          (at_silent handle list es h.machine.store.records place (poll_asks (wanting inc.remote op)) s (silent_poll s.socket.inner.side ⊤ (HandName (hand_of s.stream.receiving)) (wanting inc.remote op) es (apart_silent s.socket.inner.side ⊤ (HandName (hand_of s.stream.receiving)) op.who (receives_apart es h b k o inc op g e f its place s not) (wanting inc.remote op).left)) (polls_unmarked (wanting inc.remote op) es))

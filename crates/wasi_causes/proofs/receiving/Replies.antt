@@ -34,7 +34,7 @@ use Rattle.wasi_walks.proofs.walks.Here.{older_unused}
 use Rattle.wasi_walks.proofs.walks.Moves.{Names, Unused}
 use Rattle.wasi_causes.proofs.receiving.Older.{all_grow}
 use Rattle.wasi_causes.specs.ReceivedList.{FrontByItsOwn, MarkedBefore, handed_by, left_in_hand, received, waiting, without_count}
-use Rattle.wasi_causes.proofs.receiving.Along.{received_more}
+use Rattle.wasi_causes.proofs.receiving.Along.{IsOfOne, received_more}
 use Rattle.wasi_causes.proofs.receiving.Handed.{IsGiven, Leaves, receives_exact}
 use Rattle.wasi_causes.proofs.receiving.Lines.{RestBetween, line_exact, line_rest}
 use Rattle.wasi_causes.proofs.receiving.Polled.{Exact, with_waiting}
@@ -59,6 +59,7 @@ module _ (handle : ℕ) where
     pub more : List IncomingDatagram
     pub all : received side kept None later ≡ list ++ more
     pub while_live : FrontByItsOwn side kept later list
+    pub mine : IsOfOne side marked.front while_live.during
 
   -- they are, or there are none
   abbrev pub Fronts : List IncomingDatagram → List Entry → Type 0
@@ -75,13 +76,14 @@ module _ (handle : ℕ) where
         marked = record { front = m.front; op = m.op; parent = m.parent; told = m.told; cut = cut_more es fs m.front k.later _ m.cut };
         reported = k.reported;
         while_live = (let w = k.while_live in record { during = w.during; after = w.after ++ fs; cut = ap (λ (xs : List Entry). xs ++ fs) w.cut ∙ append_assoc w.during w.after fs; more = w.more; gave = w.gave; each = w.each });
+        mine = k.mine;
         more = k.more ++ received k.side k.kept (left_in_hand k.side None k.later) fs;
         all = received_more k.side k.kept None k.later fs ∙ (ap (λ (ds : List IncomingDatagram). ds ++ received k.side k.kept (left_in_hand k.side None k.later) fs) k.all ∙ append_assoc list k.more (received k.side k.kept (left_in_hand k.side None k.later) fs));
       })
 
   -- what is known of a live stream says it
   front_of : (list : List IncomingDatagram) (es : List Entry) (side : OpId) (kept : Option IpSocketAddress) (r : Receiving) → Exact handle side kept es list r → Front list es
-  front_of list es side kept r k = record { side = side; kept = kept; later = k.later; marked = k.marked; reported = k.reported; more = waiting r; all = k.all ∙ waiting_is list r; while_live = record { during = k.later; after = []; cut = sym (append-nil k.later); more = waiting r; gave = k.all ∙ waiting_is list r; each = k.each } }
+  front_of list es side kept r k = record { side = side; kept = kept; later = k.later; marked = k.marked; reported = k.reported; more = waiting r; all = k.all ∙ waiting_is list r; while_live = record { during = k.later; after = []; cut = sym (append-nil k.later); more = waiting r; gave = k.all ∙ waiting_is list r; each = k.each }; mine = k.mine }
 
   -- Before the line of this number.
   pub record StreamBetween (list : List IncomingDatagram) (line : ℕ) (es : List Entry) (m : Machine) : Type 0 where

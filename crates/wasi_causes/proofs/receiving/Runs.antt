@@ -15,7 +15,7 @@ use Rattle.wasi_walks.proofs.fits.Polls.{Anything}
 use Rattle.wasi_walks.proofs.licence.State.{RemoteIs}
 use Rattle.wasi_causes.specs.Datagrams.{OfIncoming}
 use Rattle.wasi_causes.specs.ReceivedList.{KeepsLastRemote, HandedOut, HandsOutFront, HasAllReceived, KeptThere, handed_by, handed_out}
-use Rattle.wasi_causes.proofs.receiving.Along.{are_apart}
+use Rattle.wasi_causes.proofs.receiving.Along.{IsOfOne, are_apart}
 use Rattle.wasi_causes.proofs.receiving.Lines.{first_rest}
 use Rattle.wasi_causes.proofs.receiving.Polled.{Exact, none_over}
 use Rattle.wasi_causes.proofs.receiving.Replies.{Fronts, StreamBetween, Takes, line_takes, waiting_is}
@@ -45,6 +45,11 @@ module _ (handle : ℕ) where
       pushed steps replies s r e ∙ (ap (λ (fields : List Field). fields ++ handed_by handle s r) k ∙ (ap (λ (fields : List Field). flat_map received_values list ++ fields) l ∙ sym (flat_map-append received_values list new)))
 
   -- == along a run
+  -- They are a front of what the stream received, and that is of its stream alone.
+  pub record OfOne (log : List Entry) (steps : List Step) (replies : List Reply) : Type 0 where
+    pub front : HandsOutFront log steps replies handle
+    pub mine : IsOfOne front.side front.marked.front front.while_live.during
+
   -- What it comes to.
   record Ends (steps : List Step) (es : List Entry) (done : List Reply × Machine) : Type 0 where
     pub list : List IncomingDatagram
@@ -125,9 +130,12 @@ module _ (handle : ℕ) where
           }
 
       -- any stream
-      pub runs_hand_out_fronts : (handed_out handle steps replies ≡ []) ⊎ HandsOutFront log steps replies handle
-      runs_hand_out_fronts = by_front ended.between.fronts
+      pub runs_hand_out_of_one : (handed_out handle steps replies ≡ []) ⊎ OfOne log steps replies
+      runs_hand_out_of_one = by_front ended.between.fronts
         where
-          by_front : Fronts handle ended.list log → (handed_out handle steps replies ≡ []) ⊎ HandsOutFront log steps replies handle
+          by_front : Fronts handle ended.list log → (handed_out handle steps replies ≡ []) ⊎ OfOne log steps replies
           by_front (inl none) = inl (ended.gives ∙ ap (λ (ds : List IncomingDatagram). flat_map received_values ds) none)
-          by_front (inr f) = inr (record { side = f.side; remote = f.kept; later = f.later; marked = f.marked; kept = kept_there f.marked.front f.side f.kept f.reported; handed = ended.list; gives = ended.gives; more = f.more; front_of = f.all; while_live = f.while_live })
+          by_front (inr f) = inr (record { front = record { side = f.side; remote = f.kept; later = f.later; marked = f.marked; kept = kept_there f.marked.front f.side f.kept f.reported; handed = ended.list; gives = ended.gives; more = f.more; front_of = f.all; while_live = f.while_live }; mine = f.mine })
+
+      pub runs_hand_out_fronts : (handed_out handle steps replies ≡ []) ⊎ HandsOutFront log steps replies handle
+      runs_hand_out_fronts = elim runs_hand_out_of_one [ inl none ↦ inl none | inr k ↦ inr k.front ]

@@ -1,7 +1,8 @@
 -- The incoming stream of one handle, while it is live: all that it received was taken or waits.
 use Rattle.wasi_causes.proofs.StreamsLive.{IsOther}
-use Rattle.wasi_causes.proofs.Words.{Allows, Asks, Call, Entry, HandleTable, Kind, List, None, OpId, Option, Some, TcpRecord, Told, ap, arith, entry, eqb-false, eqb-true, false, inl, inr, kind_at, refl, subst, sym, true, with_handle, without_handle, Bool, ℕ, ⊤, ◌++◌, ◌==◌, ◌∙◌, ◌∷◌, ◌≡◌, ◌⊎◌, []}
+use Rattle.wasi_causes.proofs.Words.{Allows, Asks, Call, Entry, HandleTable, Kind, List, None, OpId, Option, Some, TcpRecord, Told, ap, arith, entry, eqb-false, eqb-true, false, inl, inr, kind_at, name_of, refl, subst, sym, true, with_handle, without_handle, Bool, ℕ, ⊤, ◌++◌, ◌==◌, ◌∙◌, ◌∷◌, ◌≡◌, ◌⊎◌, []}
 use Rattle.wasi_table.proofs.Tables.{value_without}
+use Rattle.wasi_world.specs.declared.call.HandleKind.TheVariants as name
 use Rattle.wasi_world.specs.declared.datagram.IncomingDatagram.{IncomingDatagram}
 use Rattle.wasi_world.specs.Operation.{CheckPeer}
 use Rattle.wasi_addr.specs.declared.address.SocketAddrUse.TheVariants.{UdpReceive}
@@ -21,8 +22,9 @@ use Rattle.wasi_walks.proofs.received.Handles.{was_or_new}
 use Rattle.wasi_walks.proofs.received.Polls.{Elsewhere, Spares}
 use Rattle.wasi_walks.proofs.walks.States.{incoming_kind}
 use Rattle.wasi_walks.proofs.walks.Moves.{SameSockets, receive_op}
-use Rattle.wasi_causes.proofs.receiving.Along.{HandName, along_quiet, along_silent, asks_other, quiet}
+use Rattle.wasi_causes.proofs.receiving.Along.{HandName, MarksNoStream, along_quiet, along_silent, asks_other, quiet}
 use Rattle.wasi_causes.proofs.receiving.Named.{name_of_op}
+use Rattle.wasi_causes.proofs.receiving.Unmarked.{Unmarked}
 use Rattle.wasi_causes.proofs.receiving.Polled.{Exact, hand_in, hand_of, receiver_of, with_waiting}
 use Rattle.wasi_walks.proofs.Places.{push_still, put_stays, put_still, tcp_sort, udp_sort}
 
@@ -47,12 +49,22 @@ its_name _ x k = absurd k
 abbrev pub IsElse : Call → Type 0
 IsElse (Call.Recv x) = ⊥
 IsElse (Call.Check ctx a UdpReceive) = ⊥
+IsElse (Call.Made handle name.Incoming parent sock) = ⊥
 IsElse _ = ⊤
 
 pub spares_else : (side : OpId) (Names : OpId → Type 0) (op : OpId) (c : Call) → IsElse c → Spares side Names op c
 spares_else side Names op (Call.Recv x) n = absurd n
 spares_else side Names op (Call.Check ctx a UdpReceive) n = absurd n
 spares_else side Names op _ n = tt
+
+else_unmarked : (side : OpId) (c : Call) → IsElse c → MarksNoStream side c
+else_unmarked side (Call.Made handle name.Incoming parent sock) n = absurd n
+else_unmarked side _ n = tt
+
+-- nor does the mark of anything but an incoming stream
+pub mark_else : (handle : ℕ) (kind : Kind) (parent : Option ℕ) (sock : Option OpId) → IsOther kind → IsElse (Call.Made handle (name_of kind) parent sock)
+mark_else handle (Incoming place) parent sock other = absurd other
+mark_else handle _ parent sock other = tt
 
 -- == of one handle, on which so much was handed out
 module _ (handle : ℕ) (list : List IncomingDatagram) where
@@ -77,10 +89,22 @@ module _ (handle : ℕ) (list : List IncomingDatagram) where
   IsFresh t = t.next ≤ handle → list ≡ []
 
   -- == more entries
+  pub at_more : (es : List Entry) (op : OpId) (c : Call) (told : Told) (records : List Record) (place : ℕ) (s : StreamAt es records place) → Spares s.socket.inner.side (HandName (hand_of s.stream.receiving)) op c → MarksNoStream s.socket.inner.side c → StreamAt (es ++ entry op c told ∷ []) records place
+  at_more es op c told records place s spares none =
+      let side = s.socket.inner.side in
+      let hand = hand_of s.stream.receiving in
+      record {
+        socket = s.socket;
+        at = s.at;
+        stream = s.stream;
+        has = s.has;
+        knows = along_quiet handle side s.stream.remote es (entry op c told) (with_waiting list s.stream.receiving) hand (receiver_of s.stream.receiving) (quiet side s.stream.remote hand op c told spares) (asks_other handle side s.stream.remote hand (receiver_of s.stream.receiving) (HandName hand) op c told spares) none s.knows;
+      }
+
   pub stream_more : (es : List Entry) (op : OpId) (c : Call) (told : Told) (t : HandleTable) (records : List Record) → IsElse c → StreamIs es t records → StreamIs (es ++ entry op c told ∷ []) t records
   stream_more es op c told t records n k place e =
       let s = k place e in
-      record { socket = s.socket; at = s.at; stream = s.stream; has = s.has; knows = along_quiet handle s.socket.inner.side s.stream.remote es (entry op c told) (with_waiting list s.stream.receiving) (hand_of s.stream.receiving) (receiver_of s.stream.receiving) (quiet s.socket.inner.side s.stream.remote (hand_of s.stream.receiving) op c told (spares_else s.socket.inner.side (HandName (hand_of s.stream.receiving)) op c n)) (asks_other handle s.socket.inner.side s.stream.remote (hand_of s.stream.receiving) (receiver_of s.stream.receiving) (HandName (hand_of s.stream.receiving)) op c told (spares_else s.socket.inner.side (HandName (hand_of s.stream.receiving)) op c n)) s.knows }
+      at_more es op c told records place s (spares_else s.socket.inner.side (HandName (hand_of s.stream.receiving)) op c n) (else_unmarked s.socket.inner.side c n)
 
   -- along a tree, by the place of the stream
   pub stream_along : {A : Type 0} (t : HandleTable) (end : A → List Record) (es : List Entry) (asks : Asks A) → ((place : ℕ) → kind_at t handle ≡ Some (Incoming place) → Allows Anything (λ fs a. StreamAt fs (end a) place) es asks) → Allows Anything (λ fs a. StreamIs fs t (end a)) es asks
@@ -94,11 +118,11 @@ module _ (handle : ℕ) (list : List IncomingDatagram) where
       by_place None e = allows_weaker Anything (λ fs a. ⊤) (λ fs a. StreamIs fs t (end a)) (λ fs a u place d. let p : None ≡ Some place = sym e ∙ ap (λ (k : Option Kind). incoming_of k) d in absurd (cc)) es asks (whatever (λ a. ⊤) (λ a. tt) es asks)
 
   -- which does nothing to it
-  pub at_silent : {A : Type 0} (es : List Entry) (records : List Record) (place : ℕ) (asks : Asks A) (s : StreamAt es records place) → Allows (Elsewhere s.socket.inner.side ⊤ (HandName (hand_of s.stream.receiving))) (λ fs a. ⊤) es asks → Allows Anything (λ fs a. StreamAt fs records place) es asks
-  at_silent es records place asks s n =
+  pub at_silent : {A : Type 0} (es : List Entry) (records : List Record) (place : ℕ) (asks : Asks A) (s : StreamAt es records place) → Allows (Elsewhere s.socket.inner.side ⊤ (HandName (hand_of s.stream.receiving))) (λ fs a. ⊤) es asks → Allows Unmarked (λ fs a. ⊤) es asks → Allows Anything (λ fs a. StreamAt fs records place) es asks
+  at_silent es records place asks s n u =
       let side = s.socket.inner.side in
       allows_weaker Anything (λ fs a. Knows fs s.socket s.stream) (λ fs a. StreamAt fs records place) (λ fs a k. record { socket = s.socket; at = s.at; stream = s.stream; has = s.has; knows = k }) es asks
-      (along_silent handle side s.stream.remote es asks (with_waiting list s.stream.receiving) (hand_of s.stream.receiving) (receiver_of s.stream.receiving) s.knows n)
+      (along_silent handle side s.stream.remote es asks (with_waiting list s.stream.receiving) (hand_of s.stream.receiving) (receiver_of s.stream.receiving) s.knows n u)
 
   -- == records change
   -- what the stream's socket becomes, where it was this one
