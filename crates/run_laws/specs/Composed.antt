@@ -1,5 +1,5 @@
 -- What the laws of runs say of the log and the replies of a run.
-use Rattle.std.specs.Prelude.{◌≡◌, ◌⊎◌, ℕ, ◌+◌, List, [], ◌∷◌, ◌++◌, length, Some, IfSome, Result}
+use Rattle.std.specs.Prelude.{◌≡◌, ◌⊎◌, ℕ, ◌+◌, List, [], ◌∷◌, ◌++◌, length, None, Some, IfSome, Result}
 use Rattle.wasi_world.specs.declared.ids.OpId.{OpId}
 use Rattle.wasi_world.specs.declared.call.Entry.{Entry}
 use Rattle.wasi_world.specs.declared.outcome.WasiSocketsCtx.{WasiSocketsCtx}
@@ -17,7 +17,8 @@ use Rattle.wasi_laws.specs.Opened.{AsksOpenSockets}
 use Rattle.wasi_laws.specs.Order.{ChecksFirst, asked_by}
 use Rattle.wasi_laws.specs.Permitted.{IsOfSteps, permitted_by}
 use Rattle.wasi_laws.specs.Receivers.{ReceivesOnOne}
-use Rattle.wasi_causes.specs.ReceivedList.{HandsOutFront, handed_out}
+use Rattle.wasi_causes.specs.ReceivedApart.{NoneInBoth}
+use Rattle.wasi_causes.specs.ReceivedList.{HandsOutFront, handed_out, served}
 use Rattle.wasi_run.specs.declared.error.RunError.{RunError}
 use Rattle.wasi_run.specs.declared.run.RunEnd.{RunEnd}
 use Rattle.wasi_run.specs.Script.{RanScript}
@@ -33,6 +34,13 @@ pub record TookPermitted (contexts : List WasiSocketsCtx) (side : OpId) (steps :
   pub front : let run = line_by_line in
       IsFrontOf (taken_in side log) (run.permitted ++ permitted_next run.after side (1 + length run.done) run.left run.entries)
 
+-- No operation serves two: what the replies handed out on these two handles was received by different operations, each by one that
+-- received nothing else on its handle.
+pub record NoneServesBoth (log : List Entry) (steps : List Step) (replies : List Reply) (first second : ℕ) : Type 0 where
+  pub one : HandsOutFront log steps replies first
+  pub two : HandsOutFront log steps replies second
+  pub apart : NoneInBoth (served one.side one.remote None one.while_live.during) (served two.side two.remote None two.while_live.during)
+
 -- The log and the replies are those of a run of these steps, and so the laws of runs hold of them.
 pub record KeepsLaws (contexts : List WasiSocketsCtx) (steps : List Step) (log : List Entry) (replies : List Reply) : Type 0 where
   pub run : HasRun contexts steps log replies
@@ -42,6 +50,8 @@ pub record KeepsLaws (contexts : List WasiSocketsCtx) (steps : List Step) (log :
   pub taken : (side : OpId) → TookPermitted contexts side steps log
   pub on_one : ReceivesOnOne log
   pub in_order : (side : OpId) → HandsOutInOrder log side steps replies
+  pub apart : (first second : ℕ) → (first ≡ second → ⊥)
+      → (handed_out first run.done replies ≡ []) ⊎ ((handed_out second run.done replies ≡ []) ⊎ NoneServesBoth run.front run.done replies first second)
   pub handed_out : (handle : ℕ) → (handed_out handle run.done replies ≡ []) ⊎ HandsOutFront run.front run.done replies handle
 
 -- The script ran so; and where the world reports its log, which was empty, the laws of runs hold of the steps that were done and of

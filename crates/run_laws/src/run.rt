@@ -17,7 +17,8 @@ use world_io::{Sink, Source};
 /// replies: each call is licensed, an operation asks its checks before its first call that goes
 /// out, network sockets are used while they are open, a network socket takes a prefix of the bytes
 /// that the lines were allowed to write to it, an operation receives on one network socket alone,
-/// and datagrams are handed out in the order in which they came, and none twice.
+/// and for one of its streams, and datagrams are handed out in the order in which they came, and
+/// none twice.
 pub fn run_by_laws<W: World, S: Source, K: Sink>(
     alloc: Global,
     world: &mut W,
