@@ -8,7 +8,7 @@ use Rattle.wasi_udp.specs.Create.{Create, new_create}
 use Rattle.wasi_udp.specs.Receive.{receive_start, wanting}
 use Rattle.wasi_udp.specs.Send.{at_remote}
 use Rattle.wasi_world.specs.Operation as item
-use Rattle.wasi_records.specs.Datagrams.{udp_connect_left}
+use Rattle.wasi_records.specs.Datagrams.{udp_connect_left, udp_reconnect_left}
 use Rattle.wasi_records.specs.Receiving.{receive_left, with_receiving}
 use Rattle.wasi_records.specs.Udp.{udp_create_left, udp_side}
 use Rattle.wasi_records.specs.declared.datagrams.Incoming.{Incoming}
@@ -99,6 +99,7 @@ module _ (line : ℕ) where
     moves es _ _ (walk.SpendsNames h n e) i = used es h i
     moves es _ _ (walk.EndsConnect h place own over) i = used es h i
     moves es _ _ (walk.RecallsStreams h ids place handle e own) i = connects es h place i
+    moves es _ _ (walk.RecallsConnect h ids place e own) i = connects es h place i
     moves es _ _ (walk.Counts h e) i = gives_more line h.own es h.machine.store.records (Names 1) (grows_to line h.own Unused (Names 1) e (older_unused line (Names 1))) (omega arith) i
     moves es _ _ (walk.Changes h place r now g p) i = tcp es h place now i
     moves es _ _ (walk.ClosesReader h place r s g e) i = tcp es h place _ i
@@ -118,7 +119,7 @@ module _ (line : ℕ) where
         going_on line h.own es _ _ (λ w g. of_more_tcp _ w (walk.joined l new peer) g) k
     moves es _ _ (walk.UdpChanges h place o now g p keeps) i = udp es h place (UdpRecord.Open o) (UdpRecord.Open now) g (goes_or_ends (receiving_in o.incoming) (receiving_in now.incoming) p.receives) i
     moves es _ _ (walk.BeginsUdpBind h place o a at g to own) i = used es (put_udp h place _) (udp es h place (UdpRecord.Open o) (UdpRecord.Open _) g (inl refl) i)
-    moves es _ _ (walk.BeginsUdpConnect h place o a at g to bound none own) i = connects es (put_udp h place _) place (udp es h place (UdpRecord.Open o) (UdpRecord.Open _) g (inl refl) i)
+    moves es _ _ (walk.BeginsUdpConnect h place o a bound at g to known none own) i = connects es (put_udp h place _) place (udp es h place (UdpRecord.Open o) (UdpRecord.Open _) g (inl refl) i)
     moves es _ _ (walk.BeginsSend h place n o out d bound at g e is known own) i = counts es (put_udp h place _) n own (udp es h place (UdpRecord.Open o) (UdpRecord.Open _) g (inl refl) i)
     moves es _ _ (walk.BeginsReceive h place n o inc bound at g e is own) i = begins es h place n (UdpRecord.Open _) (receive_start (part_of line n) o.inner bound).who refl refl own i
     moves es _ _ (walk.CancelsBind h place r op q g e) i = tcp es h place _ i
@@ -189,6 +190,11 @@ module _ (line : ℕ) where
   connected_keeps o op (Done given, items) = inr refl
   connected_keeps o op (Refused c given, items) = inl refl
 
+  reconnected_keeps : (o : OpenUdp) (op : Operation) (ended : End × List Item) → GoesOrEnds (UdpRecord.Open o) (UdpRecord.Open (udp_reconnect_left op o ended))
+  reconnected_keeps o op (Waits, items) = inl refl
+  reconnected_keeps o op (Done given, items) = inl refl
+  reconnected_keeps o op (Refused c given, items) = inl refl
+
   -- one that is polled goes on, or is over
   received_keeps : (op : Operation) (ended : End × List Item) → (who_of (receive_op (receive_left op ended)) ≡ Some op.who) ⊎ (who_of (receive_op (receive_left op ended)) ≡ None)
   received_keeps op (Waits, items) = inl refl
@@ -219,6 +225,8 @@ module _ (line : ℕ) where
         udp_polled es h place (UdpRecord.Open o) op _ g (λ ended. inl refl) (λ side. udp_bind_silent side ⊤ NoName op.who op.left its.bind.left) i
     polls es h _ _ (walk.UdpConnectsOn place o op q g e) b i = let its : UdpConnectOn o.inner.side op = subst (FitConnecting o.inner.side) e (b.0.0.udps place (UdpRecord.Open o) g).1 in
         udp_polled es h place (UdpRecord.Open o) op _ g (connected_keeps o op) (λ side. udp_connect_silent side ⊤ NoName op.who (λ x n. n) op.left its.connect.left) i
+    polls es h _ _ (walk.UdpReconnectsOn place o op q g e) b i = let its : UdpConnectOn o.inner.side op = subst (FitConnecting o.inner.side) e (b.0.0.udps place (UdpRecord.Open o) g).1 in
+        udp_polled es h place (UdpRecord.Open o) op _ g (reconnected_keeps o op) (λ side. udp_connect_silent side ⊤ NoName op.who (λ x n. n) op.left its.connect.left) i
     polls es h _ _ (walk.SendsOn place o out op left g e f s) b i =
         let its : SendOn o.inner.side op = subst (FitSending o.inner.side) (ap sending_in e ∙ ap send_op f) (b.0.0.udps place (UdpRecord.Open o) g).2 in
         udp_polled es h place (UdpRecord.Open o) (at_remote o.inner.remote op) _ g (λ ended. inl refl) (λ side. send_silent side ⊤ NoName op.who op.left its.send.left) i
