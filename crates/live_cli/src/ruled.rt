@@ -4,52 +4,57 @@ ghost use Rattle.std.specs.Prelude.{◌≡◌, ◌⊎◌, None};
 ghost use Rattle.live_cli.specs.Live.{RanLive};
 ghost use Rattle.live_cli.specs.Ruled.{EndsUnderRules};
 
-use crate::script::{PATIENCE, contexts, every_port};
+use crate::script::{Setup, contexts};
 use policy_commands::{FoundRules, PolicyStatus, read_rules};
 use std::alloc::Global;
 use std::marker::Brand;
 use std::net::Net;
-use wasi_net::{Allowed, Linux, PatientWorld, SystemWorld};
+use wasi_net::{Linux, PatientWorld, SystemWorld};
 use wasi_policy::{Policy, PolicyWorld, Rules};
 use wasi_program::Status;
 use wasi_program::status::bad_line;
 use wasi_run::{RunEnd, RunError, run_script};
 use world_io::{Sink, Source};
 
-/// Runs the script under rules, over this machine's own addresses and every port.
+/// Runs the script under rules, over the system's sockets.
 fn run_under<P: Rules, R: Net, S: Source, K: Sink>(
     rt: &R,
     alloc: Global,
     policy: Policy,
-    limit: u32,
+    setup: Setup,
     source: &mut S,
     sink: &mut K,
 ) -> Result<RunEnd, RunError>
     requires rules { policy ≡ P.rules }
     requires plan { P.plan ≡ None }
-    ensures { RanLive limit (S.reading source.old) (S.reading source.new)
+    ensures { RanLive setup.limit (S.reading source.old) (S.reading source.new)
         (K.writing sink.old) (K.writing sink.new) result }
 {
-    let allowed = Allowed::loopback(every_port(alloc)?);
+    let Setup {
+        limit,
+        allowed,
+        hosts,
+        patience,
+    } = setup;
     let mut contexts = contexts(alloc)?;
-    let system = SystemWorld::new(Linux::new(rt), alloc, allowed);
-    let network = PatientWorld::new(system, PATIENCE);
+    let system = SystemWorld::new(Linux::new(rt), alloc, allowed, hosts);
+    let network = PatientWorld::new(system, patience);
     let mut world = PolicyWorld::<_, P>::new(alloc, policy, network);
     run_script(alloc, &mut world, &mut contexts, limit, source, sink)
 }
 
 /// Reads rules, and runs the script that the source gives over the system's sockets, of which the
-/// rules allow some addresses of this machine. Replies go to the sink. Returns how the program ends,
+/// rules allow some addresses. Replies go to the sink. Returns how the program ends,
 /// and the number of the bad line of the rules or of the script, or 0.
 pub fn run_ruled<R: Net, F: Source, S: Source, K: Sink>(
     rt: &R,
     alloc: Global,
     rules: &mut F,
-    limit: u32,
+    setup: Setup,
     source: &mut S,
     sink: &mut K,
 ) -> (PolicyStatus, u32)
-    ensures { EndsUnderRules limit (F.reading rules.old) (F.reading rules.new)
+    ensures { EndsUnderRules setup.limit (F.reading rules.old) (F.reading rules.new)
         (S.reading source.old) (S.reading source.new) (K.writing sink.old) (K.writing sink.new)
         result.1 result.0 }
 {
@@ -57,6 +62,6 @@ pub fn run_ruled<R: Net, F: Source, S: Source, K: Sink>(
         FoundRules::Read(policy) => policy,
         FoundRules::Stopped(status, line) => return (status, line),
     };
-    let outcome = run_under::<Brand, R, S, K>(rt, alloc, policy, limit, source, sink);
+    let outcome = run_under::<Brand, R, S, K>(rt, alloc, policy, setup, source, sink);
     (PolicyStatus::Of(Status::of_run(outcome)), bad_line(outcome))
 }

@@ -1,14 +1,13 @@
 //! The script's run over the system's sockets.
 
-ghost use Rattle.std.specs.Prelude.{◌≡◌, [], ◌∷◌, IfOk};
+ghost use Rattle.std.specs.Prelude.{◌≡◌, [], ◌∷◌, IfOk, Some, None};
 ghost use Rattle.wasi_world.specs.Contexts.{free_context};
 ghost use Rattle.wasi_net.specs.Allowed.{policy_of};
 ghost use Rattle.live_cli.specs.Live.{RanLive};
 
-use crate::command::Command;
 use std::alloc::{AllocError, Global};
 use std::net::Net;
-use wasi_net::{Allowed, Linux, PatientWorld, SystemWorld};
+use wasi_net::{Allowed, Hosts, Linux, Patience, PatientWorld, SystemWorld};
 use wasi_run::{RunEnd, RunError, run_script};
 use wasi_world::WasiSocketsCtx;
 use world_io::{Sink, Source};
@@ -27,12 +26,31 @@ pub fn contexts(alloc: Global) -> Result<Vec<WasiSocketsCtx>, AllocError>
     Ok(vec![in alloc; FREE]?)
 }
 
-/// How long a look waits, in milliseconds.
-pub const PATIENCE: i32 = 1000;
+/// How long a look waits, in milliseconds, where it doesn't wait without limit.
+const PATIENCE: i32 = 1000;
+
+/// What a run goes by: the most bytes of its script, which addresses may be used, which names are
+/// found, and how looks wait.
+#[derive(Drop)]
+pub struct Setup {
+    pub limit: u32,
+    pub allowed: Allowed,
+    pub hosts: Hosts,
+    pub patience: Patience,
+}
+
+/// How looks wait: without limit, or for about a second.
+pub fn patience(endless: bool) -> Patience {
+    if endless {
+        Patience::Endless
+    } else {
+        Patience::AtMost(PATIENCE)
+    }
+}
 
 /// The addresses that may be used: the ports, on every address or on this machine's own alone.
-fn allowed(ports: Vec<u16>, anywhere: bool) -> Allowed
-    ensures { policy_of result ≡ record { ports = ports.items; anywhere = anywhere } }
+pub fn allowed(ports: Vec<u16>, anywhere: bool) -> Allowed
+    ensures { policy_of result ≡ record { ports = Some ports.items; anywhere = anywhere } }
 {
     if anywhere {
         Allowed::anywhere(ports)
@@ -41,22 +59,23 @@ fn allowed(ports: Vec<u16>, anywhere: bool) -> Allowed
     }
 }
 
-/// Every port.
-pub fn every_port(alloc: Global) -> Result<Vec<u16>, AllocError> {
-    let mut ports = Vec::with_capacity(alloc, 65536)?;
-    for port in 0..=u16::MAX {
-        ports.push(port)?;
+/// The addresses that rules may allow: every one, or this machine's own alone.
+pub fn every_port(anywhere: bool) -> Allowed
+    ensures { policy_of result ≡ record { ports = None; anywhere = anywhere } }
+{
+    if anywhere {
+        Allowed::everything()
+    } else {
+        Allowed::every_loopback()
     }
-    Ok(ports)
 }
 
-/// Runs the script that the source gives over the system's sockets, of which the command's ports
-/// may be used, and writes the replies to the sink. What is open at its end is closed.
+/// Runs the script that the source gives over the system's sockets, and writes the replies to the
+/// sink. What is open at its end is closed.
 pub fn run_live<R, S, K>(
     rt: &R,
     alloc: Global,
-    command: Command,
-    anywhere: bool,
+    setup: Setup,
     source: &mut S,
     sink: &mut K,
 ) -> Result<RunEnd, RunError>
@@ -64,12 +83,17 @@ where
     R: Net,
     S: Source,
     K: Sink,
-    ensures { RanLive command.limit (S.reading source.old) (S.reading source.new)
+    ensures { RanLive setup.limit (S.reading source.old) (S.reading source.new)
         (K.writing sink.old) (K.writing sink.new) result }
 {
-    let Command { limit, ports } = command;
-    let system = SystemWorld::new(Linux::new(rt), alloc, allowed(ports, anywhere));
-    let mut world = PatientWorld::new(system, PATIENCE);
+    let Setup {
+        limit,
+        allowed,
+        hosts,
+        patience,
+    } = setup;
+    let system = SystemWorld::new(Linux::new(rt), alloc, allowed, hosts);
+    let mut world = PatientWorld::new(system, patience);
     let mut contexts = contexts(alloc)?;
     run_script(alloc, &mut world, &mut contexts, limit, source, sink)
 }

@@ -1,9 +1,8 @@
 //! A script that connects to itself over a loopback address, recorded, and replayed with no network.
 
-use crate::scripts::{all_ports, contexts, gives};
+use crate::scripts::{contexts, gives, loopback};
 use std::alloc::Global;
 use std::test::Fail;
-use wasi_net::{Allowed, Linux, PatientWorld, SystemWorld};
 use wasi_recorder::{ReplayEnd, replay};
 use wasi_replay::{RecordingWorld, log_text, parse_log};
 use wasi_run::RunEnd;
@@ -21,8 +20,7 @@ const REPLIES: &[u8] =
 /// text of the run's log.
 fn record(rt: &HostRuntime) -> Result<Octets, Fail> {
     let alloc = rt.alloc();
-    let system = SystemWorld::new(Linux::new(rt), alloc, Allowed::loopback(all_ports(alloc)?));
-    let mut world = RecordingWorld::new(alloc, PatientWorld::new(system, 1000));
+    let mut world = RecordingWorld::new(alloc, loopback(rt, alloc));
     gives(alloc, &mut world, SCRIPT, REPLIES)?;
     let contexts = contexts(alloc)?;
     Ok(log_text(alloc, contexts.as_slice(), world.entries())?)

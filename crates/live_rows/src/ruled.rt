@@ -2,10 +2,9 @@
 
 ghost use Rattle.std.specs.Prelude.{◌≡◌, None};
 
-use crate::scripts::{all_ports, gives};
+use crate::scripts::{gives, loopback};
 use std::marker::Brand;
 use std::test::Fail;
-use wasi_net::{Allowed, Linux, PatientWorld, SystemWorld};
 use wasi_policy::{Policy, PolicyWorld, Rules};
 
 /// One port may be bound to, listened on and connected to, and what arrives is let in.
@@ -30,9 +29,7 @@ fn runs_under<P: Rules>(
     requires plan { P.plan ≡ None }
 {
     let alloc = rt.alloc();
-    let system = SystemWorld::new(Linux::new(rt), alloc, Allowed::loopback(all_ports(alloc)?));
-    let network = PatientWorld::new(system, 1000);
-    let mut world = PolicyWorld::<_, P>::new(alloc, policy, network);
+    let mut world = PolicyWorld::<_, P>::new(alloc, policy, loopback(rt, alloc));
     gives(alloc, &mut world, script, replies)
 }
 

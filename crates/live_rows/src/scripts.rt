@@ -3,10 +3,12 @@
 
 ghost use Rattle.std.specs.Prelude.{◌≡◌, [], ◌∷◌, IfOk, false};
 ghost use Rattle.wasi_world.specs.Contexts.{free_context};
+ghost use Rattle.wasi_net.specs.Net.{counts_of, patient_seen};
 
 use std::alloc::{AllocError, Global};
+use std::net::Net;
 use std::test::Fail;
-use wasi_net::{Allowed, Linux, PatientWorld, SystemWorld};
+use wasi_net::{Allowed, Hosts, Linux, Patience, PatientWorld, SystemWorld};
 use wasi_run::{RunEnd, run_script};
 use wasi_world::{WasiSocketsCtx, World};
 use world_io::{MemorySink, MemorySource};
@@ -36,13 +38,25 @@ const DATAGRAMS: (&[u8], &[u8]) = (
     b"ok 1\nok 2\nok 3\nok\nok\nok\nok\nok 4 5\nok 6 7\nok 16\nok 1\nok 8\nok true\nok 1 4 127 77 31 5 20126 6869\nok 16\nok 1\nok 9\nok true\nok 1 4 127 77 31 5 20127 6a\n",
 );
 
-/// Every port.
-pub fn all_ports(alloc: Global) -> Result<Vec<u16>, AllocError> {
-    let mut ports = Vec::new(alloc);
-    for port in 0..=u16::MAX {
-        ports.push(port)?;
-    }
-    Ok(ports)
+/// Looks up a name of the hosts file, and one that isn't in it.
+const NAMED: (&[u8], &[u8]) = (
+    b"0 network\n0 resolve 1 Here\n0 resolve-next 2\n0 resolve-next 2\n0 resolve 1 there\n",
+    b"ok 1\nok 2\nok 4 127 77 31 5\nok none\nerr name-unresolvable\n",
+);
+
+/// A network over this machine's own addresses, of which every port may be used, with these names.
+fn named<R: Net>(rt: &R, alloc: Global, hosts: Hosts) -> PatientWorld<Linux>
+    ensures { patient_seen result ≡ counts_of false 0 0 }
+{
+    let system = SystemWorld::new(Linux::new(rt), alloc, Allowed::every_loopback(), hosts);
+    PatientWorld::new(system, Patience::AtMost(1000))
+}
+
+/// The same without names.
+pub fn loopback<R: Net>(rt: &R, alloc: Global) -> PatientWorld<Linux>
+    ensures { patient_seen result ≡ counts_of false 0 0 }
+{
+    named(rt, alloc, Hosts::none(alloc))
 }
 
 /// The one context, which may use all.
@@ -81,8 +95,7 @@ pub fn gives<W: World>(
 /// end.
 fn runs(rt: HostRuntime, script: &[u8], replies: &[u8]) -> Result<(), Fail> {
     let alloc = rt.alloc();
-    let allowed = Allowed::loopback(all_ports(alloc)?);
-    let mut world = PatientWorld::new(SystemWorld::new(Linux::new(&rt), alloc, allowed), 1000);
+    let mut world = loopback(&rt, alloc);
     gives(alloc, &mut world, script, replies)
 }
 
@@ -104,4 +117,11 @@ fn a_port_in_use_and_one_where_none_listens_are_told(rt: HostRuntime) -> Result<
 #[test]
 fn datagrams_go_each_way(rt: HostRuntime) -> Result<(), Fail> {
     runs(rt, DATAGRAMS.0, DATAGRAMS.1)
+}
+
+#[test]
+fn a_name_of_the_hosts_file_is_found(rt: HostRuntime) -> Result<(), Fail> {
+    let alloc = rt.alloc();
+    let hosts = Hosts::parse(alloc, "127.77.31.5 away HERE # a comment\n")?;
+    gives(alloc, &mut named(&rt, alloc, hosts), NAMED.0, NAMED.1)
 }

@@ -8,7 +8,7 @@ use std::alloc::{AllocError, Global};
 use std::net::Net;
 use std::test::Fail;
 use wasi_addr::{IpSocketAddress, Ipv4SocketAddress, SocketAddrUse, SocketAddressFamily};
-use wasi_net::{Allowed, Linux, SystemWorld};
+use wasi_net::{Allowed, Hosts, Linux, SystemWorld};
 use wasi_world::{Call, OpId, Sock, Told, World};
 use world_text::fields::push_octets;
 
@@ -67,9 +67,10 @@ fn told_text(alloc: Global, told: &Told) -> Result<String, AllocError> {
 impl Guest {
     /// Over a network where these ports are allowed.
     pub fn new<R: Net + Drop>(rt: R, alloc: Global, ports: Vec<u16>) -> Guest {
+        let (allowed, hosts) = (Allowed::loopback(ports), Hosts::none(alloc));
         Guest {
             alloc,
-            world: SystemWorld::new(Linux::new(&rt), alloc, Allowed::loopback(ports)),
+            world: SystemWorld::new(Linux::new(&rt), alloc, allowed, hosts),
         }
     }
 

@@ -14,6 +14,8 @@ mod listeners;
 #[cfg(test)]
 mod many;
 #[cfg(test)]
+mod names;
+#[cfg(test)]
 mod refusals;
 #[cfg(test)]
 mod same;

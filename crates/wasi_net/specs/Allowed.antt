@@ -1,5 +1,5 @@
--- Which addresses may be used, by the ports that are allowed.
-use Rattle.std.specs.Prelude.{ℕ, ◌==◌, Bool, ◌&&◌, ◌||◌, if◌then◌else◌, List}
+-- Which addresses may be used, by their ports.
+use Rattle.std.specs.Prelude.{ℕ, ◌==◌, Bool, true, ◌&&◌, ◌||◌, if◌then◌else◌, List, Option, Some, None, option_map}
 use Rattle.std.specs.List.{list_any}
 use Rattle.wasi_addr.specs.declared.address.IpAddress.{IpAddress}
 use Rattle.wasi_addr.specs.declared.address.IpAddress.TheVariants as ip
@@ -22,17 +22,22 @@ is_loopback (ip.Ipv6 (a, b, c, d, e, f, g, h)) =
 abbrev pub is_any : IpSocketAddress → Bool
 is_any addr = is_wildcard Ipv4 addr || is_wildcard Ipv6 addr
 
--- the address's port is among the ports
-abbrev pub has_port : List ℕ → IpSocketAddress → Bool
-has_port ports addr = list_any (λ port. port == port_of addr) ports
+-- the port is among the ports, or every port is
+abbrev pub has : Option (List ℕ) → ℕ → Bool
+has (Some ports) port = list_any (λ it. it == port) ports
+has None port = true
 
--- which ports may be used, and whether on every address or on this machine's own alone
+-- the address's port is
+abbrev pub has_port : Option (List ℕ) → IpSocketAddress → Bool
+has_port ports addr = has ports (port_of addr)
+
+-- which ports may be used, or every port, and whether on every address or on this machine's own alone
 pub record Policy : Type 0 where
-  pub ports : List ℕ
+  pub ports : Option (List ℕ)
   pub anywhere : Bool
 
 abbrev pub policy_of : Allowed → Policy
-policy_of allowed = record { ports = allowed.ports.items; anywhere = allowed.anywhere }
+policy_of allowed = record { ports = option_map (λ ports. ports.items) allowed.ports; anywhere = allowed.anywhere }
 
 -- an address that may be used with the ports
 abbrev pub is_near : Policy → IpSocketAddress → Bool
@@ -43,7 +48,7 @@ is_own policy addr = is_near policy addr && has_port policy.ports addr
 
 -- port 0 is allowed, which stands for any port that is free
 abbrev pub has_free : Policy → Bool
-has_free policy = list_any (λ port. port == 0) policy.ports
+has_free policy = has policy.ports 0
 
 -- whether the address may be put to this use; the port of what arrives isn't looked at
 abbrev pub allows : Policy → IpSocketAddress → SocketAddrUse → Bool

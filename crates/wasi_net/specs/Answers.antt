@@ -1,14 +1,15 @@
 -- What each call answers, which calls of the system it makes, and what it leaves of the sockets.
-use Rattle.std.specs.Prelude.{◌≡◌, ℤ, Option, Some, None, Result, Ok, Err}
+use Rattle.std.specs.Prelude.{◌≡◌, ℤ, List, Option, Some, None, Result, Ok, Err}
 use Rattle.wasi_addr.specs.declared.address.SocketAddressFamily.{SocketAddressFamily}
 use Rattle.wasi_addr.specs.declared.address.SocketAddressFamily.TheVariants as family
-use Rattle.wasi_addr.specs.declared.code.ErrorCode.TheVariants.{AccessDenied, InvalidState, NotSupported}
+use Rattle.wasi_addr.specs.declared.code.ErrorCode.TheVariants.{InvalidState, NotSupported}
 use Rattle.wasi_world.specs.declared.ids.OpId.{OpId}
 use Rattle.wasi_world.specs.declared.call.Call.{Call}
 use Rattle.wasi_world.specs.declared.call.Call.TheVariants as call
 use Rattle.wasi_world.specs.declared.call.Told.{Told}
 use Rattle.wasi_world.specs.declared.call.Told.TheVariants as told
 use Rattle.wasi_net.specs.declared.errno.Errno.{Errno}
+use Rattle.wasi_net.specs.declared.hosts.Named.{Named}
 use Rattle.wasi_net.specs.declared.calls.Transport.{Transport}
 use Rattle.wasi_net.specs.declared.calls.Transport.TheVariants.{Tcp, Udp}
 use Rattle.wasi_net.specs.declared.calls.Readiness.TheVariants as readiness
@@ -21,6 +22,7 @@ use Rattle.wasi_net.specs.Acts as act
 use Rattle.wasi_net.specs.Storage.{domain_of, kind_of, disconnect, set_to}
 use Rattle.wasi_net.specs.Does.{Does, Refuses, AddressTold, BindDoes, UdpBindDoes, ListenDoes, BacklogDoes, ReadyDoes, ConnectDoes, ReadDoes, ShutdownDoes, SetDoes, GetDoes, UdpConnectDoes, UdpDisconnectDoes, ReceiveDoes}
 use Rattle.wasi_net.specs.Allowed.{Policy, verdict}
+use Rattle.wasi_net.specs.Hosts.{lookup_told}
 use Rattle.wasi_net.specs.Known.{Known, at_stage, Sides, Same, With}
 
 -- == one socket
@@ -166,13 +168,13 @@ abbrev pub CloseDoes : OpId → Sides → Told → Sides → Acts → Acts → T
 CloseDoes sock before t now old new = (t ≡ told.Done) × With before sock None now × (new ≡ old)
 
 -- == any call but a write and a send
-abbrev pub OnNetwork : Policy → Sides → OpId → Call → Told → Sides → Acts → Acts → Type 0
-OnNetwork policy before op (call.Check _ addr usage) t now old new = TellsOnly (verdict policy addr usage) before t now old new
-OnNetwork policy before op (call.Lookup _) t now old new = TellsOnly (told.Code AccessDenied) before t now old new
-OnNetwork policy before op (call.TcpCreate _ family) t now old new = CreateDoes Tcp family op before t now old new
-OnNetwork policy before op (call.UdpCreate _ family) t now old new = CreateDoes Udp family op before t now old new
-OnNetwork policy before op (call.Accept sock) t now old new = AcceptDoes op (before op) (before sock) before t now old new
-OnNetwork policy before op (call.Refuse _ _) t now old new = RefuseDoes op before t now old new
-OnNetwork policy before op (call.Close sock) t now old new = CloseDoes sock before t now old new
-OnNetwork policy before op (call.Made _ _ _ _) t now old new = TellsOnly told.Done before t now old new
-OnNetwork policy before op c t now old new = OnItsSide c (side_of op c) before t now old new
+abbrev pub OnNetwork : Policy → List Named → Sides → OpId → Call → Told → Sides → Acts → Acts → Type 0
+OnNetwork policy names before op (call.Check _ addr usage) t now old new = TellsOnly (verdict policy addr usage) before t now old new
+OnNetwork policy names before op (call.Lookup host) t now old new = TellsOnly (lookup_told names host) before t now old new
+OnNetwork policy names before op (call.TcpCreate _ family) t now old new = CreateDoes Tcp family op before t now old new
+OnNetwork policy names before op (call.UdpCreate _ family) t now old new = CreateDoes Udp family op before t now old new
+OnNetwork policy names before op (call.Accept sock) t now old new = AcceptDoes op (before op) (before sock) before t now old new
+OnNetwork policy names before op (call.Refuse _ _) t now old new = RefuseDoes op before t now old new
+OnNetwork policy names before op (call.Close sock) t now old new = CloseDoes sock before t now old new
+OnNetwork policy names before op (call.Made _ _ _ _) t now old new = TellsOnly told.Done before t now old new
+OnNetwork policy names before op c t now old new = OnItsSide c (side_of op c) before t now old new

@@ -5,5 +5,6 @@ pub mod Ready
 pub mod Known
 pub mod Does
 pub mod Allowed
+pub mod Hosts
 pub mod Answers
 pub mod Net

@@ -1,7 +1,8 @@
 -- What is known of a world of the system's sockets.
-use Rattle.std.specs.Prelude.{ℕ, Bool, None}
+use Rattle.std.specs.Prelude.{ℕ, Bool, List, None}
 use Rattle.wasi_world.specs.Seen.{Seen}
 use Rattle.wasi_net.specs.declared.system_world.SystemWorld.{SystemWorld}
+use Rattle.wasi_net.specs.declared.hosts.Named.{Named}
 use Rattle.wasi_net.specs.declared.patient.PatientWorld.{PatientWorld}
 use Rattle.wasi_net.specs.Allowed.{Policy, policy_of}
 use Rattle.wasi_net.specs.Known.{Sides, known_sides}
@@ -16,6 +17,10 @@ seen_by world = counts_of world.ended world.closings world.faults
 -- which addresses may be used
 abbrev pub policy_in : {S : Type 0} → SystemWorld S → Policy
 policy_in world = policy_of world.network.allowed
+
+-- the names that lookups find, with their addresses
+abbrev pub names_in : {S : Type 0} → SystemWorld S → List Named
+names_in world = world.network.hosts.entries.items
 
 -- the sockets that are open
 abbrev pub sides_of : {S : Type 0} → SystemWorld S → Sides

@@ -1,8 +1,8 @@
-//! The check: which addresses may be used, by a list of ports.
+//! The check: which addresses may be used, by their ports.
 
-ghost use Rattle.std.specs.Prelude.{◌≡◌, false, true};
+ghost use Rattle.std.specs.Prelude.{◌≡◌, false, true, Some, None};
 ghost use Rattle.wasi_world.specs.Fits.{IsVerdict};
-ghost use Rattle.wasi_net.specs.Allowed.{is_loopback, is_any, has_port, is_near, is_own, has_free};
+ghost use Rattle.wasi_net.specs.Allowed.{is_loopback, is_any, has, has_port, is_near, is_own, has_free};
 ghost use Rattle.wasi_net.specs.Allowed.{policy_of, allows, verdict};
 
 use wasi_addr::{
@@ -10,10 +10,11 @@ use wasi_addr::{
 };
 use wasi_world::Told;
 
-/// The ports that may be used, and whether with any address or with this machine's own alone.
+/// The ports that may be used, or every port, and whether with any address or with this machine's
+/// own alone.
 #[derive(Drop)]
 pub struct Allowed {
-    ports: Vec<u16>,
+    ports: Option<Vec<u16>>,
     anywhere: bool,
 }
 
@@ -39,35 +40,65 @@ fn is_any(addr: IpSocketAddress) -> bool
 impl Allowed {
     /// These ports on this machine's own addresses.
     pub fn loopback(ports: Vec<u16>) -> Allowed
-        ensures { policy_of result ≡ record { ports = ports.items; anywhere = false } }
+        ensures { policy_of result ≡ record { ports = Some ports.items; anywhere = false } }
     {
         Allowed {
-            ports,
+            ports: Some(ports),
             anywhere: false,
         }
     }
 
     /// These ports on every address.
     pub fn anywhere(ports: Vec<u16>) -> Allowed
-        ensures { policy_of result ≡ record { ports = ports.items; anywhere = true } }
+        ensures { policy_of result ≡ record { ports = Some ports.items; anywhere = true } }
     {
         Allowed {
-            ports,
+            ports: Some(ports),
             anywhere: true,
         }
     }
 
-    fn has_port(&self, addr: IpSocketAddress) -> bool
-        ensures { result ≡ has_port self.now.ports.items addr }
+    /// Every port on this machine's own addresses: a world round this one decides between them.
+    pub fn every_loopback() -> Allowed
+        ensures { policy_of result ≡ record { ports = None; anywhere = false } }
     {
-        self.ports.contains(&addr.port())
+        Allowed {
+            ports: None,
+            anywhere: false,
+        }
+    }
+
+    /// Every port on every address: a world round this one decides between them.
+    pub fn everything() -> Allowed
+        ensures { policy_of result ≡ record { ports = None; anywhere = true } }
+    {
+        Allowed {
+            ports: None,
+            anywhere: true,
+        }
+    }
+
+    /// Whether a port is allowed.
+    fn has(&self, port: u16) -> bool
+        ensures { result ≡ has (policy_of self.now).ports port }
+    {
+        match &self.ports {
+            Some(ports) => ports.contains(&port),
+            None => true,
+        }
+    }
+
+    fn has_port(&self, addr: IpSocketAddress) -> bool
+        ensures { result ≡ has_port (policy_of self.now).ports addr }
+    {
+        self.has(addr.port())
     }
 
     /// Whether port 0 is allowed, which stands for any that is free.
     fn has_free(&self) -> bool
         ensures { result ≡ has_free (policy_of self.now) }
     {
-        self.ports.contains(&0)
+        self.has(0)
     }
 
     fn is_near(&self, addr: IpSocketAddress) -> bool

@@ -12,6 +12,7 @@ mod answers;
 pub mod calls;
 pub mod descriptor;
 pub mod errno;
+pub mod hosts;
 pub mod linux;
 mod network;
 pub mod patient;
@@ -26,7 +27,8 @@ mod waiting;
 
 pub use allowed::Allowed;
 pub use errno::Errno;
+pub use hosts::Hosts;
 pub use linux::Linux;
-pub use patient::PatientWorld;
+pub use patient::{Patience, PatientWorld};
 pub use system::System;
 pub use system_world::SystemWorld;

@@ -10,6 +10,7 @@ use crate::calls;
 use crate::calls::{Readiness, Transport};
 use crate::descriptor::Descriptor;
 use crate::errno::told_failed;
+use crate::hosts::Hosts;
 use crate::setting::Setting;
 use crate::socket::{Socket, Stage};
 use crate::storage::decode;
@@ -29,6 +30,7 @@ pub struct Network<S> {
     pub(crate) system: S,
     alloc: Global,
     pub(crate) allowed: Allowed,
+    pub(crate) hosts: Hosts,
     pub(crate) sides: Sides,
     waiting: Waiting,
 }
@@ -92,8 +94,9 @@ impl<S> Network<S> {
     ghost use Rattle.wasi_world.specs.Fits.{IsArrival};
 
     /// A network with no socket yet.
-    pub fn new(system: S, alloc: Global, allowed: Allowed) -> Network<S>
+    pub fn new(system: S, alloc: Global, allowed: Allowed, hosts: Hosts) -> Network<S>
         ensures allowed { result.allowed ≡ allowed }
+        ensures hosts { result.hosts ≡ hosts }
         ensures sides { IsUnused (known_sides result.sides) }
         ensures system { result.system ≡ system }
     {
@@ -101,6 +104,7 @@ impl<S> Network<S> {
             system,
             alloc,
             allowed,
+            hosts,
             sides: BTreeMap::new(alloc),
             waiting: Waiting::new(alloc),
         }
@@ -110,15 +114,33 @@ impl<S> Network<S> {
     pub fn reserve(&mut self) -> Result<(), AllocError>
         ensures sides { self.new.sides ≡ self.old.sides }
         ensures allowed { self.new.allowed ≡ self.old.allowed }
+        ensures hosts { self.new.hosts ≡ self.old.hosts }
         ensures system { self.new.system ≡ self.old.system }
     {
         self.waiting.reserve()
+    }
+
+    /// Whether this readiness of a socket is waited for.
+    fn is_awaited(&self, sock: Sock, readiness: Readiness) -> bool {
+        match self.sides.get(&sock) {
+            Some(socket) => self.waiting.has(socket.descriptor.number(), readiness),
+            None => false,
+        }
+    }
+
+    /// Whether what this call waits for is waited for: its last answer was pending.
+    pub fn awaits(&self, call: &Call) -> bool {
+        match awaited(call) {
+            Some((sock, readiness)) => self.is_awaited(sock, readiness),
+            None => false,
+        }
     }
 
     /// Keeps what a call waits for, where its answer is pending, and drops that where it isn't.
     pub fn note(&mut self, sock: Sock, readiness: Readiness, told: &Told)
         ensures sides { self.new.sides ≡ self.old.sides }
         ensures allowed { self.new.allowed ≡ self.old.allowed }
+        ensures hosts { self.new.hosts ≡ self.old.hosts }
         ensures system { self.new.system ≡ self.old.system }
     {
         let Some(socket) = self.sides.get(&sock) else {
@@ -135,6 +157,7 @@ impl<S> Network<S> {
     pub fn note_call(&mut self, call: &Call, told: &Told)
         ensures sides { self.new.sides ≡ self.old.sides }
         ensures allowed { self.new.allowed ≡ self.old.allowed }
+        ensures hosts { self.new.hosts ≡ self.old.hosts }
         ensures system { self.new.system ≡ self.old.system }
     {
         if let Some((sock, readiness)) = awaited(call) {
@@ -146,6 +169,7 @@ impl<S> Network<S> {
     pub fn close(&mut self, sock: Sock)
         ensures gone { With (known_sides self.old.sides) sock None (known_sides self.new.sides) }
         ensures allowed { self.new.allowed ≡ self.old.allowed }
+        ensures hosts { self.new.hosts ≡ self.old.hosts }
         ensures system { self.new.system ≡ self.old.system }
     {
         if let Some(socket) = self.sides.remove(&sock) {
@@ -165,6 +189,7 @@ impl<S> Network<S> {
         ensures err { OnErr result (Same (known_sides self.old.sides)
             (known_sides self.new.sides)) }
         ensures allowed { self.new.allowed ≡ self.old.allowed }
+        ensures hosts { self.new.hosts ≡ self.old.hosts }
         ensures system { self.new.system ≡ self.old.system }
     {
         self.sides
@@ -187,6 +212,7 @@ impl<S> Network<S> {
         ensures err { OnErr result (Same (known_sides self.old.sides)
             (known_sides self.new.sides)) }
         ensures allowed { self.new.allowed ≡ self.old.allowed }
+        ensures hosts { self.new.hosts ≡ self.old.hosts }
         ensures system { self.new.system ≡ self.old.system }
     {
         let Some(peer) = decode(raw, len) else {
@@ -222,6 +248,7 @@ impl<S: System> Network<S> {
         ensures err { OnErr result (Same (known_sides self.old.sides)
             (known_sides self.new.sides)) }
         ensures allowed { self.new.allowed ≡ self.old.allowed }
+        ensures hosts { self.new.hosts ≡ self.old.hosts }
     {
         match family {
             SocketAddressFamily::Ipv4 => self.open(op, family, descriptor),
@@ -248,6 +275,7 @@ impl<S: System> Network<S> {
         ensures err { OnErr result (Same (known_sides self.old.sides)
             (known_sides self.new.sides)) }
         ensures allowed { self.new.allowed ≡ self.old.allowed }
+        ensures hosts { self.new.hosts ≡ self.old.hosts }
     {
         match calls::socket(&mut self.system, family, transport) {
             Ok(descriptor) => self.made(op, family, descriptor),
@@ -268,6 +296,7 @@ impl<S: System> Network<S> {
         ensures err { OnErr result (Same (known_sides self.old.sides)
             (known_sides self.new.sides)) }
         ensures allowed { self.new.allowed ≡ self.old.allowed }
+        ensures hosts { self.new.hosts ≡ self.old.hosts }
     {
         let mut raw = [0u8; 128];
         let mut len = 128;
@@ -287,6 +316,7 @@ impl<S: System> Network<S> {
         ensures err { OnErr result (Same (known_sides self.old.sides)
             (known_sides self.new.sides)) }
         ensures allowed { self.new.allowed ≡ self.old.allowed }
+        ensures hosts { self.new.hosts ≡ self.old.hosts }
     {
         match self.sides.get(&op) {
             None => {}
@@ -305,6 +335,7 @@ impl<S: System> Network<S> {
             (S.acts self.new.system) }
         ensures sides { self.new.sides ≡ self.old.sides }
         ensures allowed { self.new.allowed ≡ self.old.allowed }
+        ensures hosts { self.new.hosts ≡ self.old.hosts }
     {
         if let Some(socket) = self.sides.get(&op) {
             let _ = calls::disconnect(&mut self.system, &socket.descriptor);
@@ -316,6 +347,7 @@ impl<S: System> Network<S> {
         ensures does { RefuseDoes op (known_sides self.old.sides) result
             (known_sides self.new.sides) (S.acts self.old.system) (S.acts self.new.system) }
         ensures allowed { self.new.allowed ≡ self.old.allowed }
+        ensures hosts { self.new.hosts ≡ self.old.hosts }
     {
         self.reset(op);
         self.close(op);
@@ -333,6 +365,7 @@ impl<S: System> Network<S> {
         ensures err { OnErr result (Same (known_sides self.old.sides)
             (known_sides self.new.sides)) }
         ensures allowed { self.new.allowed ≡ self.old.allowed }
+        ensures hosts { self.new.hosts ≡ self.old.hosts }
     {
         match self.sides.get_mut(&sock) {
             Some(socket) => socket.write(&mut self.system, self.alloc, bytes),
@@ -348,6 +381,7 @@ impl<S: System> Network<S> {
             (known_sides self.old.sides) result (known_sides self.new.sides)
             (S.acts self.old.system) (S.acts self.new.system) }
         ensures allowed { self.new.allowed ≡ self.old.allowed }
+        ensures hosts { self.new.hosts ≡ self.old.hosts }
     {
         match self.sides.get_mut(&sock) {
             Some(socket) => socket.send(&mut self.system, addr, bytes),
@@ -364,6 +398,7 @@ impl<S: System> Network<S> {
         ensures err { OnErr result (Same (known_sides self.old.sides)
             (known_sides self.new.sides)) }
         ensures allowed { self.new.allowed ≡ self.old.allowed }
+        ensures hosts { self.new.hosts ≡ self.old.hosts }
     {
         match self.sides.get_mut(&sock) {
             Some(socket) => socket.answer(&mut self.system, self.alloc, call),
@@ -375,15 +410,16 @@ impl<S: System> Network<S> {
     pub fn answer(&mut self, op: OpId, call: &Call) -> Result<Told, AllocError>
         ensures fits { IfOk result (Fits call.now) }
         ensures does { IfOk result (λ told. OnNetwork (policy_of self.old.allowed)
-            (known_sides self.old.sides) op call.now told (known_sides self.new.sides)
-            (S.acts self.old.system) (S.acts self.new.system)) }
+            self.old.hosts.entries.items (known_sides self.old.sides) op call.now told
+            (known_sides self.new.sides) (S.acts self.old.system) (S.acts self.new.system)) }
         ensures err { OnErr result (Same (known_sides self.old.sides)
             (known_sides self.new.sides)) }
         ensures allowed { self.new.allowed ≡ self.old.allowed }
+        ensures hosts { self.new.hosts ≡ self.old.hosts }
     {
         match call {
             Call::Check { addr, usage, .. } => Ok(self.allowed.check(*addr, *usage)),
-            Call::Lookup { .. } => Ok(Told::Code(ErrorCode::AccessDenied)),
+            Call::Lookup { host } => self.hosts.lookup(self.alloc, host),
             Call::TcpCreate { family, .. } => self.create(op, *family, Transport::Tcp),
             Call::UdpCreate { family, .. } => self.create(op, *family, Transport::Udp),
             Call::Accept { sock } => self.accept(op, *sock),
@@ -405,6 +441,7 @@ impl<S: System> Network<S> {
     pub fn wait(&mut self, timeout: i32) -> bool
         ensures sides { self.new.sides ≡ self.old.sides }
         ensures allowed { self.new.allowed ≡ self.old.allowed }
+        ensures hosts { self.new.hosts ≡ self.old.hosts }
     {
         self.waiting.wait(&mut self.system, timeout)
     }

@@ -8,28 +8,41 @@ use std::alloc::AllocError;
 use wasi_addr::IpSocketAddress;
 use wasi_world::{Call, OpId, Sock, Told, World};
 
-/// A [`SystemWorld`] in which a look for an arrival, for bytes, for a datagram or for the end of a
-/// connect waits once where it is pending, for at most so many milliseconds, and is made again.
-/// Reads, writes and sends don't wait.
+/// How looks wait.
+#[derive(Clone, Copy, Debug, PartialEq, Eq)]
+pub enum Patience {
+    /// One that is pending waits once, for at most so many milliseconds, and is made again.
+    AtMost(i32),
+    /// One that was pending before waits first, without limit, until one of those that were pending
+    /// may go on. The first time it doesn't wait.
+    Endless,
+}
+
+/// A [`SystemWorld`] in which a look for an arrival, for bytes, for room, for a datagram or for the
+/// end of a connect waits. Reads, writes and sends don't.
 #[derive(Drop)]
 pub struct PatientWorld<S> {
     world: SystemWorld<S>,
-    patience: i32,
+    patience: Patience,
 }
 
 /// Whether a call is a look, which waits where it is pending.
 fn is_look(call: &Call) -> bool {
     matches!(
         call,
-        Call::Accept { .. } | Call::ReadReady { .. } | Call::Recv { .. } | Call::Connect { .. }
+        Call::Accept { .. }
+            | Call::ReadReady { .. }
+            | Call::WriteReady { .. }
+            | Call::Recv { .. }
+            | Call::Connect { .. }
     )
 }
 
 impl<S> PatientWorld<S> {
     ghost use Rattle.wasi_net.specs.Net.{seen_by, patient_seen};
 
-    /// This world, with looks that wait so many milliseconds.
-    pub fn new(world: SystemWorld<S>, patience: i32) -> PatientWorld<S>
+    /// This world, with looks that wait so.
+    pub fn new(world: SystemWorld<S>, patience: Patience) -> PatientWorld<S>
         ensures { patient_seen result ≡ seen_by world }
     {
         PatientWorld { world, patience }
@@ -40,17 +53,42 @@ impl<S: System> PatientWorld<S> {
     ghost use Rattle.wasi_world.specs.Fits.{Fits};
     ghost use Rattle.wasi_net.specs.Net.{patient_seen};
 
-    /// Asks, and once more after a wait where a look is pending.
-    fn ask(&mut self, op: OpId, call: &Call) -> Result<Told, AllocError>
+    /// Asks, and once more after a wait of so many milliseconds where the answer is pending.
+    fn ask_twice(&mut self, time: i32, op: OpId, call: &Call) -> Result<Told, AllocError>
         ensures fits { IfOk result (Fits call.now) }
         ensures seen { patient_seen self.new ≡ patient_seen self.old }
     {
         let told = self.world.ask(op, call)?;
-        if !matches!(told, Told::Pending) || !is_look(call) {
+        if !matches!(told, Told::Pending) {
             return Ok(told);
         }
-        self.world.wait(self.patience);
+        self.world.wait(time);
         self.world.ask(op, call)
+    }
+
+    /// Asks, after a wait where the last answer was pending.
+    fn ask_after_wait(&mut self, op: OpId, call: &Call) -> Result<Told, AllocError>
+        ensures fits { IfOk result (Fits call.now) }
+        ensures seen { patient_seen self.new ≡ patient_seen self.old }
+    {
+        if self.world.awaits(call) {
+            self.world.wait(-1);
+        }
+        self.world.ask(op, call)
+    }
+
+    /// Asks, and waits for a look.
+    fn ask(&mut self, op: OpId, call: &Call) -> Result<Told, AllocError>
+        ensures fits { IfOk result (Fits call.now) }
+        ensures seen { patient_seen self.new ≡ patient_seen self.old }
+    {
+        if !is_look(call) {
+            return self.world.ask(op, call);
+        }
+        match self.patience {
+            Patience::AtMost(time) => self.ask_twice(time, op, call),
+            Patience::Endless => self.ask_after_wait(op, call),
+        }
     }
 }
 

@@ -5,6 +5,7 @@ ghost use Rattle.wasi_world.specs.Seen.{Counts};
 
 use crate::allowed::Allowed;
 use crate::calls::Readiness;
+use crate::hosts::Hosts;
 use crate::network::Network;
 use crate::system::System;
 use std::alloc::{AllocError, Global};
@@ -18,8 +19,8 @@ use wasi_world::{Call, OpId, Sock, Told, World};
 /// socket that an earlier answer left pending may go on.
 ///
 /// A check goes by the ports that are allowed, and says yes to this machine's own addresses alone,
-/// unless every address is allowed. Lookups are refused. The hop limit of an IPv6 socket is
-/// `NotSupported`.
+/// unless every address is allowed. A lookup finds the names that it was given, and asks nobody. The
+/// hop limit of an IPv6 socket is `NotSupported`.
 #[derive(Drop)]
 pub struct SystemWorld<S> {
     network: Network<S>,
@@ -41,17 +42,19 @@ fn count_after(faults: u64, told: &Told) -> u64
 impl<S> SystemWorld<S> {
     ghost use Rattle.wasi_net.specs.Allowed.{policy_of};
     ghost use Rattle.wasi_net.specs.Known.{IsUnused};
-    ghost use Rattle.wasi_net.specs.Net.{counts_of, seen_by, policy_in, sides_of, system_of};
+    ghost use Rattle.wasi_net.specs.Net.{counts_of, seen_by, policy_in, names_in, sides_of, system_of};
 
-    /// A network over this system, where these addresses may be used. It opens nothing.
-    pub fn new(system: S, alloc: Global, allowed: Allowed) -> SystemWorld<S>
+    /// A network over this system, where these addresses may be used and these names are found. It
+    /// opens nothing.
+    pub fn new(system: S, alloc: Global, allowed: Allowed, hosts: Hosts) -> SystemWorld<S>
         ensures seen { seen_by result ≡ counts_of false 0 0 }
         ensures policy { policy_in result ≡ policy_of allowed }
+        ensures names { names_in result ≡ hosts.entries.items }
         ensures sides { IsUnused (sides_of result) }
         ensures system { system_of result ≡ system }
     {
         SystemWorld {
-            network: Network::new(system, alloc, allowed),
+            network: Network::new(system, alloc, allowed, hosts),
             ended: false,
             closings: 0,
             faults: 0,
@@ -95,7 +98,7 @@ impl<S: System> SystemWorld<S> {
     ghost use Rattle.wasi_world.specs.Fits.{Fits};
     ghost use Rattle.wasi_net.specs.Known.{Same};
     ghost use Rattle.wasi_net.specs.Answers.{OnNetwork};
-    ghost use Rattle.wasi_net.specs.Net.{seen_by, policy_in, sides_of, system_of};
+    ghost use Rattle.wasi_net.specs.Net.{seen_by, policy_in, names_in, sides_of, system_of};
 
     /// Waits until a socket that an earlier answer left pending may go on, for at most so many
     /// milliseconds, or without limit where they are negative; and whether one may. No processor
@@ -104,9 +107,16 @@ impl<S: System> SystemWorld<S> {
     pub fn wait(&mut self, timeout: i32) -> bool
         ensures seen { seen_by self.new ≡ seen_by self.old }
         ensures policy { policy_in self.new ≡ policy_in self.old }
+        ensures names { names_in self.new ≡ names_in self.old }
         ensures sides { sides_of self.new ≡ sides_of self.old }
     {
         self.network.wait(timeout)
+    }
+
+    /// Whether the last answer to this call was pending, and no wait since has found that it may go
+    /// on.
+    pub fn awaits(&self, call: &Call) -> bool {
+        self.network.awaits(call)
     }
 
     /// The answer to any call but a write and a send, which isn't counted yet; and what it waits
@@ -114,11 +124,12 @@ impl<S: System> SystemWorld<S> {
     pub(crate) fn ask(&mut self, op: OpId, call: &Call) -> Result<Told, AllocError>
         ensures fits { IfOk result (Fits call.now) }
         ensures seen { seen_by self.new ≡ seen_by self.old }
-        ensures told { IfOk result (λ told. OnNetwork (policy_in self.old) (sides_of self.old) op
-            call.now told (sides_of self.new) (S.acts (system_of self.old))
+        ensures told { IfOk result (λ told. OnNetwork (policy_in self.old) (names_in self.old)
+            (sides_of self.old) op call.now told (sides_of self.new) (S.acts (system_of self.old))
             (S.acts (system_of self.new))) }
         ensures sides { OnErr result (Same (sides_of self.old) (sides_of self.new)) }
         ensures policy { policy_in self.new ≡ policy_in self.old }
+        ensures names { names_in self.new ≡ names_in self.old }
     {
         self.network.reserve()?;
         let told = self.network.answer(op, call)?;
@@ -136,7 +147,7 @@ impl<S: System> World for SystemWorld<S> {
     ghost use Rattle.wasi_net.specs.Does.{WriteDoes, SendDoes};
     ghost use Rattle.wasi_net.specs.Known.{Same, With};
     ghost use Rattle.wasi_net.specs.Answers.{OnNetwork, AnswersAt, Stays};
-    ghost use Rattle.wasi_net.specs.Net.{seen_by, policy_in, sides_of, system_of};
+    ghost use Rattle.wasi_net.specs.Net.{seen_by, policy_in, names_in, sides_of, system_of};
 
     ghost seen = { seen_by };
 
@@ -155,11 +166,12 @@ impl<S: System> World for SystemWorld<S> {
 
         // Which answer it is, which calls of the system are made for it, and what is left of the
         // sockets.
-        ensures told { IfOk result (λ told. OnNetwork (policy_in self.old) (sides_of self.old) op
-            call told (sides_of self.new) (S.acts (system_of self.old))
+        ensures told { IfOk result (λ told. OnNetwork (policy_in self.old) (names_in self.old)
+            (sides_of self.old) op call told (sides_of self.new) (S.acts (system_of self.old))
             (S.acts (system_of self.new))) }
         ensures sides { OnErr result (Same (sides_of self.old) (sides_of self.new)) }
         ensures policy { policy_in self.new ≡ policy_in self.old }
+        ensures names { names_in self.new ≡ names_in self.old }
     {
         let told = self.ask(op, &call)?;
         self.count(&told);
@@ -182,6 +194,7 @@ impl<S: System> World for SystemWorld<S> {
             told (sides_of self.new) (S.acts (system_of self.old)) (S.acts (system_of self.new))) }
         ensures sides { OnErr result (Same (sides_of self.old) (sides_of self.new)) }
         ensures policy { policy_in self.new ≡ policy_in self.old }
+        ensures names { names_in self.new ≡ names_in self.old }
     {
         let _ = op;
         self.network.reserve()?;
@@ -210,6 +223,7 @@ impl<S: System> World for SystemWorld<S> {
             told (sides_of self.new) (S.acts (system_of self.old)) (S.acts (system_of self.new))) }
         ensures sides { OnErr result (Same (sides_of self.old) (sides_of self.new)) }
         ensures policy { policy_in self.new ≡ policy_in self.old }
+        ensures names { names_in self.new ≡ names_in self.old }
     {
         let _ = op;
         self.network.reserve()?;
@@ -229,6 +243,7 @@ impl<S: System> World for SystemWorld<S> {
         ensures named { Named None sock None }
         ensures sides { With (sides_of self.old) sock None (sides_of self.new) }
         ensures policy { policy_in self.new ≡ policy_in self.old }
+        ensures names { names_in self.new ≡ names_in self.old }
     {
         self.network.close(sock);
         self.closings = self.closings.saturating_add(1);

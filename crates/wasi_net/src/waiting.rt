@@ -39,6 +39,14 @@ impl Waiting {
         self.asked.retain(|it| it.fd != fd || it.events != events);
     }
 
+    /// Whether this readiness of a socket is waited for.
+    pub fn has(&self, fd: i32, readiness: Readiness) -> bool {
+        let events = events_of(readiness);
+        self.asked
+            .iter()
+            .any(|it| it.fd == fd && it.events == events)
+    }
+
     /// Waits for this readiness of a socket; there is memory for it.
     pub fn add(&mut self, fd: i32, readiness: Readiness) {
         self.clear(fd, readiness);

@@ -17,7 +17,7 @@ returns g c =
     let seen = seen_of after.log.items (patient_seen after.inner).ended (patient_seen after.inner).closings after.faults in
     let fresh : seen_of before.log.items (patient_seen before.inner).ended (patient_seen before.inner).closings before.faults ≡ seen_of [] false 0 0 = c.new-world.ensures ∙ ap (λ s. seen_of [] s.ended s.closings 0) (c.new-network.ensures ∙ c.new-system.ensures.seen) in
     let are : c.as_slice.result.now ≡ free_context ∷ [] = c.as_slice.ensures.value ∙ c.run_script-outcome.ensures.contexts ∙ c.in-Ok.ensures in
-    let R : List WasiSocketsCtx → Seen → Type 0 = λ contexts old. RunsLicensed contexts c.args.command.limit (g.S.Source.reading c.args.source.now) (g.S.Source.reading c.run_script-outcome.new.reader) (g.K.Sink.writing c.args.sink.now) (g.K.Sink.writing c.run_script-outcome.new.writer) old seen c.run_script-outcome.result in
+    let R : List WasiSocketsCtx → Seen → Type 0 = λ contexts old. RunsLicensed contexts c.args.setup.limit (g.S.Source.reading c.args.source.now) (g.S.Source.reading c.run_script-outcome.new.reader) (g.K.Sink.writing c.args.sink.now) (g.K.Sink.writing c.run_script-outcome.new.writer) old seen c.run_script-outcome.result in
     let W : List WasiSocketsCtx → Type 0 = λ contexts. WritesLog (log_text contexts c.entries.result.now) (g.M.Sink.writing c.args.log_out.now) (g.M.Sink.writing c.keep_log-written.new.log_out) c.keep_log-written.result in
     inr (record {
       log = c.entries.result.now;
