@@ -220,12 +220,107 @@ def datagrams_each_way():
     return same("a datagram each way", (seen, replies[-2:]), ([(b"hi", own)], wanted))
 
 
+def a_peer_that_closes_half():
+    seen = []
+    with socket.create_server(("127.0.0.1", 0)) as server:
+        port = server.getsockname()[1]
+
+        def serve():
+            one, _ = server.accept()
+            one.sendall(b"bye")
+            one.shutdown(socket.SHUT_WR)
+            while data := one.recv(9):
+                seen.append(data)
+            one.close()
+
+        peer = beside(serve)
+        replies = live(
+            [
+                "0 network",
+                "0 tcp-create 4",
+                f"0 tcp-start-connect 2 1 4 127 0 0 1 {port}",
+                "0 tcp-finish-connect 2",
+                "0 subscribe 3",
+                "0 ready 5",
+                "0 read 3 9",
+                "0 ready 5",
+                "0 read 3 9",
+                "0 check-write 4",
+                "0 write 4 6869",
+                "0 tcp-shutdown 2 send",
+            ],
+            port,
+        )
+        peer.join(PATIENCE)
+    return same("a peer that closes half", (b"".join(seen), replies[6], replies[8]), (b"hi", "ok 627965", "closed"))
+
+
+def sent(sender, data, own):
+    """Sends a datagram to the port of `live`."""
+    sender.sendto(data, ("127.0.0.1", own))
+
+
+def datagrams_from_elsewhere():
+    """Each of two runs gets a datagram from one socket and then one from another: the first run's rules deny the first
+    sender, the second run's socket has the second for its remote address."""
+    own = free_port(socket.SOCK_DGRAM)
+    with socket.socket(socket.AF_INET, socket.SOCK_DGRAM) as first, socket.socket(socket.AF_INET, socket.SOCK_DGRAM) as second:
+        first.bind(("127.0.0.1", 0))
+        second.bind(("127.0.0.1", 0))
+        there = second.getsockname()[1]
+        rules = f"allow udp-bind 4 127 0 0 1 32 {own} {own}\nallow udp-receive 4 127 0 0 1 32 {there} {there}\n"
+        begin = ["0 network", "0 udp-create 4", f"0 udp-start-bind 2 1 4 127 0 0 1 {own}", "0 udp-finish-bind 2"]
+        end = ["0 subscribe 3", "0 ready 5", "0 udp-receive 3 9", "0 udp-receive 3 9"]
+        with tempfile.NamedTemporaryFile("w", suffix=".txt") as file:
+            file.write(rules)
+            file.flush()
+            runs = [
+                (["--policy", file.name, "100000"], "0 udp-stream 2"),
+                (["100000", str(own), str(there)], f"0 udp-stream 2 4 127 0 0 1 {there}"),
+            ]
+            got = []
+            for words, stream in runs:
+                program = subprocess.Popen([*LIVE, *words], stdin=subprocess.PIPE, stdout=subprocess.PIPE, text=True)
+                program.stdin.write("".join(line + "\n" for line in [*begin, stream]))
+                program.stdin.flush()
+                for _ in range(5):
+                    program.stdout.readline()
+                sent(first, b"first", own)
+                sent(second, b"second", own)
+                replies, _ = program.communicate("".join(line + "\n" for line in end))
+                got.append(replies.splitlines()[-2:])
+    wanted = [f"ok 1 4 127 0 0 1 {there} {b'second'.hex()}", "ok 0"]
+    return same("datagrams from elsewhere", got, [wanted, wanted])
+
+
+def no_descriptor_is_left():
+    """Counts the descriptors of `live` before and after 10,000 creates and drops of each kind of socket."""
+    counts = []
+    for create in ["tcp-create 4", "tcp-create 6", "udp-create 4", "udp-create 6"]:
+        words = [*LIVE, "10000000"]
+        with subprocess.Popen(words, stdin=subprocess.PIPE, stdout=subprocess.PIPE, text=True) as program:
+            folder = f"/proc/{program.pid}/fd"
+            program.stdin.write("0 network\n")
+            program.stdin.flush()
+            program.stdout.readline()
+            before = len(os.listdir(folder))
+            lines = [f"0 {create}\n0 drop {handle}\n" for handle in range(2, 10002)]
+            writer = beside(lambda: (program.stdin.write("".join(lines)), program.stdin.flush()))
+            replies = [program.stdout.readline() for _ in range(20000)]
+            writer.join()
+            counts.append((replies[-2], len(os.listdir(folder)) - before))
+    return same("no descriptor is left", counts, [("ok 10001\n", 0)] * 4)
+
+
 TESTS = [
     the_two_scripts,
     connect_from_a_bound_port,
     a_peer_that_resets,
     a_backlog_of_one_with_ten_connects,
     datagrams_each_way,
+    a_peer_that_closes_half,
+    datagrams_from_elsewhere,
+    no_descriptor_is_left,
 ]
 
 if __name__ == "__main__":
