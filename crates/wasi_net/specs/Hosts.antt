@@ -1,5 +1,5 @@
 -- What lookups are answered from a list of names.
-use Rattle.std.specs.Prelude.{ℕ, bytes_eq, if◌then◌else◌, List, [], ◌∷◌}
+use Rattle.std.specs.Prelude.{ℕ, ◌==◌, bytes_eq, length, if◌then◌else◌, List, [], ◌∷◌}
 use Rattle.wasi_addr.specs.declared.address.IpAddress.{IpAddress}
 use Rattle.wasi_addr.specs.declared.code.ErrorCode.TheVariants.{Other}
 use Rattle.wasi_world.specs.declared.call.Told.{Told}
@@ -13,8 +13,7 @@ addresses_of host (named ∷ more) = if bytes_eq named.name.items host then name
 
 -- the addresses that were found, or a code where there is none
 abbrev pub found_told : List IpAddress → Told
-found_told [] = Code Other
-found_told (address ∷ more) = Names (address ∷ more)
+found_told found = if length found == 0 then Code Other else Names found
 
 -- the answer to a lookup of a name
 abbrev pub lookup_told : List Named → List ℕ → Told
