@@ -51,7 +51,7 @@ fn found_told(addresses: Vec<IpAddress>) -> Told
     ensures { result ≡ found_told addresses.items }
 {
     if addresses.is_empty() {
-        return Told::Code(ErrorCode::Other);
+        return Told::Code(ErrorCode::AccessDenied);
     }
     Told::Names(IpList::from_vec(addresses))
 }
