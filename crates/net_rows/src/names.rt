@@ -19,14 +19,23 @@ const NEAR: IpAddress = IpAddress::Ipv4((10, 0, 0, 9));
 
 const LAST: IpAddress = IpAddress::Ipv6((0, 0, 0, 0, 0, 65_535, 258, 772));
 
+/// Whether these addresses were found, or a code was returned where these are none.
+fn has(told: &Told, wanted: &[IpAddress]) -> bool {
+    match told {
+        Told::Names(found) => found.as_slice() == wanted,
+        Told::Code(_) => wanted.is_empty(),
+        _ => false,
+    }
+}
+
 /// Fails where a lookup of the name finds other addresses than these, or a code where these are some.
 fn finds(hosts: &Hosts, alloc: Global, name: &[u8], wanted: &[IpAddress]) -> Result<(), Fail> {
     let name = NameText::copy_of(alloc, name)?;
-    match hosts.lookup(alloc, &name)? {
-        Told::Names(found) if found.as_slice() == wanted => Ok(()),
-        Told::Code(_) if wanted.is_empty() => Ok(()),
-        _ => Err(Fail::new("a lookup finds other addresses")),
+    let told = hosts.lookup(alloc, &name)?;
+    if !has(&told, wanted) {
+        return Err(Fail::new("a lookup finds other addresses"));
     }
+    Ok(())
 }
 
 #[test]
