@@ -6,6 +6,7 @@
 """
 
 import os
+import resource
 import socket
 import struct
 import subprocess
@@ -255,6 +256,123 @@ def a_peer_that_closes_half():
     return same("a peer that closes half", (b"".join(seen), replies[6], replies[8]), (b"hi", "ok 627965", "closed"))
 
 
+class Talk:
+    """A run of `live` whose lines go by its replies."""
+
+    def __init__(self, *words):
+        self.program = subprocess.Popen([*LIVE, *map(str, words)], stdin=subprocess.PIPE, stdout=subprocess.PIPE, text=True)
+
+    def __enter__(self):
+        return self
+
+    def __exit__(self, *cause):
+        self.program.communicate()
+
+    def ask(self, *lines):
+        """Returns the replies to these lines, which are short enough for a pipe."""
+        self.program.stdin.write("".join(line + "\n" for line in lines))
+        self.program.stdin.flush()
+        return [self.program.stdout.readline().rstrip("\n") for _ in lines]
+
+    def descriptors(self):
+        return len(os.listdir(f"/proc/{self.program.pid}/fd"))
+
+
+def a_peer_that_never_reads():
+    """Writes until there is no room. What was taken is there when the peer reads at last, and no more."""
+    seen = []
+    with socket.create_server(("127.0.0.1", 0)) as server, Talk(1000000000, port := server.getsockname()[1]) as talk:
+        talk.ask("0 network", "0 tcp-create 4", f"0 tcp-start-connect 2 1 4 127 0 0 1 {port}", "0 tcp-finish-connect 2")
+        peer, _ = server.accept()
+        talk.ask("0 subscribe 4")
+        written, reply = 0, "ok 65536"
+        while reply != "ok 0" and written < 1 << 30:
+            [reply] = talk.ask("0 check-write 4")
+            room = min(int(reply.removeprefix("ok ")), 4096)
+            if room and talk.ask(f"0 write 4 {'2e' * room}") == ["ok"]:
+                written += room
+        full = talk.ask("0 ready 5")
+        while len(seen) == 0 or sum(seen) < written:
+            seen.append(len(peer.recv(1 << 20)))
+            talk.ask("turn")
+        room = talk.ask("0 ready 5", "0 check-write 4", "0 drop 5", "0 drop 4", "0 tcp-shutdown 2 send")
+        rest = peer.recv(9)
+        peer.close()
+    wanted = (["ok false"], ["ok true", "ok 65536", "ok", "ok", "ok"], 0, b"")
+    return same("a peer that never reads", (full, room, sum(seen) - written, rest), wanted)
+
+
+def a_thousand_at_once():
+    """A thousand sockets of each kind are open at once; each UDP socket sends a datagram, each TCP socket connects."""
+    soft, hard = resource.getrlimit(resource.RLIMIT_NOFILE)
+    if hard < 4096:
+        return same("a thousand at once", hard, "at least 4096 descriptors")
+    resource.setrlimit(resource.RLIMIT_NOFILE, (4096, hard))
+    connected, sent_from = [], set()
+    with socket.socket(socket.AF_INET, socket.SOCK_DGRAM) as other, socket.create_server(("127.0.0.1", 0)) as server:
+        other.bind(("127.0.0.1", 0))
+        there, port = other.getsockname()[1], server.getsockname()[1]
+        with Talk(10000000, 0, there, port) as talk:
+            talk.ask("0 network")
+            before = talk.descriptors()
+            handle = 2
+            for _ in range(1000):
+                one, stream = handle, handle + 2
+                talk.ask(
+                    "0 udp-create 4",
+                    f"0 udp-start-bind {one} 1 4 127 0 0 1 0",
+                    f"0 udp-finish-bind {one}",
+                    f"0 udp-stream {one}",
+                    f"0 udp-check-send {stream}",
+                    f"0 udp-send {stream} to 4 127 0 0 1 {there} 6869",
+                )
+                sent_from.add(other.recvfrom(9)[1][1])
+                handle += 3
+            for _ in range(1000):
+                [_, _, reply] = talk.ask(
+                    "0 tcp-create 4",
+                    f"0 tcp-start-connect {handle} 1 4 127 0 0 1 {port}",
+                    f"0 tcp-finish-connect {handle}",
+                )
+                connected.append((server.accept()[0], reply == f"ok {handle + 1} {handle + 2}"))
+                handle += 3
+            opened = talk.descriptors() - before
+        seen = (opened, len(sent_from), sum(good for _, good in connected), {one.recv(9) for one, _ in connected})
+        for one, _ in connected:
+            one.close()
+    resource.setrlimit(resource.RLIMIT_NOFILE, (soft, hard))
+    return same("a thousand at once", seen, (2000, 1000, 1000, {b""}))
+
+
+def rules_over_every_address():
+    """The rules allow one port of this machine, and a bind to an address that no machine has. Without --any-address that
+    bind is denied too; after it the system refuses it, and opens nothing."""
+    with socket.create_server(("127.0.0.1", 0)) as server, tempfile.NamedTemporaryFile("w", suffix=".txt") as file:
+        port = server.getsockname()[1]
+        file.write(
+            "allow tcp-bind any 0 0\nallow tcp-bind 4 192 0 2 1 32 0 65535\n"
+            f"allow tcp-connect 4 127 0 0 1 32 {port} {port}\n"
+        )
+        file.flush()
+        got = []
+        for words in (["--any-address"], []):
+            with Talk(*words, "--policy", file.name, 100000) as talk:
+                replies = talk.ask(
+                    "0 network",
+                    "0 tcp-create 4",
+                    "0 tcp-create 4",
+                    "0 tcp-create 4",
+                    "0 tcp-start-bind 2 1 4 192 0 2 1 8080",
+                    f"0 tcp-start-connect 3 1 4 127 0 0 1 {port}",
+                    "0 tcp-finish-connect 3",
+                    f"0 tcp-start-connect 4 1 4 192 0 2 1 {port}",
+                    "0 tcp-finish-connect 4",
+                )
+                got.append([replies[4], replies[6], replies[8]])
+    last = ["ok 5 6", "err access-denied"]
+    return same("rules over every address", got, [["err address-not-bindable", *last], ["err access-denied", *last]])
+
+
 def sent(sender, data, own):
     """Sends a datagram to the port of `live`."""
     sender.sendto(data, ("127.0.0.1", own))
@@ -319,7 +437,10 @@ TESTS = [
     a_backlog_of_one_with_ten_connects,
     datagrams_each_way,
     a_peer_that_closes_half,
+    a_peer_that_never_reads,
     datagrams_from_elsewhere,
+    rules_over_every_address,
+    a_thousand_at_once,
     no_descriptor_is_left,
 ]
 

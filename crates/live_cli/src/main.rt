@@ -18,7 +18,7 @@ use recorded::run_recorded;
 use recorder_commands::report::end_without_log;
 use recorder_commands::{NewFile, RecorderStatus};
 use ruled::run_ruled;
-use script::{Setup, allowed, every_port, patience, run_live};
+use script::{Network, Setup, allowed, every_port, patience, run_live};
 use std::alloc::Global;
 use std::process::ExitCode;
 use wasi_console::{LineSource, command_words, end};
@@ -139,12 +139,12 @@ fn run(rt: HostRuntime, options: Options<'_>, words: &[String]) -> ExitCode {
             return end_at_rules(&rt, HOSTS_FAULT, options.hosts.unwrap_or(""), 0);
         }
     };
-    let setup = Setup {
-        limit,
+    let network = Network {
         allowed,
         hosts,
         patience: patience(options.endless),
     };
+    let setup = Setup { limit, network };
     match (options.rules, options.log) {
         (None, None) => run_over(rt, setup),
         (None, Some(path)) => run_noted(rt, path, setup),

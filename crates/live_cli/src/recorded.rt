@@ -7,15 +7,15 @@ use recorder_commands::RecorderStatus;
 use recorder_commands::recording::{keep_log, place_after, status_after};
 use std::alloc::Global;
 use std::net::Net;
-use wasi_net::{Linux, PatientWorld, SystemWorld};
 use wasi_program::Status;
 use wasi_replay::RecordingWorld;
 use wasi_run::run_script;
 use world_io::{Sink, Source};
 
 /// Runs the script that the source gives over the system's sockets, and then writes the log of the
-/// run: each call on the check and the network, with its answer. Replies go to the sink. Returns how the program ends, and the number of the bad
-/// line of the script, or 0. Where memory ran out in the run, no log is written.
+/// run: each call on the check and the network, with its answer. Replies go to the sink. Returns
+/// how the program ends, and the number of the bad line of the script, or 0. Where memory ran out
+/// in the run, no log is written.
 pub fn run_recorded<R, M, S, K>(
     rt: &R,
     alloc: Global,
@@ -33,17 +33,11 @@ where
         (S.reading source.old) (S.reading source.new) (K.writing sink.old) (K.writing sink.new)
         result.1 result.0 }
 {
-    let Setup {
-        limit,
-        allowed,
-        hosts,
-        patience,
-    } = setup;
+    let Setup { limit, network } = setup;
     let Ok(mut contexts) = contexts(alloc) else {
         return (RecorderStatus::Of(Status::Memory), 0);
     };
-    let system = SystemWorld::new(Linux::new(rt), alloc, allowed, hosts);
-    let network = PatientWorld::new(system, patience);
+    let network = network.world(rt, alloc);
     let mut world = RecordingWorld::new(alloc, network);
     let outcome = run_script(alloc, &mut world, &mut contexts, limit, source, sink);
     let written = keep_log(

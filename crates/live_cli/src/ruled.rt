@@ -9,7 +9,6 @@ use policy_commands::{FoundRules, PolicyStatus, read_rules};
 use std::alloc::Global;
 use std::marker::Brand;
 use std::net::Net;
-use wasi_net::{Linux, PatientWorld, SystemWorld};
 use wasi_policy::{Policy, PolicyWorld, Rules};
 use wasi_program::Status;
 use wasi_program::status::bad_line;
@@ -30,15 +29,9 @@ fn run_under<P: Rules, R: Net, S: Source, K: Sink>(
     ensures { RanLive setup.limit (S.reading source.old) (S.reading source.new)
         (K.writing sink.old) (K.writing sink.new) result }
 {
-    let Setup {
-        limit,
-        allowed,
-        hosts,
-        patience,
-    } = setup;
+    let Setup { limit, network } = setup;
     let mut contexts = contexts(alloc)?;
-    let system = SystemWorld::new(Linux::new(rt), alloc, allowed, hosts);
-    let network = PatientWorld::new(system, patience);
+    let network = network.world(rt, alloc);
     let mut world = PolicyWorld::<_, P>::new(alloc, policy, network);
     run_script(alloc, &mut world, &mut contexts, limit, source, sink)
 }

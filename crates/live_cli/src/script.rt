@@ -1,6 +1,6 @@
 //! The script's run over the system's sockets.
 
-ghost use Rattle.std.specs.Prelude.{◌≡◌, [], ◌∷◌, IfOk, Some, None};
+ghost use Rattle.std.specs.Prelude.{◌≡◌, [], ◌∷◌, IfOk, Some, None, false};
 ghost use Rattle.wasi_world.specs.Contexts.{free_context};
 ghost use Rattle.wasi_net.specs.Allowed.{policy_of};
 ghost use Rattle.live_cli.specs.Live.{RanLive};
@@ -29,14 +29,36 @@ pub fn contexts(alloc: Global) -> Result<Vec<WasiSocketsCtx>, AllocError>
 /// How long a look waits, in milliseconds, where it doesn't wait without limit.
 const PATIENCE: i32 = 1000;
 
-/// What a run goes by: the most bytes of its script, which addresses may be used, which names are
-/// found, and how looks wait.
+/// What a run goes by: the most bytes of its script, and its network.
 #[derive(Drop)]
 pub struct Setup {
     pub limit: u32,
+    pub network: Network,
+}
+
+/// The network of a run: which addresses may be used, which names are found, and how looks wait.
+#[derive(Drop)]
+pub struct Network {
     pub allowed: Allowed,
     pub hosts: Hosts,
     pub patience: Patience,
+}
+
+impl Network {
+    ghost use Rattle.wasi_net.specs.Net.{counts_of, patient_seen};
+
+    /// It, over the system's sockets. It answered nothing yet, and opens nothing.
+    pub fn world<R: Net>(self, rt: &R, alloc: Global) -> PatientWorld<Linux>
+        ensures { patient_seen result ≡ counts_of false 0 0 }
+    {
+        let Network {
+            allowed,
+            hosts,
+            patience,
+        } = self;
+        let system = SystemWorld::new(Linux::new(rt), alloc, allowed, hosts);
+        PatientWorld::new(system, patience)
+    }
 }
 
 /// How looks wait: without limit, or for about a second.
@@ -86,14 +108,8 @@ where
     ensures { RanLive setup.limit (S.reading source.old) (S.reading source.new)
         (K.writing sink.old) (K.writing sink.new) result }
 {
-    let Setup {
-        limit,
-        allowed,
-        hosts,
-        patience,
-    } = setup;
-    let system = SystemWorld::new(Linux::new(rt), alloc, allowed, hosts);
-    let mut world = PatientWorld::new(system, patience);
+    let Setup { limit, network } = setup;
+    let mut world = network.world(rt, alloc);
     let mut contexts = contexts(alloc)?;
     run_script(alloc, &mut world, &mut contexts, limit, source, sink)
 }

@@ -10,7 +10,7 @@ use std::test::Fail;
 use wasi_addr::{IpSocketAddress, Ipv4SocketAddress, SocketAddrUse, SocketAddressFamily};
 use wasi_net::{Allowed, Hosts, Linux, SystemWorld};
 use wasi_world::{Call, OpId, Sock, Told, World};
-use world_text::fields::push_octets;
+use world_text::digits::push_octets;
 
 /// A network that has not ended.
 #[derive(Drop)]

@@ -82,6 +82,7 @@ fn is_missing(guest: &mut Guest, sock: Sock, host: NameText) -> Result<(), Fail>
     guest.expects(sock, Call::WriteReady { sock }, "done")?;
     guest.expects(sock, Call::Close { sock }, "done")?;
     guest.expects(sock, Call::TcpCreate { ctx: 0, family }, "done")?;
+    guest.expects(sock, Call::UdpCreate { ctx: 0, family }, "InvalidState")?;
     guest.expects(sock, Call::SetBacklog { sock, backlog: 5 }, "done")?;
     guest.expects(sock, Call::Lookup { host }, "AccessDenied")
 }

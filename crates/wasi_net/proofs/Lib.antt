@@ -1,3 +1,5 @@
 mod Sides
 mod Counted
 mod Results
+mod Owned
+mod Keeping

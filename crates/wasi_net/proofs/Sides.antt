@@ -12,7 +12,7 @@ use Rattle.wasi_net.specs.declared.socket.Socket.{Socket}
 use Rattle.wasi_net.specs.Known.{Known, known_of, known_sides, Same}
 
 -- two names that are the same are equal
-same_name : (a b : OpId) → is_same a b ≡ true → a ≡ b
+pub same_name : (a b : OpId) → is_same a b ≡ true → a ≡ b
 same_name a b h = by_tests (a.step == b.step) (a.part == b.part) (eqb-true a.step b.step) (eqb-true a.part b.part) h
   where
     by_tests : (x y : Bool) → (x ≡ true → a.step ≡ b.step) → (y ≡ true → a.part ≡ b.part) → (x && y) ≡ true → a ≡ b
@@ -20,6 +20,10 @@ same_name a b h = by_tests (a.step == b.step) (a.part == b.part) (eqb-true a.ste
         ap (λ (n : ℕ). let o : OpId = record { step = n; part = a.part } in o) (f refl) ∙ ap (λ (n : ℕ). let o : OpId = record { step = b.step; part = n } in o) (g refl)
     by_tests true false f g e = absurd (cc)
     by_tests false y f g e = absurd (cc)
+
+-- a name is the same as itself
+pub is_same-self : (a : OpId) → is_same a a ≡ true
+is_same-self a = grind arith
 
 -- the order of names finds the same name
 is_eq-nat_cmp : (a b : ℕ) → is_eq (nat_cmp a b) ≡ (a == b)

@@ -25,6 +25,7 @@ pub data Act : Type 0 where
   ReceiveFrom : ℤ → ℕ → Result (List ℕ) Errno → Act
   Shutdown : ℤ → ℤ → Status → Act
   Poll : List pollfd → ℤ → Result ℕ Errno → Act
+  Close : ℤ → Act
 
 -- the calls that were made, the last first, where they are reported
 abbrev pub Acts : Type 0

@@ -1,5 +1,5 @@
 -- What each call answers, which calls of the system it makes, and what it leaves of the sockets.
-use Rattle.std.specs.Prelude.{◌≡◌, ℤ, List, Option, Some, None, Result, Ok, Err}
+use Rattle.std.specs.Prelude.{◌≡◌, ◌⊎◌, ℤ, List, Option, Some, None, Result, Ok, Err}
 use Rattle.wasi_addr.specs.declared.address.SocketAddressFamily.{SocketAddressFamily}
 use Rattle.wasi_addr.specs.declared.address.SocketAddressFamily.TheVariants as family
 use Rattle.wasi_addr.specs.declared.code.ErrorCode.TheVariants.{InvalidState, NotSupported}
@@ -114,36 +114,45 @@ OnItsSide c None before t now old new = TellsOnly (missing c) before t now old n
 abbrev pub Opens : OpId → SocketAddressFamily → ℤ → Sides → Told → Sides → Type 0
 Opens op family fd before t now = (t ≡ told.Done) × With before op (Some (record { fd = fd; family = family; stage = Open })) now
 
--- an IPv6 socket is for IPv6 alone, or isn't kept
-abbrev pub OnlyV6 : Status → OpId → ℤ → Sides → Told → Sides → Type 0
-OnlyV6 (Ok _) op fd before t now = Opens op family.Ipv6 fd before t now
-OnlyV6 (Err e) op fd before t now = (t ≡ told.Code (code_of e)) × Same before now
+-- this is answered, all sockets stay, and the descriptor that was made is closed
+abbrev pub ClosesMade : ℤ → Told → Sides → Told → Sides → Acts → Acts → Type 0
+ClosesMade fd answer before t now old new = (t ≡ answer) × Same before now × (new ≡ after (act.Close fd) old)
+
+-- an IPv6 socket is for IPv6 alone, or is closed
+abbrev pub OnlyV6 : Status → OpId → ℤ → Sides → Told → Sides → Acts → Acts → Type 0
+OnlyV6 (Ok _) op fd before t now old new = Opens op family.Ipv6 fd before t now × (new ≡ old)
+OnlyV6 (Err e) op fd before t now old new = ClosesMade fd (told.Code (code_of e)) before t now old new
 
 abbrev pub OnMade : SocketAddressFamily → OpId → ℤ → Sides → Told → Sides → Acts → Acts → Type 0
 OnMade family.Ipv4 op fd before t now old new = Opens op family.Ipv4 fd before t now × (new ≡ old)
-OnMade family.Ipv6 op fd before t now old new = (r : Status) × (OnlyV6 r op fd before t now × (new ≡ after (set_to fd setting.V6Only 1 r) old))
+OnMade family.Ipv6 op fd before t now old new = (r : Status) × OnlyV6 r op fd before t now (after (set_to fd setting.V6Only 1 r) old) new
 
 abbrev pub OnSocket : Result ℤ Errno → SocketAddressFamily → OpId → Sides → Told → Sides → Acts → Acts → Type 0
 OnSocket (Ok fd) family op before t now old new = OnMade family op fd before t now old new
 OnSocket (Err e) family op before t now old new = TellsOnly (told.Code (code_of e)) before t now old new
 
-abbrev pub CreateDoes : Transport → SocketAddressFamily → OpId → Sides → Told → Sides → Acts → Acts → Type 0
-CreateDoes transport family op before t now old new =
+abbrev pub CreateAsks : Transport → SocketAddressFamily → OpId → Sides → Told → Sides → Acts → Acts → Type 0
+CreateAsks transport family op before t now old new =
     (r : Result ℤ Errno) × OnSocket r family op before t now (after (act.Socket (domain_of family) (kind_of transport) r) old) new
 
--- an arrival stands under the name of its accept, or isn't kept where its sender's family is unknown
-abbrev pub OnArrival : SocketAddressFamily → OpId → ℤ → Sides → Told → Sides → Type 0
-OnArrival family op fd before (told.Arrived peer) now = With before op (Some (record { fd = fd; family = family; stage = Arrived peer })) now
-OnArrival family op fd before (told.Code c) now = (c ≡ NotSupported) × Same before now
-OnArrival family op fd before _ now = ⊥
+-- none is made under a name that a socket has already
+abbrev pub CreateDoes : Transport → SocketAddressFamily → OpId → Option Known → Sides → Told → Sides → Acts → Acts → Type 0
+CreateDoes transport family op (Some own) before t now old new = TellsOnly (told.Code InvalidState) before t now old new
+CreateDoes transport family op None before t now old new = CreateAsks transport family op before t now old new
 
-abbrev pub OnAccept : Result ℤ Errno → SocketAddressFamily → OpId → Sides → Told → Sides → Type 0
-OnAccept (Ok fd) family op before t now = OnArrival family op fd before t now
-OnAccept (Err e) family op before t now = (t ≡ told_failed e (accept_code e)) × Same before now
+-- an arrival stands under the name of its accept, or is closed where its sender's family is unknown
+abbrev pub OnArrival : SocketAddressFamily → OpId → ℤ → Sides → Told → Sides → Acts → Acts → Type 0
+OnArrival family op fd before (told.Arrived peer) now old new = With before op (Some (record { fd = fd; family = family; stage = Arrived peer })) now × (new ≡ old)
+OnArrival family op fd before (told.Code c) now old new = (c ≡ NotSupported) × Same before now × (new ≡ after (act.Close fd) old)
+OnArrival family op fd before _ now old new = ⊥
+
+abbrev pub OnAccept : Result ℤ Errno → SocketAddressFamily → OpId → Sides → Told → Sides → Acts → Acts → Type 0
+OnAccept (Ok fd) family op before t now old new = OnArrival family op fd before t now old new
+OnAccept (Err e) family op before t now old new = TellsOnly (told_failed e (accept_code e)) before t now old new
 
 -- a socket is asked for its next arrival, which stands under the accept's own name
 abbrev pub AcceptAsks : OpId → ℤ → SocketAddressFamily → Sides → Told → Sides → Acts → Acts → Type 0
-AcceptAsks op fd family before t now old new = (r : Result ℤ Errno) × (OnAccept r family op before t now × (new ≡ after (act.Accept fd r) old))
+AcceptAsks op fd family before t now old new = (r : Result ℤ Errno) × OnAccept r family op before t now (after (act.Accept fd r) old) new
 
 -- what an accept tells whose name a socket has already: the arrival that it is
 abbrev pub own_told : Stage → Told
@@ -155,24 +164,60 @@ AcceptDoes op (Some own) listener before t now old new = TellsOnly (own_told own
 AcceptDoes op None (Some k) before t now old new = AcceptAsks op k.fd k.family before t now old new
 AcceptDoes op None None before t now old new = TellsOnly (told.Code InvalidState) before t now old new
 
--- an arrival that is refused is reset, and closed
+-- an arrival that is refused is reset
 abbrev pub Resets : Option Known → Acts → Acts → Type 0
 Resets (Some k) old new = (r : Status) × (new ≡ after (disconnect k.fd r) old)
 Resets None old new = new ≡ old
 
-abbrev pub RefuseDoes : OpId → Sides → Told → Sides → Acts → Acts → Type 0
-RefuseDoes op before t now old new = (t ≡ told.Done) × With before op None now × Resets (before op) old new
+-- a socket is closed where it is there
+abbrev pub closed_after : Option Known → Acts → Acts
+closed_after (Some k) acts = after (act.Close k.fd) acts
+closed_after None acts = acts
 
--- a socket is closed, and no other
+-- the socket of one name is closed, and no other
+abbrev pub ClosesOnly : OpId → Sides → Sides → Acts → Acts → Type 0
+ClosesOnly sock before now old new = With before sock None now × (new ≡ closed_after (before sock) old)
+
+abbrev pub RefuseDoes : OpId → Sides → Told → Sides → Acts → Acts → Type 0
+RefuseDoes op before t now old new = (t ≡ told.Done) × (mid : Acts) × Resets (before op) old mid × ClosesOnly op before now mid new
+
 abbrev pub CloseDoes : OpId → Sides → Told → Sides → Acts → Acts → Type 0
-CloseDoes sock before t now old new = (t ≡ told.Done) × With before sock None now × (new ≡ old)
+CloseDoes sock before t now old new = (t ≡ told.Done) × ClosesOnly sock before now old new
+
+-- == out of memory
+-- the descriptor that was made is closed
+abbrev pub MadeUndone : SocketAddressFamily → ℤ → Acts → Acts → Type 0
+MadeUndone family.Ipv4 fd old new = new ≡ after (act.Close fd) old
+MadeUndone family.Ipv6 fd old new = (r : Status) × (new ≡ after (act.Close fd) (after (set_to fd setting.V6Only 1 r) old))
+
+abbrev pub CreateUndone : Transport → SocketAddressFamily → Acts → Acts → Type 0
+CreateUndone transport family old new = (fd : ℤ) × MadeUndone family fd (after (act.Socket (domain_of family) (kind_of transport) (Ok fd)) old) new
+
+-- the arrival is closed
+abbrev pub AcceptUndone : ℤ → Acts → Acts → Type 0
+AcceptUndone fd old new = (made : ℤ) × (new ≡ after (act.Close made) (after (act.Accept fd (Ok made)) old))
+
+abbrev pub AcceptUndoneAt : Option Known → Acts → Acts → Type 0
+AcceptUndoneAt (Some k) old new = AcceptUndone k.fd old new
+AcceptUndoneAt None old new = ⊥
+
+-- which calls of the system were made for a call that memory ran out in
+abbrev pub Undone : Sides → Call → Acts → Acts → Type 0
+Undone before (call.TcpCreate _ family) old new = CreateUndone Tcp family old new
+Undone before (call.UdpCreate _ family) old new = CreateUndone Udp family old new
+Undone before (call.Accept sock) old new = AcceptUndoneAt (before sock) old new
+Undone before _ old new = new ≡ old
+
+-- none was made for want of memory before the call, or these
+abbrev pub NoMemory : Sides → Call → Acts → Acts → Type 0
+NoMemory before c old new = (new ≡ old) ⊎ Undone before c old new
 
 -- == any call but a write and a send
 abbrev pub OnNetwork : Policy → List Named → Sides → OpId → Call → Told → Sides → Acts → Acts → Type 0
 OnNetwork policy names before op (call.Check _ addr usage) t now old new = TellsOnly (verdict policy addr usage) before t now old new
 OnNetwork policy names before op (call.Lookup host) t now old new = TellsOnly (lookup_told names host) before t now old new
-OnNetwork policy names before op (call.TcpCreate _ family) t now old new = CreateDoes Tcp family op before t now old new
-OnNetwork policy names before op (call.UdpCreate _ family) t now old new = CreateDoes Udp family op before t now old new
+OnNetwork policy names before op (call.TcpCreate _ family) t now old new = CreateDoes Tcp family op (before op) before t now old new
+OnNetwork policy names before op (call.UdpCreate _ family) t now old new = CreateDoes Udp family op (before op) before t now old new
 OnNetwork policy names before op (call.Accept sock) t now old new = AcceptDoes op (before op) (before sock) before t now old new
 OnNetwork policy names before op (call.Refuse _ _) t now old new = RefuseDoes op before t now old new
 OnNetwork policy names before op (call.Close sock) t now old new = CloseDoes sock before t now old new

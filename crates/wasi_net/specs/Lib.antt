@@ -7,4 +7,5 @@ pub mod Does
 pub mod Allowed
 pub mod Hosts
 pub mod Answers
+pub mod Owned
 pub mod Net

@@ -33,3 +33,9 @@ system_of world = world.network.system
 -- what is known of a world whose looks wait
 abbrev pub patient_seen : {S : Type 0} → PatientWorld S → Seen
 patient_seen patient = seen_by patient.world
+
+abbrev pub patient_sides : {S : Type 0} → PatientWorld S → Sides
+patient_sides patient = sides_of patient.world
+
+abbrev pub patient_system : {S : Type 0} → PatientWorld S → S
+patient_system patient = system_of patient.world

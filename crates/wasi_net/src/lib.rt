@@ -14,6 +14,7 @@ pub mod descriptor;
 pub mod errno;
 pub mod hosts;
 pub mod linux;
+mod making;
 mod network;
 pub mod patient;
 pub mod setting;

@@ -1,24 +1,18 @@
 //! The sockets that are open, by the names of their network sockets, and the call on each.
 
-ghost use Rattle.std.specs.Prelude.{◌≡◌, None, Some, IfOk, OnOk, OnErr, Result, length};
-ghost use Rattle.wasi_world.specs.Fits.{IsArrival};
-ghost use Rattle.wasi_net.specs.Answers.{side_of, own_told};
+ghost use Rattle.std.specs.Prelude.{◌≡◌, Some, IfOk, OnErr, Result, length};
+ghost use Rattle.wasi_net.specs.Answers.{side_of};
 
 use crate::allowed::Allowed;
 use crate::answers::told_missing;
-use crate::calls;
 use crate::calls::{Readiness, Transport};
-use crate::descriptor::Descriptor;
-use crate::errno::told_failed;
 use crate::hosts::Hosts;
-use crate::setting::Setting;
-use crate::socket::{Socket, Stage};
-use crate::storage::decode;
-use crate::system::{Storage, System};
+use crate::socket::Socket;
+use crate::system::System;
 use crate::waiting::Waiting;
 use std::alloc::{AllocError, Global};
 use std::collections::BTreeMap;
-use wasi_addr::{ErrorCode, IpSocketAddress, SocketAddressFamily};
+use wasi_addr::{ErrorCode, IpSocketAddress};
 use wasi_world::{Call, OpId, Sock, Told};
 
 /// The sockets that are open.
@@ -32,7 +26,7 @@ pub struct Network<S> {
     pub(crate) allowed: Allowed,
     pub(crate) hosts: Hosts,
     pub(crate) sides: Sides,
-    waiting: Waiting,
+    pub(crate) waiting: Waiting,
 }
 
 /// The network socket that a call is on: a connection that arrived has the name of its accept,
@@ -63,17 +57,6 @@ fn side_of(op: OpId, call: &Call) -> Option<Sock>
     }
 }
 
-/// The answer to an accept whose name a socket has already: the arrival that it is.
-fn own_told(stage: Stage) -> Told
-    ensures told { result ≡ own_told stage }
-    ensures fits { IsArrival result }
-{
-    match stage {
-        Stage::Arrived(peer) => Told::Arrived(peer),
-        Stage::Open | Stage::Connecting => Told::Code(ErrorCode::InvalidState),
-    }
-}
-
 /// What a call waits for that is pending, and of which network socket.
 fn awaited(call: &Call) -> Option<(Sock, Readiness)> {
     match call {
@@ -89,9 +72,7 @@ fn awaited(call: &Call) -> Option<(Sock, Readiness)> {
 }
 
 impl<S> Network<S> {
-    ghost use Rattle.wasi_net.specs.Known.{known_sides, Same, With, IsUnused};
-    ghost use Rattle.wasi_net.specs.Answers.{Opens, OnArrival};
-    ghost use Rattle.wasi_world.specs.Fits.{IsArrival};
+    ghost use Rattle.wasi_net.specs.Known.{known_sides, IsUnused};
 
     /// A network with no socket yet.
     pub fn new(system: S, alloc: Global, allowed: Allowed, hosts: Hosts) -> Network<S>
@@ -164,195 +145,19 @@ impl<S> Network<S> {
             self.note(sock, readiness, told);
         }
     }
-
-    /// Closes the socket of this name, where it is there, and no other.
-    pub fn close(&mut self, sock: Sock)
-        ensures gone { With (known_sides self.old.sides) sock None (known_sides self.new.sides) }
-        ensures allowed { self.new.allowed ≡ self.old.allowed }
-        ensures hosts { self.new.hosts ≡ self.old.hosts }
-        ensures system { self.new.system ≡ self.old.system }
-    {
-        if let Some(socket) = self.sides.remove(&sock) {
-            self.waiting.forget(socket.descriptor.number());
-        }
-    }
-
-    /// Keeps a socket that was made. Takes memory for it; without, it is closed.
-    fn open(
-        &mut self,
-        op: OpId,
-        family: SocketAddressFamily,
-        descriptor: Descriptor,
-    ) -> Result<Told, AllocError>
-        ensures opens { IfOk result (λ told. Opens op family descriptor.number
-            (known_sides self.old.sides) told (known_sides self.new.sides)) }
-        ensures err { OnErr result (Same (known_sides self.old.sides)
-            (known_sides self.new.sides)) }
-        ensures allowed { self.new.allowed ≡ self.old.allowed }
-        ensures hosts { self.new.hosts ≡ self.old.hosts }
-        ensures system { self.new.system ≡ self.old.system }
-    {
-        self.sides
-            .insert(op, Socket::new(descriptor, family, Stage::Open))?;
-        Ok(Told::Done)
-    }
-
-    /// Keeps an arrival under the name of its accept. Takes memory for it; without, it is closed.
-    fn arrive(
-        &mut self,
-        op: OpId,
-        family: SocketAddressFamily,
-        descriptor: Descriptor,
-        raw: &Storage,
-        len: u32,
-    ) -> Result<Told, AllocError>
-        ensures fits { IfOk result IsArrival }
-        ensures arrives { IfOk result (λ told. OnArrival family op descriptor.number
-            (known_sides self.old.sides) told (known_sides self.new.sides)) }
-        ensures err { OnErr result (Same (known_sides self.old.sides)
-            (known_sides self.new.sides)) }
-        ensures allowed { self.new.allowed ≡ self.old.allowed }
-        ensures hosts { self.new.hosts ≡ self.old.hosts }
-        ensures system { self.new.system ≡ self.old.system }
-    {
-        let Some(peer) = decode(raw, len) else {
-            return Ok(Told::Code(ErrorCode::NotSupported));
-        };
-        self.sides
-            .insert(op, Socket::new(descriptor, family, Stage::Arrived(peer)))?;
-        Ok(Told::Arrived(peer))
-    }
 }
 
 impl<S: System> Network<S> {
+    ghost use Rattle.std.specs.Prelude.{ℕ};
+    ghost use Rattle.wasi_net.specs.declared.errno.Errno.{Errno};
     ghost use Rattle.wasi_net.specs.Allowed.{policy_of};
     ghost use Rattle.wasi_net.specs.Does.{WriteDoes, SendDoes};
-    ghost use Rattle.wasi_net.specs.Known.{known_sides, known_of, Same, With};
-    ghost use Rattle.wasi_net.specs.Answers.{Stays, OnSide, missing, AcceptDoes, AcceptAsks};
-    ghost use Rattle.wasi_net.specs.Answers.{AnswersAt, OnMade, CreateDoes, RefuseDoes, Resets};
-    ghost use Rattle.wasi_net.specs.Answers.{OnNetwork};
-    ghost use Rattle.wasi_world.specs.Fits.{Fits, IsDoneOrCode, IsArrival, IsWritten, IsPolled};
+    ghost use Rattle.wasi_net.specs.Known.{known_sides, Same};
+    ghost use Rattle.wasi_net.specs.Answers.{Stays, OnSide, missing, AnswersAt, OnNetwork, Undone};
+    ghost use Rattle.wasi_net.specs.Acts.{after};
+    ghost use Rattle.wasi_net.specs.Acts as act;
+    ghost use Rattle.wasi_world.specs.Fits.{Fits, IsWritten, IsPolled};
     ghost use Rattle.wasi_world.specs.Asks.{IsFront};
-
-    /// Keeps a socket that was made: one for IPv6 is for IPv6 alone.
-    fn made(
-        &mut self,
-        op: OpId,
-        family: SocketAddressFamily,
-        descriptor: Descriptor,
-    ) -> Result<Told, AllocError>
-        ensures fits { IfOk result IsDoneOrCode }
-        ensures does { IfOk result (λ told. OnMade family op descriptor.number
-            (known_sides self.old.sides) told (known_sides self.new.sides) (S.acts self.old.system)
-            (S.acts self.new.system)) }
-        ensures err { OnErr result (Same (known_sides self.old.sides)
-            (known_sides self.new.sides)) }
-        ensures allowed { self.new.allowed ≡ self.old.allowed }
-        ensures hosts { self.new.hosts ≡ self.old.hosts }
-    {
-        match family {
-            SocketAddressFamily::Ipv4 => self.open(op, family, descriptor),
-            SocketAddressFamily::Ipv6 => {
-                match calls::set(&mut self.system, &descriptor, Setting::V6Only, 1) {
-                    Ok(()) => self.open(op, family, descriptor),
-                    Err(e) => Ok(Told::Code(e.code())),
-                }
-            }
-        }
-    }
-
-    /// Makes a socket. Takes memory for it.
-    fn create(
-        &mut self,
-        op: OpId,
-        family: SocketAddressFamily,
-        transport: Transport,
-    ) -> Result<Told, AllocError>
-        ensures fits { IfOk result IsDoneOrCode }
-        ensures does { IfOk result (λ told. CreateDoes transport family op
-            (known_sides self.old.sides) told (known_sides self.new.sides) (S.acts self.old.system)
-            (S.acts self.new.system)) }
-        ensures err { OnErr result (Same (known_sides self.old.sides)
-            (known_sides self.new.sides)) }
-        ensures allowed { self.new.allowed ≡ self.old.allowed }
-        ensures hosts { self.new.hosts ≡ self.old.hosts }
-    {
-        match calls::socket(&mut self.system, family, transport) {
-            Ok(descriptor) => self.made(op, family, descriptor),
-            Err(e) => Ok(Told::Code(e.code())),
-        }
-    }
-
-    /// Asks a socket of this descriptor for its next arrival.
-    fn accept_of(
-        &mut self,
-        op: OpId,
-        fd: i32,
-        family: SocketAddressFamily,
-    ) -> Result<Told, AllocError>
-        ensures fits { IfOk result IsArrival }
-        ensures does { IfOk result (λ told. AcceptAsks op fd family (known_sides self.old.sides)
-            told (known_sides self.new.sides) (S.acts self.old.system) (S.acts self.new.system)) }
-        ensures err { OnErr result (Same (known_sides self.old.sides)
-            (known_sides self.new.sides)) }
-        ensures allowed { self.new.allowed ≡ self.old.allowed }
-        ensures hosts { self.new.hosts ≡ self.old.hosts }
-    {
-        let mut raw = [0u8; 128];
-        let mut len = 128;
-        match self.system.accept(fd, &mut raw, &mut len) {
-            Ok(descriptor) => self.arrive(op, family, descriptor, &raw, len),
-            Err(e) => Ok(told_failed(e, e.accept_code())),
-        }
-    }
-
-    /// Takes the next arrival in hand, under the name of its accept; one that is in hand is
-    /// reported again. Where memory runs out for it, it is closed.
-    fn accept(&mut self, op: OpId, sock: Sock) -> Result<Told, AllocError>
-        ensures fits { IfOk result IsArrival }
-        ensures does { IfOk result (λ told. AcceptDoes op (known_sides self.old.sides op)
-            (known_sides self.old.sides sock) (known_sides self.old.sides) told
-            (known_sides self.new.sides) (S.acts self.old.system) (S.acts self.new.system)) }
-        ensures err { OnErr result (Same (known_sides self.old.sides)
-            (known_sides self.new.sides)) }
-        ensures allowed { self.new.allowed ≡ self.old.allowed }
-        ensures hosts { self.new.hosts ≡ self.old.hosts }
-    {
-        match self.sides.get(&op) {
-            None => {}
-            Some(own) => return Ok(own_told(own.stage)),
-        }
-        let Some(listener) = self.sides.get(&sock) else {
-            return Ok(Told::Code(ErrorCode::InvalidState));
-        };
-        let (fd, family) = (listener.descriptor.number(), listener.family);
-        self.accept_of(op, fd, family)
-    }
-
-    /// Resets the arrival of this name, so that its other end sees it.
-    fn reset(&mut self, op: OpId)
-        ensures does { Resets (known_sides self.old.sides op) (S.acts self.old.system)
-            (S.acts self.new.system) }
-        ensures sides { self.new.sides ≡ self.old.sides }
-        ensures allowed { self.new.allowed ≡ self.old.allowed }
-        ensures hosts { self.new.hosts ≡ self.old.hosts }
-    {
-        if let Some(socket) = self.sides.get(&op) {
-            let _ = calls::disconnect(&mut self.system, &socket.descriptor);
-        }
-    }
-
-    /// Resets an arrival and closes it.
-    fn refuse(&mut self, op: OpId) -> Told
-        ensures does { RefuseDoes op (known_sides self.old.sides) result
-            (known_sides self.new.sides) (S.acts self.old.system) (S.acts self.new.system) }
-        ensures allowed { self.new.allowed ≡ self.old.allowed }
-        ensures hosts { self.new.hosts ≡ self.old.hosts }
-    {
-        self.reset(op);
-        self.close(op);
-        Told::Done
-    }
 
     /// Writes the front of the bytes to a connection.
     pub fn write(&mut self, sock: Sock, bytes: &[u8]) -> Result<Told, AllocError>
@@ -364,6 +169,7 @@ impl<S: System> Network<S> {
             (S.acts self.new.system)) }
         ensures err { OnErr result (Same (known_sides self.old.sides)
             (known_sides self.new.sides)) }
+        ensures quiet { OnErr result (S.acts self.new.system ≡ S.acts self.old.system) }
         ensures allowed { self.new.allowed ≡ self.old.allowed }
         ensures hosts { self.new.hosts ≡ self.old.hosts }
     {
@@ -397,6 +203,7 @@ impl<S: System> Network<S> {
             (known_sides self.new.sides) (S.acts self.old.system) (S.acts self.new.system)) }
         ensures err { OnErr result (Same (known_sides self.old.sides)
             (known_sides self.new.sides)) }
+        ensures quiet { OnErr result (S.acts self.new.system ≡ S.acts self.old.system) }
         ensures allowed { self.new.allowed ≡ self.old.allowed }
         ensures hosts { self.new.hosts ≡ self.old.hosts }
     {
@@ -414,6 +221,8 @@ impl<S: System> Network<S> {
             (known_sides self.new.sides) (S.acts self.old.system) (S.acts self.new.system)) }
         ensures err { OnErr result (Same (known_sides self.old.sides)
             (known_sides self.new.sides)) }
+        ensures undone { OnErr result (Undone (known_sides self.old.sides) call.now
+            (S.acts self.old.system) (S.acts self.new.system)) }
         ensures allowed { self.new.allowed ≡ self.old.allowed }
         ensures hosts { self.new.hosts ≡ self.old.hosts }
     {
@@ -440,6 +249,8 @@ impl<S: System> Network<S> {
     /// milliseconds, or without limit where they are negative; and whether one may.
     pub fn wait(&mut self, timeout: i32) -> bool
         ensures sides { self.new.sides ≡ self.old.sides }
+        ensures acts { (r : Result ℕ Errno) × (S.acts self.new.system
+            ≡ after (act.Poll self.old.waiting.asked.items timeout r) (S.acts self.old.system)) }
         ensures allowed { self.new.allowed ≡ self.old.allowed }
         ensures hosts { self.new.hosts ≡ self.old.hosts }
     {

@@ -39,11 +39,13 @@ fn is_look(call: &Call) -> bool {
 }
 
 impl<S> PatientWorld<S> {
-    ghost use Rattle.wasi_net.specs.Net.{seen_by, patient_seen};
+    ghost use Rattle.wasi_net.specs.Owned.{Owned};
+    ghost use Rattle.wasi_net.specs.Net.{seen_by, sides_of, patient_seen, patient_sides};
 
     /// This world, with looks that wait so.
     pub fn new(world: SystemWorld<S>, patience: Patience) -> PatientWorld<S>
-        ensures { patient_seen result ≡ seen_by world }
+        ensures seen { patient_seen result ≡ seen_by world }
+        ensures sides { patient_sides result ≡ sides_of world }
     {
         PatientWorld { world, patience }
     }
@@ -51,12 +53,15 @@ impl<S> PatientWorld<S> {
 
 impl<S: System> PatientWorld<S> {
     ghost use Rattle.wasi_world.specs.Fits.{Fits};
-    ghost use Rattle.wasi_net.specs.Net.{patient_seen};
+    ghost use Rattle.wasi_net.specs.Owned.{Owned};
+    ghost use Rattle.wasi_net.specs.Net.{patient_seen, patient_sides, patient_system};
 
     /// Asks, and once more after a wait of so many milliseconds where the answer is pending.
     fn ask_twice(&mut self, time: i32, op: OpId, call: &Call) -> Result<Told, AllocError>
         ensures fits { IfOk result (Fits call.now) }
         ensures seen { patient_seen self.new ≡ patient_seen self.old }
+        ensures owned { Owned (patient_sides self.old) (S.acts (patient_system self.old))
+            → Owned (patient_sides self.new) (S.acts (patient_system self.new)) }
     {
         let told = self.world.ask(op, call)?;
         if !matches!(told, Told::Pending) {
@@ -70,6 +75,8 @@ impl<S: System> PatientWorld<S> {
     fn ask_after_wait(&mut self, op: OpId, call: &Call) -> Result<Told, AllocError>
         ensures fits { IfOk result (Fits call.now) }
         ensures seen { patient_seen self.new ≡ patient_seen self.old }
+        ensures owned { Owned (patient_sides self.old) (S.acts (patient_system self.old))
+            → Owned (patient_sides self.new) (S.acts (patient_system self.new)) }
     {
         if self.world.awaits(call) {
             self.world.wait(-1);
@@ -81,6 +88,8 @@ impl<S: System> PatientWorld<S> {
     fn ask(&mut self, op: OpId, call: &Call) -> Result<Told, AllocError>
         ensures fits { IfOk result (Fits call.now) }
         ensures seen { patient_seen self.new ≡ patient_seen self.old }
+        ensures owned { Owned (patient_sides self.old) (S.acts (patient_system self.old))
+            → Owned (patient_sides self.new) (S.acts (patient_system self.new)) }
     {
         if !is_look(call) {
             return self.world.ask(op, call);
@@ -93,10 +102,13 @@ impl<S: System> PatientWorld<S> {
 }
 
 impl<S: System> World for PatientWorld<S> {
-    ghost use Rattle.wasi_world.specs.Asks.{one, AsksFor};
-    ghost use Rattle.wasi_world.specs.Fits.{Fits, IsPlain};
+    ghost use Rattle.wasi_world.specs.Asks.{one, one_write, AsksFor};
+    ghost use Rattle.wasi_world.specs.Fits.{Fits, IsPlain, IsWritten};
     ghost use Rattle.wasi_world.specs.Script.{without_plan};
-    ghost use Rattle.wasi_net.specs.Net.{patient_seen};
+    ghost use Rattle.wasi_world.specs.Closings.{Named, NoneNamed};
+    ghost use Rattle.wasi_world.specs.Seen.{Closes, Ends};
+    ghost use Rattle.wasi_net.specs.Owned.{Owned};
+    ghost use Rattle.wasi_net.specs.Net.{patient_seen, patient_sides, patient_system};
 
     ghost seen = { patient_seen };
 
@@ -104,13 +116,32 @@ impl<S: System> World for PatientWorld<S> {
 
     ghost scripted = { λ world. without_plan None };
 
-    fn call(&mut self, op: OpId, call: Call) -> Result<Told, AllocError> {
+    fn call(&mut self, op: OpId, call: Call) -> Result<Told, AllocError>
+        requires open { (patient_seen self.old).ended ≡ false }
+        requires plain { IsPlain call }
+        ensures asked { AsksFor (one op call) (patient_seen self.old) (patient_seen self.new)
+            (λ told. told) result }
+        ensures fits { IfOk result (λ told. Fits call told) }
+        ensures err { OnErr result (patient_seen self.new ≡ patient_seen self.old) }
+        ensures owned { Owned (patient_sides self.old) (S.acts (patient_system self.old))
+            → Owned (patient_sides self.new) (S.acts (patient_system self.new)) }
+    {
         let told = self.ask(op, &call)?;
         self.world.count(&told);
         Ok(told)
     }
 
-    fn write(&mut self, op: OpId, sock: Sock, bytes: &[u8]) -> Result<Told, AllocError> {
+    fn write(&mut self, op: OpId, sock: Sock, bytes: &[u8]) -> Result<Told, AllocError>
+        requires open { (patient_seen self.old).ended ≡ false }
+        requires some { 1 ≤ length bytes.now }
+        requires short { length bytes.now < 2 ^ 32 }
+        ensures asked { AsksFor (one_write op sock bytes.now) (patient_seen self.old)
+            (patient_seen self.new) (λ told. told) result }
+        ensures fits { IfOk result (λ told. IsWritten (length bytes.now) told) }
+        ensures err { OnErr result (patient_seen self.new ≡ patient_seen self.old) }
+        ensures owned { Owned (patient_sides self.old) (S.acts (patient_system self.old))
+            → Owned (patient_sides self.new) (S.acts (patient_system self.new)) }
+    {
         self.world.write(op, sock, bytes)
     }
 
@@ -120,15 +151,34 @@ impl<S: System> World for PatientWorld<S> {
         sock: Sock,
         addr: IpSocketAddress,
         bytes: &[u8],
-    ) -> Result<Told, AllocError> {
+    ) -> Result<Told, AllocError>
+        requires open { (patient_seen self.old).ended ≡ false }
+        ensures asked { AsksFor (one op (Call.Send sock addr bytes.now)) (patient_seen self.old)
+            (patient_seen self.new) (λ told. told) result }
+        ensures err { OnErr result (patient_seen self.new ≡ patient_seen self.old) }
+        ensures owned { Owned (patient_sides self.old) (S.acts (patient_system self.old))
+            → Owned (patient_sides self.new) (S.acts (patient_system self.new)) }
+    {
         self.world.send(op, sock, addr, bytes)
     }
 
-    fn end(&mut self) {
+    fn end(&mut self)
+        requires open { (patient_seen self.old).ended ≡ false }
+        ensures mark { Ends (patient_seen self.old) (patient_seen self.new) }
+        ensures none { NoneNamed None }
+        ensures owned { Owned (patient_sides self.old) (S.acts (patient_system self.old))
+            → Owned (patient_sides self.new) (S.acts (patient_system self.new)) }
+    {
         self.world.end();
     }
 
-    fn close_after_end(&mut self, sock: Sock) {
+    fn close_after_end(&mut self, sock: Sock)
+        requires ended { (patient_seen self.old).ended ≡ true }
+        ensures counted { Closes (patient_seen self.old) (patient_seen self.new) }
+        ensures named { Named None sock None }
+        ensures owned { Owned (patient_sides self.old) (S.acts (patient_system self.old))
+            → Owned (patient_sides self.new) (S.acts (patient_system self.new)) }
+    {
         self.world.close_after_end(sock);
     }
 }

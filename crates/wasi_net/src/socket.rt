@@ -180,6 +180,13 @@ impl Socket {
         }
     }
 
+    /// Its descriptor, for what closes it.
+    pub fn into_descriptor(self) -> Descriptor
+        ensures { result ≡ self.descriptor }
+    {
+        self.descriptor
+    }
+
     /// The address that it is bound to.
     pub fn local<S: System>(&self, system: &mut S) -> Told
         ensures fits { IsAddr result }

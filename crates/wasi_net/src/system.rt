@@ -103,4 +103,8 @@ pub trait System {
     /// they are negative.
     fn poll(&mut self, fds: &mut [pollfd], timeout: i32) -> Result<usize, Errno>
         ensures { acts self.new ≡ after (act.Poll fds.old timeout result) (acts self.old) };
+
+    /// Closes a descriptor, whose number may then be given to another.
+    fn close(&mut self, descriptor: Descriptor)
+        ensures { acts self.new ≡ after (act.Close descriptor.number) (acts self.old) };
 }

@@ -1,6 +1,7 @@
 //! The world of the system's sockets.
 
-ghost use Rattle.std.specs.Prelude.{◌≡◌, ◌≤◌, ◌<◌, ◌^◌, None, IfOk, OnErr, length, false, true};
+ghost use Rattle.std.specs.Prelude.{◌≡◌, ◌≤◌, ◌<◌, ◌^◌, [], None, Some, IfOk, OnErr};
+ghost use Rattle.std.specs.Prelude.{length, false, true};
 ghost use Rattle.wasi_world.specs.Seen.{Counts};
 
 use crate::allowed::Allowed;
@@ -16,11 +17,12 @@ use wasi_world::{Call, OpId, Sock, Told, World};
 ///
 /// Each network socket is one socket of the system from its making on, whose calls don't wait. A
 /// look is one `poll` with no wait. What waits is the embedder, by `wait`, which returns once a
-/// socket that an earlier answer left pending may go on.
+/// socket that an earlier answer left pending may go on. Where the system gives no descriptor that
+/// is open, each socket has one of its own, and each is closed once.
 ///
 /// A check goes by the ports that are allowed, and says yes to this machine's own addresses alone,
-/// unless every address is allowed. A lookup finds the names that it was given, and asks nobody. The
-/// hop limit of an IPv6 socket is `NotSupported`.
+/// unless every address is allowed. A lookup finds the names that it was given, and asks nobody.
+/// The hop limit of an IPv6 socket is `NotSupported`.
 #[derive(Drop)]
 pub struct SystemWorld<S> {
     network: Network<S>,
@@ -42,7 +44,9 @@ fn count_after(faults: u64, told: &Told) -> u64
 impl<S> SystemWorld<S> {
     ghost use Rattle.wasi_net.specs.Allowed.{policy_of};
     ghost use Rattle.wasi_net.specs.Known.{IsUnused};
-    ghost use Rattle.wasi_net.specs.Net.{counts_of, seen_by, policy_in, names_in, sides_of, system_of};
+    ghost use Rattle.wasi_net.specs.Owned.{Owned};
+    ghost use Rattle.wasi_net.specs.Net.{counts_of, seen_by, policy_in, names_in, sides_of};
+    ghost use Rattle.wasi_net.specs.Net.{system_of};
 
     /// A network over this system, where these addresses may be used and these names are found. It
     /// opens nothing.
@@ -51,6 +55,7 @@ impl<S> SystemWorld<S> {
         ensures policy { policy_in result ≡ policy_of allowed }
         ensures names { names_in result ≡ hosts.entries.items }
         ensures sides { IsUnused (sides_of result) }
+        ensures owned { Owned (sides_of result) (Some []) }
         ensures system { system_of result ≡ system }
     {
         SystemWorld {
@@ -97,7 +102,8 @@ impl<S> SystemWorld<S> {
 impl<S: System> SystemWorld<S> {
     ghost use Rattle.wasi_world.specs.Fits.{Fits};
     ghost use Rattle.wasi_net.specs.Known.{Same};
-    ghost use Rattle.wasi_net.specs.Answers.{OnNetwork};
+    ghost use Rattle.wasi_net.specs.Answers.{OnNetwork, NoMemory};
+    ghost use Rattle.wasi_net.specs.Owned.{Owned};
     ghost use Rattle.wasi_net.specs.Net.{seen_by, policy_in, names_in, sides_of, system_of};
 
     /// Waits until a socket that an earlier answer left pending may go on, for at most so many
@@ -109,6 +115,8 @@ impl<S: System> SystemWorld<S> {
         ensures policy { policy_in self.new ≡ policy_in self.old }
         ensures names { names_in self.new ≡ names_in self.old }
         ensures sides { sides_of self.new ≡ sides_of self.old }
+        ensures owned { Owned (sides_of self.old) (S.acts (system_of self.old))
+            → Owned (sides_of self.new) (S.acts (system_of self.new)) }
     {
         self.network.wait(timeout)
     }
@@ -128,6 +136,10 @@ impl<S: System> SystemWorld<S> {
             (sides_of self.old) op call.now told (sides_of self.new) (S.acts (system_of self.old))
             (S.acts (system_of self.new))) }
         ensures sides { OnErr result (Same (sides_of self.old) (sides_of self.new)) }
+        ensures undone { OnErr result (NoMemory (sides_of self.old) call.now
+            (S.acts (system_of self.old)) (S.acts (system_of self.new))) }
+        ensures owned { Owned (sides_of self.old) (S.acts (system_of self.old))
+            → Owned (sides_of self.new) (S.acts (system_of self.new)) }
         ensures policy { policy_in self.new ≡ policy_in self.old }
         ensures names { names_in self.new ≡ names_in self.old }
     {
@@ -142,11 +154,13 @@ impl<S: System> World for SystemWorld<S> {
     ghost use Rattle.wasi_world.specs.Asks.{one, one_write, AsksFor};
     ghost use Rattle.wasi_world.specs.Fits.{Fits, IsPlain, IsWritten};
     ghost use Rattle.wasi_world.specs.Script.{without_plan};
-    ghost use Rattle.wasi_world.specs.Closings.{Named};
-    ghost use Rattle.wasi_world.specs.Seen.{Closes};
+    ghost use Rattle.wasi_world.specs.Closings.{Named, NoneNamed};
+    ghost use Rattle.wasi_world.specs.Seen.{Closes, Ends};
     ghost use Rattle.wasi_net.specs.Does.{WriteDoes, SendDoes};
-    ghost use Rattle.wasi_net.specs.Known.{Same, With};
-    ghost use Rattle.wasi_net.specs.Answers.{OnNetwork, AnswersAt, Stays};
+    ghost use Rattle.wasi_net.specs.Known.{Same};
+    ghost use Rattle.wasi_net.specs.Answers.{OnNetwork, AnswersAt, Stays, NoMemory};
+    ghost use Rattle.wasi_net.specs.Answers.{ClosesOnly};
+    ghost use Rattle.wasi_net.specs.Owned.{Owned};
     ghost use Rattle.wasi_net.specs.Net.{seen_by, policy_in, names_in, sides_of, system_of};
 
     ghost seen = { seen_by };
@@ -170,6 +184,10 @@ impl<S: System> World for SystemWorld<S> {
             (sides_of self.old) op call told (sides_of self.new) (S.acts (system_of self.old))
             (S.acts (system_of self.new))) }
         ensures sides { OnErr result (Same (sides_of self.old) (sides_of self.new)) }
+        ensures undone { OnErr result (NoMemory (sides_of self.old) call
+            (S.acts (system_of self.old)) (S.acts (system_of self.new))) }
+        ensures owned { Owned (sides_of self.old) (S.acts (system_of self.old))
+            → Owned (sides_of self.new) (S.acts (system_of self.new)) }
         ensures policy { policy_in self.new ≡ policy_in self.old }
         ensures names { names_in self.new ≡ names_in self.old }
     {
@@ -193,6 +211,10 @@ impl<S: System> World for SystemWorld<S> {
             (Told.Code ErrorCode.InvalidState) sock (sides_of self.old sock) (sides_of self.old)
             told (sides_of self.new) (S.acts (system_of self.old)) (S.acts (system_of self.new))) }
         ensures sides { OnErr result (Same (sides_of self.old) (sides_of self.new)) }
+        ensures quiet { OnErr result (S.acts (system_of self.new)
+            ≡ S.acts (system_of self.old)) }
+        ensures owned { Owned (sides_of self.old) (S.acts (system_of self.old))
+            → Owned (sides_of self.new) (S.acts (system_of self.new)) }
         ensures policy { policy_in self.new ≡ policy_in self.old }
         ensures names { names_in self.new ≡ names_in self.old }
     {
@@ -222,6 +244,10 @@ impl<S: System> World for SystemWorld<S> {
             (Told.Code ErrorCode.InvalidState) sock (sides_of self.old sock) (sides_of self.old)
             told (sides_of self.new) (S.acts (system_of self.old)) (S.acts (system_of self.new))) }
         ensures sides { OnErr result (Same (sides_of self.old) (sides_of self.new)) }
+        ensures quiet { OnErr result (S.acts (system_of self.new)
+            ≡ S.acts (system_of self.old)) }
+        ensures owned { Owned (sides_of self.old) (S.acts (system_of self.old))
+            → Owned (sides_of self.new) (S.acts (system_of self.new)) }
         ensures policy { policy_in self.new ≡ policy_in self.old }
         ensures names { names_in self.new ≡ names_in self.old }
     {
@@ -233,7 +259,13 @@ impl<S: System> World for SystemWorld<S> {
         Ok(told)
     }
 
-    fn end(&mut self) {
+    fn end(&mut self)
+        requires open { (seen_by self.old).ended ≡ false }
+        ensures mark { Ends (seen_by self.old) (seen_by self.new) }
+        ensures none { NoneNamed None }
+        ensures owned { Owned (sides_of self.old) (S.acts (system_of self.old))
+            → Owned (sides_of self.new) (S.acts (system_of self.new)) }
+    {
         self.ended = true;
     }
 
@@ -241,7 +273,10 @@ impl<S: System> World for SystemWorld<S> {
         requires ended { (seen_by self.old).ended ≡ true }
         ensures counted { Closes (seen_by self.old) (seen_by self.new) }
         ensures named { Named None sock None }
-        ensures sides { With (sides_of self.old) sock None (sides_of self.new) }
+        ensures closes { ClosesOnly sock (sides_of self.old) (sides_of self.new)
+            (S.acts (system_of self.old)) (S.acts (system_of self.new)) }
+        ensures owned { Owned (sides_of self.old) (S.acts (system_of self.old))
+            → Owned (sides_of self.new) (S.acts (system_of self.new)) }
         ensures policy { policy_in self.new ≡ policy_in self.old }
         ensures names { names_in self.new ≡ names_in self.old }
     {

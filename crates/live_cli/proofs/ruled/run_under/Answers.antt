@@ -11,7 +11,7 @@ pub returns : goal.returns
 returns g c =
     let before = c.new-world.result in
     let after = c.run_script.new.world in
-    let begins : seen_under before.denied.items (patient_seen before.inner) ≡ counts_of false 0 0 = c.new-world.ensures ∙ ap (seen_under []) (c.new-network.ensures ∙ c.new-system.ensures.seen) in
+    let begins : seen_under before.denied.items (patient_seen before.inner) ≡ counts_of false 0 0 = c.new-world.ensures ∙ ap (seen_under []) c.world-network.ensures in
     let R : List WasiSocketsCtx → Seen → Type 0 = λ contexts old. RanScript contexts c.args.setup.limit (g.S.Source.reading c.args.source.now) (g.S.Source.reading c.run_script.new.reader) (g.K.Sink.writing c.args.sink.now) (g.K.Sink.writing c.run_script.new.writer) old (seen_under after.denied.items (patient_seen after.inner)) c.run_script.result in
     let C : ℕ → Type 0 = λ contexts. Completes contexts c.args.setup.limit (g.S.Source.reading c.args.source.now) (g.S.Source.reading c.run_script.new.reader) (g.K.Sink.writing c.args.sink.now) (g.K.Sink.writing c.run_script.new.writer) c.run_script.result in
     inr (record {

@@ -2,6 +2,9 @@ use Rattle.std.proofs.Common.{Ok, refl}
 use Rattle.wasi_world.proofs.Made.{asked_write}
 use Rattle.wasi_world.proofs.Walks.{asks_none}
 use Rattle.wasi_net.proofs.Counted.{passes_one}
+use Rattle.wasi_net.specs.Known.{known_sides}
+use Rattle.wasi_net.specs.Owned.{Owned}
+use Rattle.wasi_net.proofs.Keeping.{write_keeps}
 use Rattle.wasi_net.proofs.system_world.SystemWorldWorld.write.Goals as goal
 
 pub returns-in_err-reserve-clause-asked : goal.returns-in_err-reserve-clause-asked
@@ -13,3 +16,9 @@ returns-in_err-told-clause-asked g c = asks_none _ _ c.from_residual-in_err-told
 pub returns-clause-asked : goal.returns-clause-asked
 returns-clause-asked g c =
     asked_write c.args.op c.args.sock c.args.bytes.now _ _ (Ok c.in_ok-told.told) (passes_one _ _ _ _ _ c.count_after-self.ensures) c.in_ok-told.ensures.fits c.in_ok-told.ensures.front tt
+
+pub returns-clause-owned : goal.returns-clause-owned
+returns-clause-owned g c = λ h.
+    let moved : Owned (known_sides c.reserve.new.self.sides) (g.S.System.acts c.reserve.new.self.system) = rw (c.reserve.ensures.sides, c.reserve.ensures.system) h in
+    rw (c.note.ensures.sides, c.note.ensures.system)
+    (write_keeps c.args.sock c.args.bytes.now _ (known_sides c.reserve.new.self.sides) _ _ _ _ c.in_ok-told.ensures.does moved)

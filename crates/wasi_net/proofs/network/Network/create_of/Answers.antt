@@ -2,7 +2,7 @@ use Rattle.std.proofs.Common.{rules, Ok, Err, subst}
 use Rattle.wasi_net.specs.Known.{known_sides}
 use Rattle.wasi_net.specs.Answers.{OnMade}
 use Rattle.wasi_net.proofs.Results.{if_ok}
-use Rattle.wasi_net.proofs.network.Network.create.Goals as goal
+use Rattle.wasi_net.proofs.network.Network.create_of.Goals as goal
 
 pub returns-in-Ok-clause-does : goal.returns-in-Ok-clause-does
 returns-in-Ok-clause-does g c =
