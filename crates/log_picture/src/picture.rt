@@ -2,7 +2,7 @@
 //! socket, and a row for each entry.
 
 use crate::columns::{Asked, Column, Columns, asked_of};
-use crate::svg::{Point, Tone, allows, cross, dot, label, line, text};
+use crate::svg::{Point, Tone, allows, cross, dot, goes_on, label, line, text};
 use crate::yes::allowed_by;
 use std::alloc::{AllocError, Global};
 use std::fmt::Write;
@@ -33,6 +33,8 @@ const COLUMN: usize = 64;
 
 /// A column that begins below so many rows has its name there too.
 const FAR: usize = 24;
+/// Behind so many columns of network sockets, a row's text stands at its network socket too.
+const WIDE: usize = 12;
 
 /// A row: an entry, with its text and its place in the log.
 #[derive(Drop)]
@@ -49,6 +51,8 @@ struct Layout {
     check: usize,
     lookups: usize,
     sockets: usize,
+    /// From where on a row's text stands at its network socket too.
+    far: usize,
     width: usize,
     bottom: usize,
 }
@@ -65,12 +69,17 @@ impl Layout {
         } else {
             lookups
         };
+        let far = sockets.saturating_add(WIDE * COLUMN);
+        let texts = if columns.count > WIDE { guest } else { 0 };
         Layout {
             guest,
             check,
             lookups,
             sockets,
-            width: sockets.saturating_add(columns.list.len().max(2).saturating_mul(COLUMN)),
+            far,
+            width: sockets
+                .saturating_add(columns.count.max(2).saturating_mul(COLUMN))
+                .saturating_add(texts),
             bottom: row_at(rows.len()),
         }
     }
@@ -217,25 +226,47 @@ fn push_lifelines(
         };
         text(svg, at, Tone::Plain, b"network sockets")?;
     }
-    for (place, column) in columns.list.iter().enumerate() {
-        let x = layout.socket(place);
-        push_socket_name(svg, Point { x, y: 52 }, column)?;
-        if column.first > FAR {
+    for column in columns.list.iter() {
+        let x = layout.socket(column.place);
+        if column.is_first {
+            push_socket_name(svg, Point { x, y: 52 }, column)?;
+        }
+        if column.first > FAR || !column.is_first {
             let y = row_at(column.first).saturating_sub(8);
             push_socket_name(svg, Point { x, y }, column)?;
         }
-        let bottom = if column.is_closed || (is_whole && !column.is_made) {
-            row_at(column.upto.saturating_sub(1))
-        } else {
-            layout.bottom
-        };
-        let from = Point {
-            x,
-            y: row_at(column.first),
-        };
-        line(svg, from, Point { x, y: bottom }, Tone::Quiet)?;
+        push_lifeline(svg, layout, column, is_whole)?;
     }
     Ok(())
+}
+
+/// Appends the line down from a network socket's first row: to where it is closed, or to the end.
+/// One that gave up its place before is marked.
+fn push_lifeline(
+    svg: &mut String,
+    layout: &Layout,
+    column: &Column,
+    is_whole: bool,
+) -> Result<(), AllocError> {
+    let x = layout.socket(column.place);
+    let from = Point {
+        x,
+        y: row_at(column.first),
+    };
+    if column.is_closed || (is_whole && !column.is_made) {
+        let y = row_at(column.upto.saturating_sub(1));
+        return line(svg, from, Point { x, y }, Tone::Quiet);
+    }
+    let Some(next) = column.next else {
+        let y = layout.bottom;
+        return line(svg, from, Point { x, y }, Tone::Quiet);
+    };
+    let to = Point {
+        x,
+        y: row_at(next).saturating_sub(ROW + ROW / 2),
+    };
+    line(svg, from, to, Tone::Quiet)?;
+    goes_on(svg, to)
 }
 
 /// Appends the name of a network socket: the line that made it, and its part.
@@ -281,7 +312,7 @@ fn push_rows(
                 svg,
                 layout,
                 columns,
-                rows,
+                &rows[..number.min(rows.len())],
                 place,
                 Point { x: 0, y },
                 row.entry,
@@ -309,7 +340,20 @@ fn push_line_number(
     write!(svg, "<text x=\"{x}\" y=\"{y}\">{step}</text>\n")
 }
 
-/// Appends one row: its text, and an arrow to whom it asks.
+/// Appends the front of a row's text.
+fn push_text(svg: &mut String, at: Point, tone: Tone, row: &Row<'_>) -> Result<(), AllocError> {
+    let y = at.y.saturating_add(4);
+    let bytes = row.text.as_bytes();
+    let shown = &bytes[..bytes.len().min(MOST_SHOWN)];
+    text(svg, Point { x: at.x, y }, tone, shown)?;
+    if shown.len() < bytes.len() {
+        let x = at.x.saturating_add(MOST_SHOWN * CHARACTER);
+        text(svg, Point { x, y }, tone, b"..")?;
+    }
+    Ok(())
+}
+
+/// Appends one row: its text, and a line to whom it asks.
 fn push_row(
     svg: &mut String,
     layout: &Layout,
@@ -318,19 +362,13 @@ fn push_row(
     row: &Row<'_>,
 ) -> Result<(), AllocError> {
     let tone = tone(&row.entry.answer);
-    let at = Point {
-        x: TEXTS,
-        y: y.saturating_add(4),
-    };
-    let bytes = row.text.as_bytes();
-    let shown = &bytes[..bytes.len().min(MOST_SHOWN)];
-    text(svg, at, tone, shown)?;
-    if shown.len() < bytes.len() {
-        let x = TEXTS + MOST_SHOWN * CHARACTER;
-        text(svg, Point { x, y: at.y }, tone, b"..")?;
-    }
+    push_text(svg, Point { x: TEXTS, y }, tone, row)?;
     let guest = Point { x: layout.guest, y };
     if let Some(x) = target(layout, columns, row.entry) {
+        if x >= layout.far {
+            let beside = x.saturating_add(10);
+            push_text(svg, Point { x: beside, y }, tone, row)?;
+        }
         line(svg, guest, Point { x, y }, tone)?;
         match row.entry.call {
             Call::Close { .. } => cross(svg, Point { x, y })?,
@@ -340,7 +378,7 @@ fn push_row(
     dot(svg, guest, Tone::Quiet)
 }
 
-/// Joins the yes at a place of the log to the call that it allows.
+/// Joins the yes at a place of the log, which is among these rows, to the call that it allows.
 fn push_yes(
     svg: &mut String,
     layout: &Layout,
@@ -367,11 +405,13 @@ fn push_yes(
 fn push_end(svg: &mut String, layout: &Layout, columns: &Columns) -> Result<(), AllocError> {
     let y = layout.bottom;
     let mut count: u64 = 0;
-    for (place, column) in columns.list.iter().enumerate() {
+    for column in columns.list.iter() {
         if column.is_made && !column.is_closed {
             count = count.saturating_add(1);
-            let x = layout.socket(place);
-            cross(svg, Point { x, y })?;
+            if column.next.is_none() {
+                let x = layout.socket(column.place);
+                cross(svg, Point { x, y })?;
+            }
         }
     }
     let (x, y) = (TEXTS, y.saturating_add(4));

@@ -102,6 +102,18 @@ pub fn cross(svg: &mut String, at: Point) -> Result<(), AllocError> {
     )
 }
 
+/// Appends the mark where a network socket that is open isn't drawn any further.
+pub fn goes_on(svg: &mut String, at: Point) -> Result<(), AllocError> {
+    let (left, right) = (at.x.saturating_sub(4), at.x.saturating_add(4));
+    let top = at.y.saturating_sub(4);
+    let colour = Tone::Pending.colour();
+    write!(
+        svg,
+        "<path d=\"M{left} {top}L{} {}L{right} {top}\" fill=\"none\" stroke=\"{colour}\"/>\n",
+        at.x, at.y
+    )
+}
+
 /// Appends the curve from a yes to the call that it allows.
 pub fn allows(svg: &mut String, yes: Point, call: Point) -> Result<(), AllocError> {
     let colour = Tone::Yes.colour();
