@@ -3,6 +3,7 @@
 #![tactic(auto)]
 
 pub mod arming;
+mod defaults;
 pub mod lists;
 mod queue;
 pub mod scenario;

@@ -1,6 +1,6 @@
 //! The planned answers of every kind, and how far they are used.
 
-ghost use Rattle.std.specs.Prelude.{◌≡◌, ◌<◌, IfOk, OnOk, OnErr, Some, None, true, length};
+ghost use Rattle.std.specs.Prelude.{◌≡◌, ◌<◌, IfOk, OnOk, OnErr, Some, None, true, length, []};
 ghost use Rattle.std.specs.Prelude.{slice_get, option_map, IfSome};
 ghost use Rattle.wasi_world.specs.Asks.{IsFront};
 ghost use Rattle.wasi_world.specs.Fits.{Fits};
@@ -125,6 +125,16 @@ impl Lists {
         match kind_of(call) {
             Some(kind) => self.queues[place(kind)].tell(alloc, call, bytes),
             None => Ok(None),
+        }
+    }
+
+    /// Whether no answer is left for the call, or it takes none.
+    pub(crate) fn is_used_up(&self, call: &Call) -> bool
+        ensures { result ≡ true → waiting self.now.left (kind_of call.now) ≡ [] }
+    {
+        match kind_of(call) {
+            Some(kind) => self.queues[place(kind)].is_used_up(),
+            None => true,
         }
     }
 

@@ -1,6 +1,7 @@
 //! The planned answers of one kind, and how far they are used.
 
 ghost use Rattle.std.specs.Prelude.{◌≡◌, IfOk, OnOk, OnErr, [], ◌∷◌, ◌++◌, Some, None, length};
+ghost use Rattle.std.specs.Prelude.{true};
 ghost use Rattle.std.specs.Prelude.{take, drop, min, option_map, IfSome, ◌≤◌, slice_get};
 ghost use Rattle.wasi_world.specs.Asks.{IsFront};
 ghost use Rattle.world_scripted.specs.Queued.{planned_after, HasFront};
@@ -146,6 +147,13 @@ impl Queue {
             }
             None => Ok(None),
         }
+    }
+
+    /// Whether all its answers are used.
+    pub fn is_used_up(&self) -> bool
+        ensures { result ≡ true → self.now.left ≡ [] }
+    {
+        self.used >= self.answers.len()
     }
 
     /// Goes on to what is left after a call; takes no memory.

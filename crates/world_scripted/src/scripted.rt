@@ -1,21 +1,24 @@
 //! A world that answers from lists.
 
-ghost use Rattle.std.specs.Prelude.{◌≡◌, IfOk, OnErr, [], ◌∷◌, Some, true, false, length, List, ℕ};
+ghost use Rattle.std.specs.Prelude.{◌≡◌, IfOk, OnOk, OnErr, IfSome, Some, true};
+ghost use Rattle.std.specs.Prelude.{[], ◌∷◌, length, false};
 ghost use Rattle.wasi_world.specs.declared.call.Told.{Told};
 ghost use Rattle.wasi_world.specs.declared.ids.OpId.{OpId};
+ghost use Rattle.wasi_world.specs.declared.plan.Planned.{Planned};
 ghost use Rattle.wasi_world.specs.Asks.{IsFront};
 ghost use Rattle.wasi_world.specs.Fits.{Fits};
 ghost use Rattle.wasi_world.specs.Seen.{Counts, Passes, Plan};
 ghost use Rattle.wasi_world.specs.Kinds.{kind_of};
-ghost use Rattle.wasi_world.specs.Script.{Offers, offered, default, default_peer, as_planned};
+ghost use Rattle.wasi_world.specs.Script.{Offers, offered, default, as_planned};
 ghost use Rattle.wasi_world.specs.Script.{waiting, next_answer, progress, IsScripted};
 ghost use Rattle.wasi_world.specs.Sides.{unmade};
 ghost use Rattle.world_scripted.specs.Armed.{armed_left, told_at, stage_after};
 ghost use Rattle.world_scripted.specs.Known.{known};
 
 use crate::arming::Arming;
+use crate::defaults::{is_done_by_default, is_pending_by_default, tell_default};
 use crate::lists::Lists;
-use crate::sides::{Sides, keep, local_of, option_of, peer_of};
+use crate::sides::{Sides, keep, option_of};
 use std::alloc::{AllocError, Global};
 use std::collections::HashMap;
 use wasi_addr::{ErrorCode, IpSocketAddress};
@@ -28,45 +31,6 @@ fn count_after(faults: u64, told: &Told) -> u64
     match told {
         Told::Code(_) => faults.saturating_add(1),
         _ => faults,
-    }
-}
-
-/// The default answer to a `peer`.
-fn tell_peer(sides: &Sides, sock: Sock) -> Told
-    ensures told { as_planned result ≡ default_peer (known sides.now sock).peer }
-    ensures front { (bytes : List ℕ) → IsFront result bytes }
-{
-    match peer_of(sides, sock) {
-        Some(addr) => Told::Addr(addr),
-        None => Told::Code(ErrorCode::InvalidState),
-    }
-}
-
-/// Takes all of a write's bytes.
-fn take_all(alloc: Global, bytes: &[u8]) -> Result<Told, AllocError>
-    ensures { IfOk result (λ told. told ≡ Told.Took bytes.now) }
-{
-    let taken = Octets::copy_of(alloc, bytes)?;
-    Ok(Told::Took(taken))
-}
-
-/// The default answer to a call. `bytes` are those that a write offers, of which it takes all.
-fn tell_default(alloc: Global, sides: &Sides, call: &Call, bytes: &[u8]) -> Result<Told, AllocError>
-    requires { length bytes.now ≡ offered call.now }
-    ensures told { IfOk result (λ told. as_planned told ≡ default (known sides.now) call.now) }
-    ensures front { IfOk result (λ told. IsFront told bytes.now) }
-{
-    match call {
-        Call::Check { .. } => Ok(Told::Yes),
-        Call::Lookup { .. } => Ok(Told::Code(ErrorCode::Other)),
-        Call::Local { sock } => Ok(Told::Addr(local_of(sides, *sock))),
-        Call::Peer { sock } => Ok(tell_peer(sides, *sock)),
-        Call::Accept { .. } | Call::Read { .. } | Call::ReadReady { .. } | Call::Recv { .. } => {
-            Ok(Told::Pending)
-        }
-        Call::Write { .. } => take_all(alloc, bytes),
-        Call::GetOption { sock, option } => Ok(Told::Value(option_of(sides, *sock, *option))),
-        _ => Ok(Told::Done),
     }
 }
 
@@ -184,8 +148,118 @@ impl ScriptedWorld {
         tell(alloc, &self.lists, &self.sides, call, bytes)
     }
 
-    /// Answers a call and keeps it in the log. `bytes` are those that a write offers.
-    fn answer(&mut self, op: OpId, call: Call, bytes: &[u8]) -> Result<Told, AllocError>
+    /// Whether the call is answered by its default: no answer is planned for it, and it isn't the
+    /// one that the code answers.
+    #[inline(always)]
+    fn answers_by_default(&self, call: &Call) -> bool
+        ensures { result ≡ true → told_at (stage_of self.now) call.now
+            ≡ default (known self.now.sides) call.now }
+    {
+        !self.armed.falls(call) && self.lists.is_used_up(call)
+    }
+
+    /// The value that answers a call for an option by default; none where the answer is another.
+    #[inline(always)]
+    fn told_value(&self, call: &Call) -> Option<u64>
+        ensures told { IfSome result (λ value. Planned.Value value
+            ≡ told_at (stage_of self.now) call.now) }
+        ensures fits { IfSome result (λ value. Fits call.now (Told.Value value)) }
+    {
+        let Call::GetOption { sock, option } = call else {
+            return None;
+        };
+        if !self.answers_by_default(call) {
+            return None;
+        }
+        Some(option_of(&self.sides, *sock, *option))
+    }
+
+    /// Whether the call is answered done by default.
+    #[inline(always)]
+    fn tells_done(&self, call: &Call) -> bool
+        requires { Offers call.now }
+        ensures told { result ≡ true → Planned.Done ≡ told_at (stage_of self.now) call.now }
+        ensures fits { result ≡ true → Fits call.now Told.Done }
+    {
+        is_done_by_default(call) && self.answers_by_default(call)
+    }
+
+    /// Whether the call is answered pending by default.
+    #[inline(always)]
+    fn tells_pending(&self, call: &Call) -> bool
+        requires { Offers call.now }
+        ensures told { result ≡ true → Planned.Pending ≡ told_at (stage_of self.now) call.now }
+        ensures fits { result ≡ true → Fits call.now Told.Pending }
+    {
+        is_pending_by_default(call) && self.answers_by_default(call)
+    }
+
+    /// Keeps a call and its answer in the log, and goes on to what is left after it.
+    #[inline(always)]
+    fn note(&mut self, op: OpId, call: Call, answer: Told) -> Result<(), AllocError>
+        requires { as_planned answer ≡ told_at (stage_of self.old) call }
+        ensures passed { OnOk result (Passes (seen_by self.old)
+            ((record { op = op; call = call; answer = answer }) ∷ []) (seen_by self.new)) }
+        ensures stage { OnOk result (stage_of self.new ≡ stage_after (stage_of self.old)
+            (record { op = op; call = call; answer = answer })) }
+        ensures err { OnErr result (seen_by self.new ≡ seen_by self.old) }
+        ensures kept { OnErr result (stage_of self.new ≡ stage_of self.old) }
+    {
+        self.log.reserve(1)?;
+        keep(&mut self.sides, op, &call, &answer)?;
+        advance(&mut self.lists, self.armed, &call);
+        self.armed = self.armed.after(&call);
+        self.faults = count_after(self.faults, &answer);
+        self.log.push_reserved(Entry { op, call, answer });
+        Ok(())
+    }
+
+    /// Keeps a call that is answered by a value.
+    #[inline(never)]
+    fn note_value(&mut self, op: OpId, call: Call, value: u64) -> Result<(), AllocError>
+        requires { Planned.Value value ≡ told_at (stage_of self.old) call }
+        ensures passed { OnOk result (Passes (seen_by self.old)
+            ((record { op = op; call = call; answer = Told.Value value }) ∷ [])
+            (seen_by self.new)) }
+        ensures stage { OnOk result (stage_of self.new ≡ stage_after (stage_of self.old)
+            (record { op = op; call = call; answer = Told.Value value })) }
+        ensures err { OnErr result (seen_by self.new ≡ seen_by self.old) }
+        ensures kept { OnErr result (stage_of self.new ≡ stage_of self.old) }
+    {
+        self.note(op, call, Told::Value(value))
+    }
+
+    /// Keeps a call that is answered done.
+    #[inline(never)]
+    fn note_done(&mut self, op: OpId, call: Call) -> Result<(), AllocError>
+        requires { Planned.Done ≡ told_at (stage_of self.old) call }
+        ensures passed { OnOk result (Passes (seen_by self.old)
+            ((record { op = op; call = call; answer = Told.Done }) ∷ []) (seen_by self.new)) }
+        ensures stage { OnOk result (stage_of self.new ≡ stage_after (stage_of self.old)
+            (record { op = op; call = call; answer = Told.Done })) }
+        ensures err { OnErr result (seen_by self.new ≡ seen_by self.old) }
+        ensures kept { OnErr result (stage_of self.new ≡ stage_of self.old) }
+    {
+        self.note(op, call, Told::Done)
+    }
+
+    /// Keeps a call that is answered pending.
+    #[inline(never)]
+    fn note_pending(&mut self, op: OpId, call: Call) -> Result<(), AllocError>
+        requires { Planned.Pending ≡ told_at (stage_of self.old) call }
+        ensures passed { OnOk result (Passes (seen_by self.old)
+            ((record { op = op; call = call; answer = Told.Pending }) ∷ []) (seen_by self.new)) }
+        ensures stage { OnOk result (stage_of self.new ≡ stage_after (stage_of self.old)
+            (record { op = op; call = call; answer = Told.Pending })) }
+        ensures err { OnErr result (seen_by self.new ≡ seen_by self.old) }
+        ensures kept { OnErr result (stage_of self.new ≡ stage_of self.old) }
+    {
+        self.note(op, call, Told::Pending)
+    }
+
+    /// Answers any call and keeps it in the log. `bytes` are those that a write offers.
+    #[inline(never)]
+    fn answer_any(&mut self, op: OpId, call: Call, bytes: &[u8]) -> Result<Told, AllocError>
         requires some { Offers call }
         requires offered { length bytes.now ≡ offered call }
         ensures passed { IfOk result (λ told. Passes (seen_by self.old)
@@ -200,13 +274,39 @@ impl ScriptedWorld {
     {
         let told = self.tell(&call, bytes)?;
         let answer = told.try_clone()?;
-        self.log.reserve(1)?;
-        keep(&mut self.sides, op, &call, &told)?;
-        advance(&mut self.lists, self.armed, &call);
-        self.armed = self.armed.after(&call);
-        self.faults = count_after(self.faults, &told);
-        self.log.push_reserved(Entry { op, call, answer });
+        self.note(op, call, answer)?;
         Ok(told)
+    }
+
+    /// Answers a call and keeps it in the log. `bytes` are those that a write offers. What is told
+    /// by default for most calls, a value, done or pending, moves no other answer.
+    #[inline(always)]
+    fn answer(&mut self, op: OpId, call: Call, bytes: &[u8]) -> Result<Told, AllocError>
+        requires some { Offers call }
+        requires offered { length bytes.now ≡ offered call }
+        ensures passed { IfOk result (λ told. Passes (seen_by self.old)
+            ((record { op = op; call = call; answer = told }) ∷ []) (seen_by self.new)) }
+        ensures fits { IfOk result (λ told. Fits call told) }
+        ensures front { IfOk result (λ told. IsFront told bytes.now) }
+        ensures told { IfOk result (λ told. as_planned told ≡ told_at (stage_of self.old) call) }
+        ensures stage { IfOk result (λ told. stage_of self.new ≡ stage_after (stage_of self.old)
+            (record { op = op; call = call; answer = told })) }
+        ensures err { OnErr result (seen_by self.new ≡ seen_by self.old) }
+        ensures kept { OnErr result (stage_of self.new ≡ stage_of self.old) }
+    {
+        if let Some(value) = self.told_value(&call) {
+            self.note_value(op, call, value)?;
+            return Ok(Told::Value(value));
+        }
+        if self.tells_done(&call) {
+            self.note_done(op, call)?;
+            return Ok(Told::Done);
+        }
+        if self.tells_pending(&call) {
+            self.note_pending(op, call)?;
+            return Ok(Told::Pending);
+        }
+        self.answer_any(op, call, bytes)
     }
 }
 
@@ -276,6 +376,7 @@ impl World for ScriptedWorld {
 
     /// Makes any call but a write and a send; `told` and `stage` say what a world that is armed
     /// answers.
+    #[inline(always)]
     fn call(&mut self, op: OpId, call: Call) -> Result<Told, AllocError>
         requires open { (seen_by self.old).ended ≡ false }
         requires plain { IsPlain call }

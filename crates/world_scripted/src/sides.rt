@@ -1,10 +1,12 @@
 //! What a scripted world knows of its network sockets: what the defaults of `local`, `peer` and
 //! `get-option` go by.
 
-ghost use Rattle.std.specs.Prelude.{◌≡◌, OnOk, OnErr, None, Some};
+ghost use Rattle.std.specs.Prelude.{◌≡◌, OnOk, OnErr, None, Some, true};
 ghost use Rattle.std.specs.HashMap.{IsUnchanged};
 ghost use Rattle.wasi_addr.specs.Address.{wildcard};
 ghost use Rattle.wasi_world.specs.declared.call.Told.{Told};
+ghost use Rattle.wasi_world.specs.declared.ids.OpId.{OpId};
+ghost use Rattle.wasi_world.specs.declared.sides.Side.{Side};
 ghost use Rattle.wasi_world.specs.Sides.{unset, value_of, with_value, new_side, chosen_port};
 ghost use Rattle.wasi_world.specs.Sides.{with_port, bound, bound_anyway, default_local, connected};
 ghost use Rattle.wasi_world.specs.Sides.{disconnected, handed, with_option, change, changed};
@@ -179,6 +181,7 @@ pub fn known(sides: &Sides, sock: Sock) -> Side
 }
 
 /// The value of an option of a network socket.
+#[inline(always)]
 pub fn option_of(sides: &Sides, sock: Sock, option: Opt) -> u64
     ensures { result ≡ value_of (known sides.now sock).options option }
 {
@@ -286,8 +289,29 @@ fn put(sides: &mut Sides, sock: Sock, side: Side) -> Result<(), AllocError>
     Ok(())
 }
 
+/// Whether a call changes no network socket.
+#[inline(always)]
+fn changes_none(call: &Call) -> bool
+    ensures { result ≡ true → (sides : OpId → Side) (op : OpId) → change sides op call.now ≡ None }
+{
+    match call {
+        Call::TcpCreate { .. }
+        | Call::UdpCreate { .. }
+        | Call::Bind { .. }
+        | Call::UdpBind { .. }
+        | Call::Connect { .. }
+        | Call::UdpConnect { .. }
+        | Call::Send { .. }
+        | Call::Hand { .. }
+        | Call::UdpDisconnect { .. }
+        | Call::SetOption { .. } => false,
+        _ => true,
+    }
+}
+
 /// Keeps what a call that is done changed; takes memory where its network socket is new.
-fn keep_done(sides: &mut Sides, op: OpId, call: &Call) -> Result<(), AllocError>
+#[inline(never)]
+fn keep_change(sides: &mut Sides, op: OpId, call: &Call) -> Result<(), AllocError>
     ensures ok { OnOk result ((sock : OpId) → known sides.new sock
         ≡ sides_after (known sides.old) op call.now Told.Done sock) }
     ensures err { OnErr result (IsUnchanged sides.old sides.new) }
@@ -298,7 +322,21 @@ fn keep_done(sides: &mut Sides, op: OpId, call: &Call) -> Result<(), AllocError>
     put(sides, sock, side)
 }
 
+/// Keeps what a call that is done changed, where it changes a network socket.
+#[inline(always)]
+fn keep_done(sides: &mut Sides, op: OpId, call: &Call) -> Result<(), AllocError>
+    ensures ok { OnOk result ((sock : OpId) → known sides.new sock
+        ≡ sides_after (known sides.old) op call.now Told.Done sock) }
+    ensures err { OnErr result (IsUnchanged sides.old sides.new) }
+{
+    if changes_none(call) {
+        return Ok(());
+    }
+    keep_change(sides, op, call)
+}
+
 /// Keeps what an answered call changed; takes memory where its network socket is new.
+#[inline(always)]
 pub fn keep(sides: &mut Sides, op: OpId, call: &Call, told: &Told) -> Result<(), AllocError>
     ensures ok { OnOk result ((sock : OpId) → known sides.new sock
         ≡ sides_after (known sides.old) op call.now told.now sock) }

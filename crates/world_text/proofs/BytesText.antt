@@ -1,15 +1,9 @@
 -- The text of bytes, a byte at a time.
 use Rattle.std.proofs.Common.{◌≡◌, ℕ, ◌+◌, ◌/◌, ◌%◌, ◌≤◌, ◌<◌, false, eqb, List, [], ◌∷◌, ◌++◌, length, take, slice_index, arith, ap, refl, ◌==◌, ◌^◌, ◌-◌}
 use Rattle.std.specs.Fmt.{digit_glyph, digits, padded_integral, format_spec}
-use Rattle.std.proofs.lemmas.Bool.{eqb-true, ltb-true, and_parts}
+use Rattle.std.proofs.lemmas.Bool.{eqb-true}
 use Rattle.std.proofs.lemmas.List.{take_more, take_all}
 use Rattle.std.proofs.lemmas.Fmt.{hex_byte}
-use Rattle.std.specs.Str.{IsAscii}
-use Rattle.std.proofs.Common.{IsUtf8, true, ltb}
-use Rattle.std.specs.List.{list_all}
-use Rattle.std.proofs.lemmas.Str.{IsUtf8-from_ascii}
-use Rattle.std.proofs.lemmas.Str.Ascii.{IsAscii-nil, IsAscii-cons}
-use Rattle.hex.proofs.HexLemmas.{IsAscii-encode_with}
 use Rattle.hex.specs.Hex.{lower_digits, encode_with, encode_lower}
 use Rattle.world_text.specs.Fields.{bytes_text}
 use Rattle.world_text.proofs.BytesBack.{passes_at}
@@ -37,14 +31,3 @@ encode_next bytes i at = rw (take_more bytes i 0 at, encode-append (take i bytes
 pub encode_whole : (bytes : List ℕ) (i : ℕ) → (length bytes == 0) ≡ false → length bytes ≤ i → encode_lower (take i bytes) ≡ bytes_text bytes
 encode_whole [] i some past = cc
 encode_whole (byte ∷ bytes) i some past = ap encode_lower (take_all i (byte ∷ bytes) past)
-
--- bytes that a test says are ASCII
-ascii_from_test : (bytes : List ℕ) → list_all (λ b. ltb b 128) bytes ≡ true → IsAscii bytes
-ascii_from_test [] all = IsAscii-nil
-ascii_from_test (b ∷ bytes) all =
-    let both = and_parts (ltb b 128) _ all in
-    IsAscii-cons b bytes (ltb-true _ _ both.0) (ascii_from_test bytes both.1)
-
--- the digits of bytes are text
-pub encoded_is_text : (bytes : List ℕ) → IsUtf8 (encode_lower bytes)
-encoded_is_text bytes = IsUtf8-from_ascii _ (IsAscii-encode_with lower_digits bytes (ascii_from_test lower_digits refl))

@@ -2,6 +2,7 @@
 //! log.
 #![tactic(auto)]
 
+pub mod digits;
 pub mod fields;
 pub mod lines;
 pub mod spelling;

@@ -1,7 +1,7 @@
 use Rattle.std.proofs.Common.{arith, ◌∙◌, ◌*◌}
 use Rattle.hex.proofs.HexLemmas.{decode_of-even}
 use Rattle.hex.proofs.Pairs.{decode_step, decode_done}
-use Rattle.world_text.proofs.fields.decode_into.Goals as goal
+use Rattle.world_text.proofs.digits.decode_into.Goals as goal
 
 pub bytes-preserved : goal.bytes-preserved
 bytes-preserved c =

@@ -1,7 +1,7 @@
 use Rattle.std.proofs.Common.{◌≡◌, ◌*◌, take, drop}
 use Rattle.hex.specs.Hex.{decode_pairs}
 use Rattle.hex.proofs.Pairs.{prepend}
-use Rattle.world_text.proofs.fields.decode_into.Given as goal
+use Rattle.world_text.proofs.digits.decode_into.Given as goal
 
 abbrev pub invariant-bytes : goal.invariant-bytes
 invariant-bytes l =

@@ -1,7 +1,7 @@
 use Rattle.std.proofs.Common.{arith}
 use Rattle.hex.specs.Hex.{lower_digits}
 use Rattle.hex.proofs.Pairs.{encode_step, encode_done}
-use Rattle.world_text.proofs.fields.encode_into.Goals as goal
+use Rattle.world_text.proofs.digits.encode_into.Goals as goal
 
 pub bytes-preserved : goal.bytes-preserved
 bytes-preserved c =
