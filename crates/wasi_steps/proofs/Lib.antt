@@ -1,4 +1,5 @@
 pub mod StepWords
+pub mod FieldWords
 pub mod LineEnds
 pub mod UpTo
 pub mod DatagramLaws

@@ -22,8 +22,8 @@ use Rattle.wasi_steps.specs.declared.guest_call.GuestCall.{GuestCall}
 use Rattle.wasi_steps.specs.declared.guest_call.GuestCall.TheVariants as guest
 use Rattle.wasi_steps.specs.declared.step.Step.{Step}
 use Rattle.wasi_steps.specs.declared.step.Step.TheVariants as step
-use Rattle.wasi_steps.specs.Reply.{ip_values, address_values, received_values, datagram_values, numbers_fields}
-use Rattle.wasi_steps.specs.Replies.{code_text, trap_text, field_text, fields_of_reply, text_of, FieldKind, ANumber, SomeBytes, Truth, Nothing, FieldKinds, Each, AnAddress, AnIpOrNone, ADatagramList, SomeNumbers, OfAPolledCall, kinds_of, IsOfKind, EachOfKind, AreOfKinds, AreNumbers, FitsReceived, GivesAs, Gives, is_poll, polled_fields}
+use Rattle.wasi_steps.specs.Reply.{ip_values, address_values, ips_values, received_values, datagram_values, numbers_fields}
+use Rattle.wasi_steps.specs.Replies.{code_text, trap_text, field_text, fields_of_reply, text_of, FieldKind, ANumber, SomeBytes, Truth, Nothing, FieldKinds, Each, AnAddress, AnIpOrNone, ADatagramList, SomeNumbers, SomeIps, OfAPolledCall, kinds_of, IsOfKind, EachOfKind, AreOfKinds, AreNumbers, AreIps, FitsReceived, GivesAs, Gives, is_poll, polled_fields}
 use Rattle.wasi_steps.specs.Steps.{call_signature}
 use Rattle.wasi_steps.proofs.LineEnds.{both_visible}
 
@@ -94,6 +94,7 @@ of_kinds AnAddress n = address_at >>= λ a. give (address_values a)
 of_kinds AnIpOrNone n = ip_or_none n
 of_kinds ADatagramList n = number_at 18446744073709551615 >>= λ count. times_at count >>= λ ds. give (datagram_values ds)
 of_kinds SomeNumbers n = some_numbers n
+of_kinds SomeIps n = some_numbers n
 of_kinds OfAPolledCall n = give_some None
 
 rows : FieldKinds → ℕ → List (Row Reply)
@@ -180,6 +181,20 @@ all_numbers : (fields : List Field) → AreNumbers fields → All (some_numbers 
 unfolding some_numbers
 all_numbers fields are = all_each (so_many_numbers (length (map field_text fields))) fields (are_numbers fields are)
 
+-- the addresses of a lookup are numbers too
+each_ip : (ips : List IpAddress) → AllByRecursion FitsIp ips → EachOfKind (so_many_numbers (length (map field_text (ips_values ips)))) (ips_values ips)
+unfolding so_many_numbers
+each_ip [] fits = tt
+each_ip (ip.Ipv4 a ∷ ips) fits = let more = each_ip ips fits.1 in search (arith, more)
+each_ip (ip.Ipv6 a ∷ ips) fits = let more = each_ip ips fits.1 in search (arith, more)
+
+are_ips : (fields : List Field) → AreIps fields → EachOfKind (so_many_numbers (length (map field_text fields))) fields
+are_ips fields are = rw are.numbers (each_ip are.addresses are.fits)
+
+all_ips : (fields : List Field) → AreIps fields → All (some_numbers (suc (length (map field_text fields)))) fields (map field_text fields)
+unfolding some_numbers
+all_ips fields are = all_each (so_many_numbers (length (map field_text fields))) fields (are_ips fields are)
+
 -- it is known which kinds the fields are of
 abbrev AreKnown : FieldKinds → Type 0
 AreKnown OfAPolledCall = ⊥
@@ -202,6 +217,7 @@ all_of_kinds AnIpOrNone fields known are = all_ip_or_none fields are
 all_of_kinds ADatagramList fields known are =
     rw are.values (all_then _ (number_exactly 18446744073709551615 (omega arith)) (let count = are.count in omega arith) (all_end _ (all_times are.datagrams are.fits) all_give))
 all_of_kinds SomeNumbers fields known are = all_numbers fields are
+all_of_kinds SomeIps fields known are = all_ips fields are
 all_of_kinds OfAPolledCall fields known are = absurd known
 
 code_all : (code : CodeWord) → All code_at code (code_text code ∷ [])
@@ -271,6 +287,7 @@ fields_visible AnAddress fields known are =
 fields_visible AnIpOrNone fields known are = ip_or_none_visible fields are
 fields_visible ADatagramList fields known are = rw are.values (number_visible (length are.datagrams) are.count, received_visible are.datagrams are.fits)
 fields_visible SomeNumbers fields known are = each_visible (so_many_numbers (length (map field_text fields))) fields (are_numbers fields are)
+fields_visible SomeIps fields known are = each_visible (so_many_numbers (length (map field_text fields))) fields (are_ips fields are)
 fields_visible OfAPolledCall fields known are = absurd known
 
 reply_visible : (kinds : FieldKinds) (r : Reply) → AreKnown kinds → GivesAs kinds r → AreVisible (fields_of_reply r)

@@ -2,7 +2,7 @@
 use Rattle.std.specs.Prelude.{ℕ, Bool, true, false, ◌==◌, List, [], ◌∷◌, ◌++◌, map, codes, Option, Some, None}
 use Rattle.world_text.specs.Fields.{line_with}
 use Rattle.wasi_steps.specs.declared.step.Step.{Step}
-use Rattle.wasi_steps.specs.Arguments.{Target, ANetwork, ASocket, ASocket3, ADatagramSocket, ADatagramSocket3, AnInput, AnOutput, AnIncoming, AnOutgoing, ALookup, AnError, Watchable, APollable, Anything, Kind, HandleOf, ALine, ACount, ACapacity, AFamily, ASocketAddress, AnOption, ASetting, AUdpOption, AUdpSetting, AHalf, AllBytes, ARemote, SomeDatagrams, SomePollables, AName}
+use Rattle.wasi_steps.specs.Arguments.{Target, ANetwork, ASocket, ASocket3, ADatagramSocket, ADatagramSocket3, AListener3, AnInput, AnOutput, AnIncoming, AnOutgoing, ALookup, AnError, Watchable, APollable, Anything, Kind, HandleOf, ALine, ACount, ACapacity, AFamily, ASocketAddress, AnOption, ASetting, AUdpOption, AUdpSetting, AHalf, AllBytes, ARemote, SomeDatagrams, SomePollables, AName, AReadEnd3, AWriteEnd3, AResult3}
 use Rattle.wasi_steps.specs.Steps.{context_of, written_of}
 
 -- the letters for a handle, and for an argument
@@ -20,6 +20,10 @@ handle_letters ALookup = codes "R"
 handle_letters AnError = codes "E"
 handle_letters Watchable = codes "H"
 handle_letters APollable = codes "P"
+handle_letters AListener3 = codes "H"
+handle_letters AReadEnd3 = codes "H"
+handle_letters AWriteEnd3 = codes "W"
+handle_letters AResult3 = codes "R"
 handle_letters Anything = codes "H"
 
 abbrev pub letters : Kind → List ℕ

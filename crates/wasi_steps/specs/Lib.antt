@@ -1,3 +1,4 @@
+pub mod KeptFields
 pub mod Reply
 pub mod Settings
 pub mod Datagrams

@@ -14,10 +14,10 @@ use Rattle.wasi_steps.specs.declared.reply.Field.{Field}
 use Rattle.wasi_steps.specs.declared.reply.Field.TheVariants as field
 use Rattle.wasi_steps.specs.declared.reply.Reply.{Reply}
 use Rattle.wasi_steps.specs.declared.reply.Reply.TheVariants as reply
-use Rattle.wasi_steps.specs.Reply.{ip_values, address_values, datagram_values, numbers_fields}
+use Rattle.wasi_steps.specs.Reply.{ip_values, ips_values, address_values, datagram_values, numbers_fields}
 use Rattle.wasi_steps.specs.declared.step.Step.{Step}
 use Rattle.wasi_steps.specs.declared.step.Step.TheVariants as step
-pub use Rattle.wasi_steps.specs.Steps.{FieldKind, ANumber, SomeBytes, Truth, Nothing, FieldKinds, Each, AnAddress, AnIpOrNone, ADatagramList, SomeNumbers, OfAPolledCall, polled_kinds, polled_fields, kinds_of}
+pub use Rattle.wasi_steps.specs.Steps.{FieldKind, ANumber, SomeBytes, Truth, Nothing, FieldKinds, Each, AnAddress, AnIpOrNone, ADatagramList, SomeNumbers, SomeIps, OfAPolledCall, polled_kinds, polled_fields, kinds_of}
 
 -- the words of codes
 abbrev pub code_text : CodeWord → List ℕ
@@ -126,6 +126,12 @@ pub record AreNumbers (fields : List Field) : Type 0 where
   pub fits : AllByRecursion (λ n. n < 2 ^ 64) (first ∷ others)
   pub values : fields ≡ numbers_fields (first ∷ others)
 
+-- These are the numbers that some addresses with no port are written as.
+pub record AreIps (fields : List Field) : Type 0 where
+  pub addresses : List IpAddress
+  pub fits : AllByRecursion FitsIp addresses
+  pub numbers : fields ≡ ips_values addresses
+
 -- one field of each kind in one of the lists
 abbrev pub AsOneSays : List (List FieldKind) → List Field → Type 0
 AsOneSays [] fields = ⊥
@@ -137,7 +143,8 @@ AreOfKinds AnAddress fields = AreAnAddress fields
 AreOfKinds AnIpOrNone fields = (fields ≡ field.Absent ∷ []) ⊎ AreAnIp fields
 AreOfKinds ADatagramList fields = AreDatagrams fields
 AreOfKinds SomeNumbers fields = AreNumbers fields
-AreOfKinds OfAPolledCall fields = AsOneSays polled_kinds fields ⊎ AreNumbers fields
+AreOfKinds SomeIps fields = AreIps fields
+AreOfKinds OfAPolledCall fields = AsOneSays polled_kinds fields ⊎ (AreNumbers fields ⊎ AreIps fields)
 
 -- a reply with fields of these kinds where it has any, and with numbers that are within their widths
 abbrev pub GivesAs : FieldKinds → Reply → Type 0

@@ -8,7 +8,7 @@ use std::alloc::{AllocError, Global};
 use wasi_addr::{
     IpAddress, IpSocketAddress, Ipv4SocketAddress, Ipv6SocketAddress, SocketAddressFamily,
 };
-use wasi_world::{IncomingDatagram, IncomingDatagrams, NumberList, Octets};
+use wasi_world::{IncomingDatagram, IncomingDatagrams, IpList, NumberList, Octets};
 
 /// A value that the fields of an `ok` reply tell.
 pub trait IntoFields {
@@ -18,7 +18,7 @@ pub trait IntoFields {
     /// The fields that say it.
     ghost fields: { Self → List Field };
 
-    /// Takes memory for the fields.
+    /// Takes memory for the fields, but none for one alone.
     fn into_fields(self, alloc: Global) -> Result<ReplyFields, AllocError>
         ensures { IfOk result (λ it. it ≡ fields self) };
 }
@@ -45,15 +45,39 @@ impl IntoFields for u32 {
     }
 }
 
+/// A handle, or none.
+impl IntoFields for Option<u32> {
+    ghost use Rattle.wasi_steps.specs.Reply.{handed_fields};
+
+    ghost fields = { handed_fields };
+
+    fn into_fields(self, alloc: Global) -> Result<ReplyFields, AllocError> {
+        match self {
+            Some(handle) => handle.into_fields(alloc),
+            None => ().into_fields(alloc),
+        }
+    }
+}
+
 /// A number.
 impl IntoFields for u64 {
     ghost use Rattle.wasi_steps.specs.Reply.{number_fields};
 
     ghost fields = { number_fields };
 
+    fn into_fields(self, _alloc: Global) -> Result<ReplyFields, AllocError> {
+        Ok(ReplyFields::one(Field::Number(self)))
+    }
+}
+
+/// A count.
+impl IntoFields for usize {
+    ghost use Rattle.wasi_steps.specs.Reply.{number_fields};
+
+    ghost fields = { number_fields };
+
     fn into_fields(self, alloc: Global) -> Result<ReplyFields, AllocError> {
-        let fields = vec![in alloc; Field::Number(self)]?;
-        Ok(ReplyFields::from_vec(fields))
+        (self as u64).into_fields(alloc)
     }
 }
 
@@ -108,9 +132,8 @@ impl IntoFields for Octets {
 
     ghost fields = { bytes_fields };
 
-    fn into_fields(self, alloc: Global) -> Result<ReplyFields, AllocError> {
-        let fields = vec![in alloc; Field::Bytes(self)]?;
-        Ok(ReplyFields::from_vec(fields))
+    fn into_fields(self, _alloc: Global) -> Result<ReplyFields, AllocError> {
+        Ok(ReplyFields::one(Field::Bytes(self)))
     }
 }
 
@@ -120,10 +143,9 @@ impl IntoFields for bool {
 
     ghost fields = { truth_fields };
 
-    fn into_fields(self, alloc: Global) -> Result<ReplyFields, AllocError> {
+    fn into_fields(self, _alloc: Global) -> Result<ReplyFields, AllocError> {
         let field = if self { Field::True } else { Field::False };
-        let fields = vec![in alloc; field]?;
-        Ok(ReplyFields::from_vec(fields))
+        Ok(ReplyFields::one(field))
     }
 }
 
@@ -168,6 +190,22 @@ impl IntoFields for Option<IpAddress> {
     }
 }
 
+/// Addresses with no port: of each its family and its bytes or segments.
+impl IntoFields for IpList {
+    ghost use Rattle.wasi_steps.specs.Reply.{ips_values};
+
+    ghost fields = { ips_values };
+
+    fn into_fields(self, alloc: Global) -> Result<ReplyFields, AllocError> {
+        let mut fields = Vec::new(alloc);
+        for address in self.as_slice() {
+            let mut one = ip_fields(alloc, *address)?;
+            fields.append(&mut one)?;
+        }
+        Ok(ReplyFields::from_vec(fields))
+    }
+}
+
 /// No code of the network: what `network-error-code` answers of each error of a stream.
 #[derive(Clone, Copy, Debug, PartialEq, Eq)]
 pub struct NoCode;
@@ -178,9 +216,8 @@ impl IntoFields for NoCode {
 
     ghost fields = { absent_values };
 
-    fn into_fields(self, alloc: Global) -> Result<ReplyFields, AllocError> {
-        let fields = vec![in alloc; Field::Absent]?;
-        Ok(ReplyFields::from_vec(fields))
+    fn into_fields(self, _alloc: Global) -> Result<ReplyFields, AllocError> {
+        Ok(ReplyFields::one(Field::Absent))
     }
 }
 

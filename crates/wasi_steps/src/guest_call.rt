@@ -275,6 +275,16 @@ pub enum GuestCall {
         socket: Handle,
         addr: IpSocketAddress,
     },
+    /// Makes the 0.3 socket listen, and makes its listener (`listen`).
+    P3TcpListen {
+        socket: Handle,
+    },
+    /// Accepts a connection of the listener; with nothing remaining it is only looked whether one
+    /// has come.
+    P3Accept {
+        listener: Handle,
+        remaining: u64,
+    },
     /// The address that the 0.3 socket is bound to (`get-local-address`).
     P3TcpLocalAddress {
         socket: Handle,
@@ -301,6 +311,28 @@ pub enum GuestCall {
     P3TcpSet {
         socket: Handle,
         setting: TcpSetting,
+    },
+    /// Makes the write end of the 0.3 socket's connection, and its result slot (`send`).
+    P3TcpSend {
+        socket: Handle,
+    },
+    /// Writes bytes by the write end.
+    P3Write {
+        end: Handle,
+        bytes: Octets,
+    },
+    /// Makes the read end of the 0.3 socket's connection, and its result slot (`receive`).
+    P3TcpReceive {
+        socket: Handle,
+    },
+    /// Reads at most this many bytes by the read end.
+    P3Read {
+        end: Handle,
+        len: u64,
+    },
+    /// Takes the result out of the slot, once its end is closed.
+    P3Result {
+        slot: Handle,
     },
     /// Makes a UDP socket of the 0.3 interface, of this family (`create`).
     P3UdpCreate {
@@ -342,5 +374,9 @@ pub enum GuestCall {
     P3UdpSet {
         socket: Handle,
         setting: UdpSetting,
+    },
+    /// Looks up a host name (`resolve-addresses` of 0.3).
+    P3Resolve {
+        name: NameText,
     },
 }

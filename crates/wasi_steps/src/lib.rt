@@ -14,6 +14,7 @@ pub mod reply;
 pub mod setting;
 pub mod step;
 mod stream;
+mod words;
 
 pub use fields::{IntoFields, NoCode};
 pub use guest_call::GuestCall;

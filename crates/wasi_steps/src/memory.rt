@@ -3,7 +3,7 @@
 ghost use Rattle.std.specs.Prelude.{IfOk};
 ghost use Rattle.world_text.specs.Fields.{Reads};
 ghost use Rattle.wasi_steps.specs.Steps.{pipe_call, write_call, blocking_write_call, send_call};
-ghost use Rattle.wasi_steps.specs.Steps.{poll_list_call, resolve_call, row_of};
+ghost use Rattle.wasi_steps.specs.Steps.{poll_list_call, resolve_call, p3_write_call, row_of, p3_resolve_call};
 
 use crate::datagram::datagrams;
 use crate::guest_call::GuestCall;
@@ -115,4 +115,37 @@ pub(crate) fn resolve_arguments(
         return Ok(None);
     };
     Ok(Some(GuestCall::Resolve { network, name }))
+}
+
+/// Takes the arguments of a write of 0.3.
+#[tactic(auto, unfolding(world_text::specs::Fields::read_then, world_text::specs::Fields::give, world_text::specs::Fields::give_some))]
+pub(crate) fn p3_write_arguments(
+    alloc: Global,
+    fields: &mut Fields<'_>,
+) -> Result<Option<GuestCall>, AllocError>
+    ensures { IfOk result (λ call. Reads (row_of p3_write_call).reads fields.old call
+        fields.new) }
+{
+    let Some(end) = fields.u32() else {
+        return Ok(None);
+    };
+    let Some(bytes) = fields.octets(alloc)? else {
+        return Ok(None);
+    };
+    Ok(Some(GuestCall::P3Write { end, bytes }))
+}
+
+/// Takes the name of a p3-resolve.
+#[tactic(auto, unfolding(world_text::specs::Fields::read_then, world_text::specs::Fields::give, world_text::specs::Fields::give_some))]
+pub(crate) fn p3_resolve_arguments(
+    alloc: Global,
+    fields: &mut Fields<'_>,
+) -> Result<Option<GuestCall>, AllocError>
+    ensures { IfOk result (λ call. Reads (row_of p3_resolve_call).reads fields.old call
+        fields.new) }
+{
+    let Some(name) = name(alloc, fields)? else {
+        return Ok(None);
+    };
+    Ok(Some(GuestCall::P3Resolve { name }))
 }

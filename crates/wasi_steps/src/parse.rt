@@ -6,8 +6,8 @@ ghost use Rattle.world_text.specs.Written.{IsVisible};
 ghost use Rattle.wasi_steps.specs.declared.step.Step.{Step};
 ghost use Rattle.wasi_steps.specs.Arguments.{shutdown_at};
 ghost use Rattle.wasi_steps.specs.Names.{IsText};
-ghost use Rattle.wasi_steps.specs.Settings.{ReadsNumber, ReadsAfter, option_at, wide_words};
-ghost use Rattle.wasi_steps.specs.Settings.{setting_words, setting_at, udp_option_at};
+ghost use Rattle.wasi_steps.specs.Settings.{ReadsNumber, ReadsAfter, option_words, option_at};
+ghost use Rattle.wasi_steps.specs.Settings.{wide_words, setting_words, setting_at, udp_option_at};
 ghost use Rattle.wasi_steps.specs.Settings.{udp_setting_at};
 ghost use Rattle.wasi_steps.specs.Steps.{line_of, IsStep, guest_calls, plain_calls, value_calls};
 ghost use Rattle.wasi_steps.specs.Steps.{tcp_value_calls, udp_value_calls, p3_value_calls, input_value_calls};
@@ -17,12 +17,13 @@ ghost use Rattle.wasi_steps.specs.Steps.{call_at, guest_call_at, step_reader, st
 use crate::datagram::remote;
 use crate::guest_call::GuestCall;
 use crate::memory::{
-    blocking_write_arguments, pipe_arguments, poll_list_arguments, resolve_arguments,
-    send_arguments, write_arguments,
+    blocking_write_arguments, p3_resolve_arguments, p3_write_arguments, pipe_arguments,
+    poll_list_arguments, resolve_arguments, send_arguments, write_arguments,
 };
 use crate::setting::{TcpSetting, UdpOption, UdpSetting};
 use crate::step::Step;
 use crate::stream::stream_arguments;
+use crate::words::is;
 use socket_common::Setting;
 use std::alloc::{AllocError, Global};
 use wasi_addr::ShutdownType;
@@ -43,21 +44,30 @@ fn shutdown_type(fields: &mut Fields<'_>) -> Option<ShutdownType>
     }
 }
 
+/// The option of this word.
+#[tactic(auto, unfolding(world_text::specs::Fields::give_some, world_text::specs::Fields::give))]
+fn option_of(word: &[u8]) -> Option<Opt>
+    ensures { (rest : List (List ℕ)) → Reads (after_word option_words word.now) rest result rest }
+{
+    match word {
+        _ if is(word, "keep-alive-enabled") => Some(Opt::KeepAliveEnabled),
+        _ if is(word, "keep-alive-idle-time") => Some(Opt::KeepAliveIdleTime),
+        _ if is(word, "keep-alive-interval") => Some(Opt::KeepAliveInterval),
+        _ if is(word, "keep-alive-count") => Some(Opt::KeepAliveCount),
+        _ if is(word, "hop-limit") => Some(Opt::HopLimit),
+        _ if is(word, "receive-buffer-size") => Some(Opt::ReceiveBufferSize),
+        _ if is(word, "send-buffer-size") => Some(Opt::SendBufferSize),
+        _ => None,
+    }
+}
+
 /// Takes the word of an option.
 #[tactic(auto, unfolding(crate::specs::Settings::option_at, world_text::specs::Fields::read_then, world_text::specs::Fields::give))]
 fn option(fields: &mut Fields<'_>) -> Option<Opt>
     ensures { Reads option_at fields.old result fields.new }
 {
-    match fields.word()? {
-        "keep-alive-enabled" => Some(Opt::KeepAliveEnabled),
-        "keep-alive-idle-time" => Some(Opt::KeepAliveIdleTime),
-        "keep-alive-interval" => Some(Opt::KeepAliveInterval),
-        "keep-alive-count" => Some(Opt::KeepAliveCount),
-        "hop-limit" => Some(Opt::HopLimit),
-        "receive-buffer-size" => Some(Opt::ReceiveBufferSize),
-        "send-buffer-size" => Some(Opt::SendBufferSize),
-        _ => None,
-    }
+    let word = fields.next()?;
+    option_of(word)
 }
 
 /// What this word says is set, to a number of 64 bits.
@@ -130,40 +140,48 @@ fn udp_setting(fields: &mut Fields<'_>) -> Option<UdpSetting>
 /// Takes what follows the handle of a call: more arguments where the word is that of a socket of 0.3
 /// or of a stream and takes them, else nothing.
 #[tactic(auto, unfolding(world_text::specs::Fields::read_then, world_text::specs::Fields::give, world_text::specs::Fields::give_some))]
-fn p3_arguments(fields: &mut Fields<'_>, word: &str, handle: u32) -> Option<GuestCall>
+fn p3_arguments(fields: &mut Fields<'_>, word: &[u8], handle: u32) -> Option<GuestCall>
     ensures { ReadsAfter 4294967295 (rows_of (p3_value_calls ++ input_value_calls
         ++ output_value_calls ++ handle_calls)) word.now handle fields.old result fields.new }
 {
     match word {
-        "p3-tcp-bind" => Some(GuestCall::P3TcpBind {
+        _ if is(word, "p3-tcp-bind") => Some(GuestCall::P3TcpBind {
             socket: handle,
             addr: fields.socket_address()?,
         }),
-        "p3-tcp-connect" => Some(GuestCall::P3TcpConnect {
+        _ if is(word, "p3-tcp-connect") => Some(GuestCall::P3TcpConnect {
             socket: handle,
             addr: fields.socket_address()?,
         }),
-        "p3-tcp-get" => Some(GuestCall::P3TcpGet {
+        _ if is(word, "p3-tcp-get") => Some(GuestCall::P3TcpGet {
             socket: handle,
             option: option(fields)?,
         }),
-        "p3-tcp-set" => Some(GuestCall::P3TcpSet {
+        _ if is(word, "p3-tcp-set") => Some(GuestCall::P3TcpSet {
             socket: handle,
             setting: setting(fields)?,
         }),
-        "p3-udp-bind" => Some(GuestCall::P3UdpBind {
+        _ if is(word, "p3-accept") => Some(GuestCall::P3Accept {
+            listener: handle,
+            remaining: fields.number(u64::MAX)?,
+        }),
+        _ if is(word, "p3-read") => Some(GuestCall::P3Read {
+            end: handle,
+            len: fields.number(u64::MAX)?,
+        }),
+        _ if is(word, "p3-udp-bind") => Some(GuestCall::P3UdpBind {
             socket: handle,
             addr: fields.socket_address()?,
         }),
-        "p3-udp-connect" => Some(GuestCall::P3UdpConnect {
+        _ if is(word, "p3-udp-connect") => Some(GuestCall::P3UdpConnect {
             socket: handle,
             addr: fields.socket_address()?,
         }),
-        "p3-udp-get" => Some(GuestCall::P3UdpGet {
+        _ if is(word, "p3-udp-get") => Some(GuestCall::P3UdpGet {
             socket: handle,
             option: udp_option(fields)?,
         }),
-        "p3-udp-set" => Some(GuestCall::P3UdpSet {
+        _ if is(word, "p3-udp-set") => Some(GuestCall::P3UdpSet {
             socket: handle,
             setting: udp_setting(fields)?,
         }),
@@ -174,30 +192,30 @@ fn p3_arguments(fields: &mut Fields<'_>, word: &str, handle: u32) -> Option<Gues
 /// Takes what follows the handle of a call: more arguments where the word is a UDP socket's or
 /// a stream's and takes them, else nothing.
 #[tactic(auto, unfolding(world_text::specs::Fields::read_then, world_text::specs::Fields::give, world_text::specs::Fields::give_some))]
-fn udp_arguments(fields: &mut Fields<'_>, word: &str, handle: u32) -> Option<GuestCall>
+fn udp_arguments(fields: &mut Fields<'_>, word: &[u8], handle: u32) -> Option<GuestCall>
     ensures { ReadsAfter 4294967295 (rows_of (udp_value_calls ++ p3_value_calls ++ input_value_calls
         ++ output_value_calls ++ handle_calls)) word.now handle fields.old result
         fields.new }
 {
     match word {
-        "udp-start-bind" => Some(GuestCall::UdpStartBind {
+        _ if is(word, "udp-start-bind") => Some(GuestCall::UdpStartBind {
             socket: handle,
             network: fields.u32()?,
             addr: fields.socket_address()?,
         }),
-        "udp-get" => Some(GuestCall::UdpGet {
+        _ if is(word, "udp-get") => Some(GuestCall::UdpGet {
             socket: handle,
             option: udp_option(fields)?,
         }),
-        "udp-set" => Some(GuestCall::UdpSet {
+        _ if is(word, "udp-set") => Some(GuestCall::UdpSet {
             socket: handle,
             setting: udp_setting(fields)?,
         }),
-        "udp-stream" => Some(GuestCall::UdpStream {
+        _ if is(word, "udp-stream") => Some(GuestCall::UdpStream {
             socket: handle,
             remote: remote(fields)?,
         }),
-        "udp-receive" => Some(GuestCall::UdpReceive {
+        _ if is(word, "udp-receive") => Some(GuestCall::UdpReceive {
             incoming: handle,
             max_results: fields.number(u64::MAX)?,
         }),
@@ -208,30 +226,30 @@ fn udp_arguments(fields: &mut Fields<'_>, word: &str, handle: u32) -> Option<Gue
 /// Takes what follows the handle of a call: more arguments where the word is a socket's or a
 /// stream's and takes them, else nothing.
 #[tactic(auto, unfolding(world_text::specs::Fields::read_then, world_text::specs::Fields::give, world_text::specs::Fields::give_some))]
-fn tcp_arguments(fields: &mut Fields<'_>, word: &str, handle: u32) -> Option<GuestCall>
+fn tcp_arguments(fields: &mut Fields<'_>, word: &[u8], handle: u32) -> Option<GuestCall>
     ensures { ReadsAfter 4294967295 (rows_of (value_calls ++ handle_calls)) word.now
         handle fields.old result fields.new }
 {
     match word {
-        "tcp-start-bind" => Some(GuestCall::TcpStartBind {
+        _ if is(word, "tcp-start-bind") => Some(GuestCall::TcpStartBind {
             socket: handle,
             network: fields.u32()?,
             addr: fields.socket_address()?,
         }),
-        "tcp-start-connect" => Some(GuestCall::TcpStartConnect {
+        _ if is(word, "tcp-start-connect") => Some(GuestCall::TcpStartConnect {
             socket: handle,
             network: fields.u32()?,
             addr: fields.socket_address()?,
         }),
-        "tcp-get" => Some(GuestCall::TcpGet {
+        _ if is(word, "tcp-get") => Some(GuestCall::TcpGet {
             socket: handle,
             option: option(fields)?,
         }),
-        "tcp-set" => Some(GuestCall::TcpSet {
+        _ if is(word, "tcp-set") => Some(GuestCall::TcpSet {
             socket: handle,
             setting: setting(fields)?,
         }),
-        "tcp-shutdown" => Some(GuestCall::TcpShutdown {
+        _ if is(word, "tcp-shutdown") => Some(GuestCall::TcpShutdown {
             socket: handle,
             how: shutdown_type(fields)?,
         }),
@@ -241,7 +259,7 @@ fn tcp_arguments(fields: &mut Fields<'_>, word: &str, handle: u32) -> Option<Gue
 
 /// Takes the arguments of a call whose first one is a handle: that alone, or more after it.
 #[tactic(auto, unfolding(world_text::specs::Fields::read_then, world_text::specs::Fields::give, world_text::specs::Fields::give_some))]
-fn handle_arguments(fields: &mut Fields<'_>, word: &str) -> Option<GuestCall>
+fn handle_arguments(fields: &mut Fields<'_>, word: &[u8]) -> Option<GuestCall>
     ensures { Reads (after_word (rows_of (value_calls ++ handle_calls)) word.now)
         fields.old result fields.new }
 {
@@ -251,28 +269,28 @@ fn handle_arguments(fields: &mut Fields<'_>, word: &str) -> Option<GuestCall>
 
 /// Takes the arguments of a call, where they take no memory.
 #[tactic(auto, unfolding(world_text::specs::Fields::read_then, world_text::specs::Fields::give, world_text::specs::Fields::give_some))]
-fn plain_arguments(fields: &mut Fields<'_>, word: &str) -> Option<GuestCall>
+fn plain_arguments(fields: &mut Fields<'_>, word: &[u8]) -> Option<GuestCall>
     ensures { Reads (after_word (rows_of plain_calls) word.now) fields.old result
         fields.new }
 {
     match word {
-        "network" => Some(GuestCall::Network),
-        "tcp-create" => Some(GuestCall::TcpCreate {
+        _ if is(word, "network") => Some(GuestCall::Network),
+        _ if is(word, "tcp-create") => Some(GuestCall::TcpCreate {
             family: fields.family()?,
         }),
-        "udp-create" => Some(GuestCall::UdpCreate {
+        _ if is(word, "udp-create") => Some(GuestCall::UdpCreate {
             family: fields.family()?,
         }),
-        "pipe-out" => Some(GuestCall::PipeOut {
+        _ if is(word, "pipe-out") => Some(GuestCall::PipeOut {
             capacity: fields.number(65536)? as u32,
         }),
-        "sink" => Some(GuestCall::Sink),
-        "closed-in" => Some(GuestCall::ClosedIn),
-        "closed-out" => Some(GuestCall::ClosedOut),
-        "p3-tcp-create" => Some(GuestCall::P3TcpCreate {
+        _ if is(word, "sink") => Some(GuestCall::Sink),
+        _ if is(word, "closed-in") => Some(GuestCall::ClosedIn),
+        _ if is(word, "closed-out") => Some(GuestCall::ClosedOut),
+        _ if is(word, "p3-tcp-create") => Some(GuestCall::P3TcpCreate {
             family: fields.family()?,
         }),
-        "p3-udp-create" => Some(GuestCall::P3UdpCreate {
+        _ if is(word, "p3-udp-create") => Some(GuestCall::P3UdpCreate {
             family: fields.family()?,
         }),
         _ => handle_arguments(fields, word),
@@ -283,18 +301,20 @@ fn plain_arguments(fields: &mut Fields<'_>, word: &str) -> Option<GuestCall>
 fn arguments(
     alloc: Global,
     fields: &mut Fields<'_>,
-    word: &str,
+    word: &[u8],
 ) -> Result<Option<GuestCall>, AllocError>
     ensures { IfOk result (λ call. Reads (after_word (rows_of guest_calls) word.now) fields.old
         call fields.new) }
 {
     match word {
-        "pipe-in" => pipe_arguments(alloc, fields),
-        "write" => write_arguments(alloc, fields),
-        "blocking-write" => blocking_write_arguments(alloc, fields),
-        "udp-send" => send_arguments(alloc, fields),
-        "poll-list" => poll_list_arguments(alloc, fields),
-        "resolve" => resolve_arguments(alloc, fields),
+        _ if is(word, "pipe-in") => pipe_arguments(alloc, fields),
+        _ if is(word, "write") => write_arguments(alloc, fields),
+        _ if is(word, "blocking-write") => blocking_write_arguments(alloc, fields),
+        _ if is(word, "udp-send") => send_arguments(alloc, fields),
+        _ if is(word, "poll-list") => poll_list_arguments(alloc, fields),
+        _ if is(word, "resolve") => resolve_arguments(alloc, fields),
+        _ if is(word, "p3-write") => p3_write_arguments(alloc, fields),
+        _ if is(word, "p3-resolve") => p3_resolve_arguments(alloc, fields),
         _ => Ok(plain_arguments(fields, word)),
     }
 }
@@ -304,7 +324,7 @@ fn arguments(
 fn guest_call(alloc: Global, fields: &mut Fields<'_>) -> Result<Option<GuestCall>, AllocError>
     ensures { IfOk result (λ call. Reads call_at fields.old call fields.new) }
 {
-    let Some(word) = fields.word() else {
+    let Some(word) = fields.next() else {
         return Ok(None);
     };
     arguments(alloc, fields, word)
@@ -332,15 +352,15 @@ fn call_of(
 
 /// Takes the arguments of a step word that no context's number comes before.
 #[tactic(auto, unfolding(world_text::specs::Fields::read_then, world_text::specs::Fields::give))]
-fn bare_arguments(fields: &mut Fields<'_>, word: &str) -> Option<Step>
+fn bare_arguments(fields: &mut Fields<'_>, word: &[u8]) -> Option<Step>
     ensures { Reads (after_word bare_rows word.now) fields.old result fields.new }
 {
     match word {
-        "turn" => Some(Step::Turn),
-        "poll" => Some(Step::Poll {
+        _ if is(word, "turn") => Some(Step::Turn),
+        _ if is(word, "poll") => Some(Step::Poll {
             line: fields.u32()?,
         }),
-        "cancel" => Some(Step::Cancel {
+        _ if is(word, "cancel") => Some(Step::Cancel {
             line: fields.u32()?,
         }),
         _ => None,
@@ -348,10 +368,10 @@ fn bare_arguments(fields: &mut Fields<'_>, word: &str) -> Option<Step>
 }
 
 /// The number of a context that the word is.
-fn context_number(word: &str) -> Option<u32>
+fn context_number(word: &[u8]) -> Option<u32>
     ensures { result ≡ number_in word.now 4294967295 }
 {
-    Some(number(word.as_bytes(), 4294967295)? as u32)
+    Some(number(word, 4294967295)? as u32)
 }
 
 /// Takes a step: a guest call of one of so many contexts, or a step that no context makes.
@@ -359,7 +379,7 @@ fn context_number(word: &str) -> Option<u32>
 fn step(alloc: Global, fields: &mut Fields<'_>, contexts: u32) -> Result<Option<Step>, AllocError>
     ensures { IfOk result (λ step. Reads (step_reader contexts) fields.old step fields.new) }
 {
-    let Some(first) = fields.word() else {
+    let Some(first) = fields.next() else {
         return Ok(None);
     };
     match context_number(first) {

@@ -8,15 +8,16 @@ ghost use Rattle.wasi_steps.specs.declared.step.Step.{Step};
 ghost use Rattle.wasi_steps.specs.Replies.{FieldKinds, polled_fields, GivesAs, Gives, is_poll};
 ghost use Rattle.wasi_steps.specs.Replies.{code_text, trap_text, field_text, fields_of_reply};
 ghost use Rattle.wasi_steps.specs.Replies.{text_of};
-ghost use Rattle.wasi_steps.specs.Reply.{word_of_p2, word_of_p3, is_trap, no_fields};
+ghost use Rattle.wasi_steps.specs.Reply.{word_of_p2, word_of_p3, word_of_lookup, is_trap};
+ghost use Rattle.wasi_steps.specs.Reply.{no_fields};
 
 use itoa::Buffer;
 use std::alloc::{AllocError, Global};
-use std::fmt;
 use std::marker::Model;
-use wasi_addr::{p2, p3};
+use std::{fmt, slice};
+use wasi_addr::{lookup, p2, p3};
 use wasi_world::{Handle, Octets, TrapKind};
-use world_text::fields::append_octets;
+use world_text::digits::append_octets;
 
 /// One field of an `ok` reply.
 #[derive(Drop)]
@@ -33,34 +34,57 @@ pub enum Field {
     Absent,
 }
 
-/// The fields of an `ok` reply, in order, which contracts see as a list.
+/// The fields of an `ok` reply, in order, which contracts see as a list. One field alone takes no
+/// memory.
 #[derive(Drop)]
 pub struct ReplyFields {
-    fields: Vec<Field>,
+    kept: KeptFields,
+}
+
+/// One field, or any number of them.
+#[derive(Drop)]
+enum KeptFields {
+    One(Field),
+    Several(Vec<Field>),
 }
 
 impl Model for ReplyFields {
     ghost use Rattle.std.specs.Prelude.{List};
     ghost use Rattle.wasi_steps.specs.declared.reply.Field.{Field};
+    ghost use Rattle.wasi_steps.specs.KeptFields.{kept_fields};
 
     ghost Value = { List Field };
 
-    ghost view = { λ f. f.fields.items };
+    ghost view = { λ f. kept_fields f.kept };
 }
 
 impl ReplyFields {
+    /// One field alone. Takes no memory.
+    pub fn one(field: Field) -> ReplyFields
+        ensures { result ≡ field ∷ [] }
+    {
+        ReplyFields {
+            kept: KeptFields::One(field),
+        }
+    }
+
     /// The fields of a vector, in its order. Takes no memory.
     pub fn from_vec(fields: Vec<Field>) -> ReplyFields
         ensures { result ≡ fields.items }
     {
-        ReplyFields { fields }
+        ReplyFields {
+            kept: KeptFields::Several(fields),
+        }
     }
 
     /// The fields, to be read.
     pub fn as_slice(&self) -> &[Field]
         ensures { result.now ≡ self.now }
     {
-        self.fields.as_slice()
+        match &self.kept {
+            KeptFields::One(field) => slice::from_ref(field),
+            KeptFields::Several(fields) => fields.as_slice(),
+        }
     }
 }
 
@@ -145,6 +169,20 @@ impl CodeWord {
             p3::ErrorCode::Other => CodeWord::Other,
         }
     }
+
+    /// The word of a code of a lookup, which has the code's name.
+    pub fn from_lookup(code: lookup::ErrorCode) -> CodeWord
+        ensures { result ≡ word_of_lookup code }
+    {
+        match code {
+            lookup::ErrorCode::AccessDenied => CodeWord::AccessDenied,
+            lookup::ErrorCode::InvalidArgument => CodeWord::InvalidArgument,
+            lookup::ErrorCode::NameUnresolvable => CodeWord::NameUnresolvable,
+            lookup::ErrorCode::TemporaryResolverFailure => CodeWord::TemporaryResolverFailure,
+            lookup::ErrorCode::PermanentResolverFailure => CodeWord::PermanentResolverFailure,
+            lookup::ErrorCode::Other => CodeWord::Other,
+        }
+    }
 }
 
 impl fmt::Display for CodeWord {
@@ -178,11 +216,11 @@ pub enum Reply {
     Busy,
     /// No call is pending under the number that a poll or a cancel gives.
     NoSuchCall,
-    /// A word of the grammar that no step answers yet.
+    /// A call of an end of 0.3 could do nothing yet, and was given up.
     Cancelled,
-    /// A word of the grammar that no step answers yet.
+    /// The end of 0.3 is closed: it was before, or met its end or a fault now.
     Dropped,
-    /// A word of the grammar that no step answers yet.
+    /// The result slot is empty, since its end is open still.
     Unfilled,
 }
 
@@ -317,17 +355,25 @@ fn push_reply(text: &mut Vec<u8>, reply: &Reply) -> Result<(), AllocError>
     }
 }
 
+/// Appends the text of a reply: its line, with its newline. Takes memory for it.
+#[tactic(auto, unfolding(crate::specs::Replies::text_of))]
+pub fn append_reply(text: &mut Vec<u8>, reply: &Reply) -> Result<(), AllocError>
+    ensures { OnOk result (text.new.items ≡ text.old.items ++ text_of reply.now) }
+{
+    push_reply(text, reply)?;
+    text.push(b'\n')?;
+    Ok(())
+}
+
 /// The room for the text of most replies, so that it takes memory once.
 const ROOM: usize = 24;
 
 /// The text of a reply: its line, with its newline. Takes memory for it.
-#[tactic(auto, unfolding(crate::specs::Replies::text_of))]
 pub fn reply_text(alloc: Global, reply: &Reply) -> Result<Octets, AllocError>
     ensures { IfOk result (λ text. text ≡ text_of reply.now) }
 {
     let mut text = Vec::with_capacity(alloc, ROOM)?;
-    push_reply(&mut text, reply)?;
-    text.push(b'\n')?;
+    append_reply(&mut text, reply)?;
     Ok(Octets::from_vec(text))
 }
 

@@ -103,12 +103,19 @@ pub const STEP_FORMS: &str = "    0 network                               makes 
     0 p3-tcp-create F                       makes a TCP socket of 0.3; F is 4 or 6
     0 p3-tcp-bind S 4 a b c d port          binds it
     0 p3-tcp-connect S 4 a b c d port       connects it
+    0 p3-tcp-listen S                       makes it listen, and makes its listener: ok H
+    0 p3-accept H L                         takes a connection of the listener: ok S; looks only, if L is 0: ok
     0 p3-tcp-local-address S                its address
     0 p3-tcp-remote-address S               the address of its other end
     0 p3-tcp-is-listening S                 whether it listens: ok true or ok false
     0 p3-tcp-address-family S               its family: ok 4 or ok 6
     0 p3-tcp-get S OPTION                   the value of an option: ok V
     0 p3-tcp-set S OPTION V                 sets an option
+    0 p3-tcp-send S                         makes its write end and the result slot of that: ok W R
+    0 p3-write W BYTES                      writes bytes by the write end: ok M
+    0 p3-tcp-receive S                      makes its read end and the result slot of that: ok H R
+    0 p3-read H L                           reads at most L bytes by the read end: ok BYTES
+    0 p3-result R                           takes the result of an end that is closed
     0 p3-udp-create F                       makes a UDP socket of 0.3; F is 4 or 6
     0 p3-udp-bind S 4 a b c d port          binds it
     0 p3-udp-connect S 4 a b c d port       connects it
@@ -118,6 +125,7 @@ pub const STEP_FORMS: &str = "    0 network                               makes 
     0 p3-udp-address-family S               its family: ok 4 or ok 6
     0 p3-udp-get S OPTION                   the value of an option: ok V
     0 p3-udp-set S OPTION V                 sets an option
+    0 p3-resolve NAME                       looks up a host name: ok, and 4 a b c d of each address
     turn                                    polls each write, datagram, receive and lookup in the background, once
     poll N                                  polls the call of line N, which answered pending N
     cancel N                                gives that call up

@@ -7,31 +7,32 @@ ghost use Rattle.wasi_steps.specs.Steps.{rows_of};
 
 use crate::guest_call::GuestCall;
 use crate::handle::handle_call;
+use crate::words::is;
 use world_text::Fields;
 
 /// Takes what follows the handle of a call: more arguments where the word is an output's and
 /// has them, else nothing.
 #[tactic(auto, unfolding(world_text::specs::Fields::read_then, world_text::specs::Fields::give, world_text::specs::Fields::give_some))]
-fn output_arguments(fields: &mut Fields<'_>, word: &str, handle: u32) -> Option<GuestCall>
+fn output_arguments(fields: &mut Fields<'_>, word: &[u8], handle: u32) -> Option<GuestCall>
     ensures { ReadsAfter 4294967295 (rows_of (output_value_calls ++ handle_calls))
         word.now handle fields.old result fields.new }
 {
     use GuestCall::*;
     match word {
-        "write-zeroes" => Some(WriteZeroes {
+        _ if is(word, "write-zeroes") => Some(WriteZeroes {
             output: handle,
             len: fields.number(u64::MAX)?,
         }),
-        "splice" => Some(Splice {
+        _ if is(word, "splice") => Some(Splice {
             output: handle,
             input: fields.u32()?,
             len: fields.number(u64::MAX)?,
         }),
-        "blocking-zeroes" => Some(BlockingZeroes {
+        _ if is(word, "blocking-zeroes") => Some(BlockingZeroes {
             output: handle,
             len: fields.number(u64::MAX)?,
         }),
-        "blocking-splice" => Some(BlockingSplice {
+        _ if is(word, "blocking-splice") => Some(BlockingSplice {
             output: handle,
             input: fields.u32()?,
             len: fields.number(u64::MAX)?,
@@ -45,26 +46,26 @@ fn output_arguments(fields: &mut Fields<'_>, word: &str, handle: u32) -> Option<
 #[tactic(auto, unfolding(world_text::specs::Fields::read_then, world_text::specs::Fields::give, world_text::specs::Fields::give_some))]
 pub(crate) fn stream_arguments(
     fields: &mut Fields<'_>,
-    word: &str,
+    word: &[u8],
     handle: u32,
 ) -> Option<GuestCall>
     ensures { ReadsAfter 4294967295 (rows_of (input_value_calls ++ output_value_calls ++ handle_calls)) word.now handle fields.old result fields.new }
 {
     use GuestCall::*;
     match word {
-        "read" => Some(Read {
+        _ if is(word, "read") => Some(Read {
             input: handle,
             len: fields.number(u64::MAX)?,
         }),
-        "skip" => Some(Skip {
+        _ if is(word, "skip") => Some(Skip {
             input: handle,
             len: fields.number(u64::MAX)?,
         }),
-        "blocking-read" => Some(BlockingRead {
+        _ if is(word, "blocking-read") => Some(BlockingRead {
             input: handle,
             len: fields.number(u64::MAX)?,
         }),
-        "blocking-skip" => Some(BlockingSkip {
+        _ if is(word, "blocking-skip") => Some(BlockingSkip {
             input: handle,
             len: fields.number(u64::MAX)?,
         }),

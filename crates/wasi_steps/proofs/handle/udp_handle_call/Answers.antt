@@ -1,8 +1,9 @@
 use Rattle.std.proofs.Common.{◌++◌}
 use Rattle.wasi_steps.specs.Steps.{rows_of, udp_handle_calls, p3_handle_calls, output_handle_calls, other_handle_calls}
 use Rattle.wasi_steps.proofs.StepWords.{past_words}
+use Rattle.wasi_steps.proofs.SettingLaws.{◌and◌}
 use Rattle.wasi_steps.proofs.handle.udp_handle_call.Goals as goal
 
-pub returns-in_default : goal.returns-in_default
-returns-in_default c = λ old rest h.
-    rw (past_words (rows_of udp_handle_calls) (rows_of (p3_handle_calls ++ output_handle_calls ++ other_handle_calls)) c.args.word.now old (assumption c)) (c.p3_handle_call.ensures old rest h)
+pub returns-else-is-5 : goal.returns-else-is-5
+returns-else-is-5 c = λ old rest h.
+    rw (past_words (rows_of udp_handle_calls) (rows_of (p3_handle_calls ++ output_handle_calls ++ other_handle_calls)) c.args.word.now old (c.if-is.ensures and c.if-is-2.ensures and c.if-is-3.ensures and c.if-is-4.ensures and c.if-is-5.ensures and tt)) (c.p3_handle_call.ensures old rest h)

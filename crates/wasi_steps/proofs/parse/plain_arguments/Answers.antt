@@ -1,8 +1,9 @@
 use Rattle.std.proofs.Common.{◌++◌}
 use Rattle.wasi_steps.specs.Steps.{rows_of, create_calls, value_calls, handle_calls}
 use Rattle.wasi_steps.proofs.StepWords.{past_words}
+use Rattle.wasi_steps.proofs.SettingLaws.{◌and◌}
 use Rattle.wasi_steps.proofs.parse.plain_arguments.Goals as goal
 
-pub returns-in_default : goal.returns-in_default
-returns-in_default c =
-    rw (past_words (rows_of create_calls) (rows_of (value_calls ++ handle_calls)) c.args.word.now c.args.fields.now (assumption c)) c.handle_arguments.ensures
+pub returns-else-is-9 : goal.returns-else-is-9
+returns-else-is-9 c =
+    rw (past_words (rows_of create_calls) (rows_of (value_calls ++ handle_calls)) c.args.word.now c.args.fields.now (c.if-is.ensures and c.if-is-2.ensures and c.if-is-3.ensures and c.if-is-4.ensures and c.if-is-5.ensures and c.if-is-6.ensures and c.if-is-7.ensures and c.if-is-8.ensures and c.if-is-9.ensures and tt)) c.handle_arguments.ensures
