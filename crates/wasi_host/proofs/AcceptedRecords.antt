@@ -1,5 +1,5 @@
 -- The record of what was accepted, and the network sockets that the records hold with it.
-use Rattle.std.proofs.Common.{◌≡◌, ℕ, ◌+◌, List, Some, None, ap, subst, ◌∙◌, arith}
+use Rattle.std.proofs.Common.{◌≡◌, ℕ, ◌+◌, List, Some, None, ap, subst, arith}
 use Rattle.std.specs.Prelude.{Result, Ok, Err, IfOk}
 use Rattle.std.specs.Borrow.{MutBor}
 use Rattle.wasi_world.specs.declared.ids.Ids.{Ids}
@@ -26,7 +26,7 @@ held_accepted w records _ (Connects family maker new peer) = let more = held_in-
 held_accepted w records _ (Fails family maker c) = omega arith
 
 -- a record gave away such network sockets, and the records hold them now
-knows_given : {s t : Seen} (store : Records) (place : ℕ) (old now : TcpRecord) (given : Tally) (records : List Record) → tcp2_at store.records place ≡ Some old → Balances s t given old now
+pub knows_given : {s t : Seen} (store : Records) (place : ℕ) (old now : TcpRecord) (given : Tally) (records : List Record) → tcp2_at store.records place ≡ Some old → Balances s t given old now
     → ((w : Weight) → held_in records w ≡ held_in (tcp2_put store.records place now) w + given w) → KnowsSides s store → KnowsSides t (record store { records = records })
 knows_given store place old now given records g c e k =
     knows_then c.entries store (record store { records = records }) c.passed (λ w. let p = held_in-swap w store.records place old now g in let b = c.balance w in let h = e w in omega arith) k

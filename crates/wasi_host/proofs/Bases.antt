@@ -1,5 +1,5 @@
 -- How the asks of a call with codes of any type continue where it gives no value, and with the names that an interface gives its codes.
-use Rattle.std.specs.Prelude.{◌≡◌, ℕ, Result, Ok, Err, IsErrAnd, refl}
+use Rattle.std.specs.Prelude.{◌≡◌, ℕ, Result, Ok, Err, IsErrAnd, OnErr, refl}
 use Rattle.std.specs.declared.alloc.AllocError.{AllocError}
 use Rattle.std.proofs.Common.{sym, subst}
 use Rattle.wasi_addr.specs.declared.code.ErrorCode.{ErrorCode}
@@ -100,6 +100,11 @@ pub stored_goes : {A : Type 0} (gives : Answer A → Answer Outcome) (face : Int
     → AsksFor (bind asks (λ done. Give (answered_on gives face (with_store m done)))) s t (λ answer. (answer, storing m now)) (answered_told gives face told)
 stored_goes gives face m (Ok told) k = asks_end _ k.ok refl
 stored_goes gives face m (Err e) k = asks_err (bind k.err.rest (λ done. Give (answered_on gives face (with_store m done)))) (reaches_in (λ done. Give (answered_on gives face (with_store m done))) k.err.reached)
+
+-- what is so out of memory is so whatever interface it answers
+pub answered_fails : {A : Type 0} (P : Type 0) (gives : Answer A → Answer Outcome) (face : Interface) (told : Result (Result (Answer A) BaseStop) AllocError) → OnErr told P → OnErr (answered_told gives face told) P
+answered_fails P gives face (Ok told) p = tt
+answered_fails P gives face (Err e) p = p
 
 -- a call on the records, as one on the machine with other names for its codes
 pub stored_named : {C A : Type 0} (name : ErrorCode → C) (m : Machine) {asks : Asks (Result A BaseStop × Records)} {s t : Seen} {now : Records} (told : Result (Result A BaseStop) AllocError) → AsksFor asks s t (λ (answer : Result A BaseStop). (answer, now)) told

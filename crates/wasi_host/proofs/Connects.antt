@@ -1,7 +1,6 @@
 -- Connects of 0.3: what the code answers, and what it keeps of them.
-use Rattle.std.specs.Prelude.{◌≡◌, ℕ, List, Result, Ok, Err, refl}
+use Rattle.std.specs.Prelude.{◌≡◌, ℕ, List, OnErr, Result, Ok, Err, refl}
 use Rattle.wasi_addr.specs.declared.address.IpSocketAddress.{IpSocketAddress}
-use Rattle.wasi_addr.specs.declared.code.ErrorCode.{ErrorCode}
 use Rattle.wasi_world.specs.declared.ids.OpId.{OpId}
 use Rattle.wasi_world.specs.declared.outcome.Answer.{Answer}
 use Rattle.wasi_world.specs.declared.outcome.Answer.TheVariants.{Ready, Pending}
@@ -41,6 +40,13 @@ left_with store place now calls = record (with_socket store place now) { beside 
 -- what the code was told of a call that leaves this record
 abbrev pub Told : TcpRecord → Asks (Answered × TcpRecord) → Seen → Seen → Result (Answer (Unit {0})) Refusal → Type 0
 Told now asks s t connected = AsksFor asks s t (λ (answer : Answered). (answer, now)) (outcome connected)
+
+-- out of memory it stands beside others still
+pub polled_stays : (calls : List Beside) (line : ℕ) (connected : Result (Answer (Unit {0})) Refusal) → OnErr (base_outcome connected) (polled_beside calls line connected ≡ calls)
+polled_stays calls line (Ok Pending) = tt
+polled_stays calls line (Ok (Ready done)) = tt
+polled_stays calls line (Err (refusal.Code c)) = tt
+polled_stays calls line (Err (refusal.Memory e)) = refl
 
 module _ (store : Records) (place : ℕ) (now : TcpRecord) {asks : Asks (Answered × TcpRecord)} {s t : Seen} where
   -- it begins

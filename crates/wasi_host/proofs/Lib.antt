@@ -11,10 +11,14 @@ pub mod Called
 pub mod Bases
 pub mod Binds
 pub mod Connects
+pub mod Listens
+pub mod Resolves
 pub mod Cancels
 pub mod PollLists
 pub mod FoundMaps
 pub mod GivenBack
+pub mod ConnectionEnds
+pub mod EndPolls
 pub mod KnownSides
 pub mod LiveHandles
 pub mod LookupHandles

@@ -17,7 +17,7 @@ use Rattle.wasi_host.specs.declared.error.CallError.{CallError}
 use Rattle.wasi_host.specs.declared.kind.Kind.{Kind}
 use Rattle.wasi_host.specs.declared.machine.Machine.{Machine}
 use Rattle.wasi_records.specs.declared.records.Record.{Record}
-use Rattle.wasi_records.specs.declared.records.Record.TheVariants.{Tcp, Udp, Lookup, InputPipe, OutputPipe, Gone}
+use Rattle.wasi_records.specs.declared.records.Record.TheVariants.{Tcp, Udp, Lookup, InputPipe, OutputPipe, Slot as SlotRecord, Gone}
 use Rattle.wasi_host.specs.CallStops.{CallStop, call_outcome, plain_outcome}
 use Rattle.wasi_records.specs.Stops.{Stop, fault_outcome}
 use Rattle.wasi_host.specs.Kinds.{HandleTable, make_asks}
@@ -43,6 +43,7 @@ input_put_same (Tcp r ∷ xs) zero bytes h = absurd (cc)
 input_put_same (Udp u ∷ xs) zero bytes h = absurd (cc)
 input_put_same (Lookup l ∷ xs) zero bytes h = absurd (cc)
 input_put_same (OutputPipe p ∷ xs) zero bytes h = absurd (cc)
+input_put_same (SlotRecord s ∷ xs) zero bytes h = absurd (cc)
 input_put_same (Gone ∷ xs) zero bytes h = absurd (cc)
 input_put_same (InputPipe b ∷ xs) zero bytes h = cc
 input_put_same (x ∷ xs) (suc i) bytes h = ap (λ (l : List Record). x ∷ l) (input_put_same xs i bytes h)
@@ -54,6 +55,7 @@ output_put_same (Udp u ∷ xs) zero pipe h = absurd (cc)
 output_put_same (Lookup l ∷ xs) zero pipe h = absurd (cc)
 output_put_same (InputPipe b ∷ xs) zero pipe h = absurd (cc)
 output_put_same (OutputPipe p ∷ xs) zero pipe h = cc
+output_put_same (SlotRecord s ∷ xs) zero pipe h = absurd (cc)
 output_put_same (Gone ∷ xs) zero pipe h = absurd (cc)
 output_put_same (x ∷ xs) (suc i) pipe h = ap (λ (l : List Record). x ∷ l) (output_put_same xs i pipe h)
 

@@ -1,5 +1,5 @@
 -- How a stream's call continues where it gives no value.
-use Rattle.std.specs.Prelude.{◌≡◌, ℕ, Option, Some, None, Result, Ok, Err, IfOk, IfErr, IsErrAnd, refl}
+use Rattle.std.specs.Prelude.{◌≡◌, ℕ, Option, Some, Result, Ok, Err, IfOk, IfErr, IsErrAnd, refl}
 use Rattle.std.specs.declared.alloc.AllocError.{AllocError}
 use Rattle.std.proofs.Common.{ap, sym, subst, ◌∙◌}
 use Rattle.wasi_addr.specs.declared.code.ErrorCode.{ErrorCode}

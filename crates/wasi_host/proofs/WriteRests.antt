@@ -1,5 +1,5 @@
 -- A write that goes on, by its handle. The number of rounds is any, so that they aren't written out.
-use Rattle.std.specs.Prelude.{◌≡◌, ℕ, List, Result, Err, IsErrAnd, refl}
+use Rattle.std.specs.Prelude.{◌≡◌, ℕ, List, Result, IsErrAnd, refl}
 use Rattle.std.proofs.Common.{subst}
 use Rattle.wasi_world.specs.declared.ids.Ids.{Ids}
 use Rattle.wasi_world.specs.declared.outcome.Answer.{Answer}

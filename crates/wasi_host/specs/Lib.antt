@@ -14,11 +14,13 @@ pub mod Options
 pub mod Jobs
 pub mod Readiness
 pub mod Dropping
+pub mod ConnectionEnds
 pub mod KnownSides
 pub mod Machine
 pub mod PlainStreams
 pub mod StreamCalls
 pub mod StreamEnds
+pub mod EndPolls
 pub mod Blocking
 pub mod Polling
 pub mod FoundMap
@@ -28,6 +30,8 @@ pub mod UdpCalls
 pub mod Binds
 pub mod Connects
 pub mod UdpConnects
+pub mod Listens
+pub mod Resolves
 pub mod UdpCreates
 pub mod DatagramCalls
 pub mod NameLookupCalls

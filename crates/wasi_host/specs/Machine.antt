@@ -1,5 +1,6 @@
 -- The state behind a guest's calls: its table and its store, and what a handle names in them.
 use Rattle.std.specs.Prelude.{ℕ, Bool, true, false, length, Option, Some, None, Result, Ok, Err}
+use Rattle.wasi_addr.specs.declared.address.ShutdownType.TheVariants.{Receive, Send}
 use Rattle.wasi_addr.specs.declared.address.SocketAddressFamily.{SocketAddressFamily}
 use Rattle.wasi_addr.specs.declared.code.ErrorCode.{ErrorCode}
 use Rattle.wasi_world.specs.declared.ids.OpId.{OpId}
@@ -12,20 +13,22 @@ use Rattle.wasi_world.specs.Asks.{Asks, Give, bind}
 use Rattle.wasi_tcp.specs.Shape.{Socket}
 use Rattle.wasi_tcp.specs.Socket.{new_asks, side_of}
 use Rattle.wasi_table.specs.Table.{empty}
-use Rattle.wasi_records.specs.Holding.{drop_socket_asks}
+use Rattle.wasi_records.specs.Holding.{drop_listener_asks, drop_socket_asks}
 use Rattle.wasi_records.specs.Records.{tcp2_at, udp2_at, open_at, lookup_at}
 use Rattle.wasi_host.specs.declared.kind.Kind.{Kind}
-use Rattle.wasi_host.specs.declared.kind.Kind.TheVariants.{Tcp2, Udp2, Output, PlainInput, PlainOutput, Incoming, Outgoing, Pollable, Lookup, Tcp3, Udp3}
+use Rattle.wasi_host.specs.declared.kind.Kind.TheVariants.{Tcp2, Udp2, Output, PlainInput, PlainOutput, Incoming, Outgoing, Pollable, Lookup, Tcp3, Udp3, Listen3, Receive3, Send3, Result3}
+use Rattle.wasi_host.specs.declared.kind.ConnectionEnd.{ConnectionEnd}
 use Rattle.wasi_host.specs.declared.kind.Watched.{Watched}
 use Rattle.wasi_host.specs.declared.kind.Watched.TheVariants as watched
 use Rattle.wasi_host.specs.declared.machine.Machine.{Machine}
 use Rattle.wasi_records.specs.declared.socket.TcpRecord.{TcpRecord}
 use Rattle.wasi_records.specs.Stops.{Stop, Trap, code_stop}
-use Rattle.wasi_host.specs.Kinds.{HandleTable, kind_at, place_of, udp_of, tcp3_of, udp3_of, input_of, output_of, incoming_of, outgoing_of, lookup_of, watched_by, watch_of, place_in, make_asks, taken_out}
+use Rattle.wasi_host.specs.Kinds.{HandleTable, kind_at, place_of, udp_of, tcp3_of, udp3_of, input_of, output_of, incoming_of, outgoing_of, lookup_of, listen3_of, watched_by, watch_of, place_in, make_asks, taken_out, receive3_of, send3_of, result3_of}
 pub use Rattle.wasi_records.specs.Names.{own_of}
 use Rattle.wasi_host.specs.Store.{Records, no_records, with_record}
 use Rattle.wasi_host.specs.Jobs.{turn_store_asks}
 use Rattle.wasi_host.specs.Readiness.{ready_at, ready_ids_at}
+use Rattle.wasi_host.specs.ConnectionEnds.{drop_end, drop_slot}
 use Rattle.wasi_host.specs.Dropping.{release_at, let_go_at, drop_output_at}
 use Rattle.wasi_host.specs.DatagramCalls.{incoming_names, outgoing_ready, ready_incoming_at, drop_incoming_at, drop_outgoing_at}
 use Rattle.wasi_host.specs.NameLookupCalls.{lookup_ready, drop_lookup_at}
@@ -55,6 +58,18 @@ tcp3_at m h = tcp3_of (kind_at m.table h)
 
 abbrev pub udp3_at : Machine → ℕ → Option ℕ
 udp3_at m h = udp3_of (kind_at m.table h)
+
+abbrev pub listen3_at : Machine → ℕ → Option ℕ
+listen3_at m h = listen3_of (kind_at m.table h)
+
+abbrev pub receive3_at : Machine → ℕ → Option ConnectionEnd
+receive3_at m h = receive3_of (kind_at m.table h)
+
+abbrev pub send3_at : Machine → ℕ → Option ConnectionEnd
+send3_at m h = send3_of (kind_at m.table h)
+
+abbrev pub result3_at : Machine → ℕ → Option ℕ
+result3_at m h = result3_of (kind_at m.table h)
 
 abbrev pub input_at : Machine → ℕ → Option ℕ
 input_at m h = input_of (kind_at m.table h)
@@ -174,12 +189,16 @@ drop_kind m ids (Tcp2 place) = bind (release_at m.store (own_of ids.line) place 
 drop_kind m ids (Udp2 place) = bind (release_udp_at m.store (own_of ids.line) place (udp2_at m.store.records place)) (λ done. Give (answered (with_store m (at_once done))))
 drop_kind m ids (Tcp3 place) = bind (let_go_at m.store place (drop_socket_asks (own_of ids.line)) (tcp2_at m.store.records place)) (λ done. Give (answered (with_store m (at_once done))))
 drop_kind m ids (Udp3 place) = bind (release_udp_at m.store (own_of ids.line) place (udp2_at m.store.records place)) (λ done. Give (answered (with_store m (at_once done))))
+drop_kind m ids (Listen3 place) = bind (let_go_at m.store place (drop_listener_asks (own_of ids.line)) (tcp2_at m.store.records place)) (λ done. Give (answered (with_store m (at_once done))))
 drop_kind m ids (Output place) = bind (drop_output_at m.store ids place (tcp2_at m.store.records place)) (λ done. Give (answered (with_store m done)))
 drop_kind m ids (Incoming place) = Give (answered (with_store m (at_once (drop_incoming_at m.store place (open_at m.store.records place)))))
 drop_kind m ids (Outgoing place) = Give (answered (with_store m (drop_outgoing_at m.store ids place (open_at m.store.records place))))
 drop_kind m ids (Lookup place) = Give (answered (with_store m (at_once (drop_lookup_at m.store place (lookup_at m.store.records place)))))
 drop_kind m ids (PlainInput i) = Give (Ok (Ready tt), record m { store = drop_plain_input m.store i })
 drop_kind m ids (PlainOutput o) = Give (Ok (Ready tt), record m { store = drop_plain_output m.store o })
+drop_kind m ids (Receive3 end) = bind (drop_end (own_of ids.line) Receive end m.store) (λ done. Give (answered (with_store m (at_once done))))
+drop_kind m ids (Send3 end) = bind (drop_end (own_of ids.line) Send end m.store) (λ done. Give (answered (with_store m (at_once done))))
+drop_kind m ids (Result3 slot) = Give (Ok (Ready tt), record m { store = drop_slot slot m.store })
 drop_kind m ids _ = Give (Ok (Ready tt), m)
 
 abbrev pub drop_taken : Machine → Ids → Result Kind Stop × HandleTable → Asks (Result (Answer (Unit {0})) Stop × Machine)

@@ -1,6 +1,7 @@
 //! The pending calls that stand beside others.
 
-ghost use Rattle.std.specs.Prelude.{◌≡◌, List, [], ◌∷◌, ◌++◌, OnOk, OnErr};
+ghost use Rattle.std.specs.Prelude.{◌≡◌, List, [], ◌∷◌, ◌++◌, IfOk, OnOk, OnErr};
+ghost use Rattle.std.specs.Prelude.{option_map};
 ghost use Rattle.wasi_host.specs.declared.beside.Beside.{Beside};
 ghost use Rattle.wasi_host.specs.declared.beside.BesideCall.{BesideCall};
 ghost use Rattle.wasi_host.specs.Beside.{beside_in, beside_without};
@@ -8,27 +9,33 @@ ghost use Rattle.wasi_host.specs.Beside.{beside_in, beside_without};
 use std::alloc::{AllocError, Global};
 use std::marker::Model;
 use wasi_records::RecordId;
+use wasi_world::NameText;
 
 /// What such a call does.
-#[derive(Clone, Copy, Debug, PartialEq, Eq)]
+#[derive(Drop)]
 pub enum BesideCall {
     /// Connects the TCP socket with this record number, whose state has the operation.
     Connect { socket: RecordId },
+    /// Looks up this host. It has no record.
+    Resolve { host: NameText },
 }
 
 impl BesideCall {
-    /// The record number of the TCP socket that it connects.
-    pub(crate) fn socket(self) -> RecordId
-        ensures { self ≡ BesideCall.Connect result }
+    /// A copy. Takes memory for the host.
+    pub(crate) fn try_clone(&self) -> Result<BesideCall, AllocError>
+        ensures { IfOk result (λ call. call ≡ self.now) }
     {
-        match self {
-            BesideCall::Connect { socket } => socket,
-        }
+        Ok(match self {
+            BesideCall::Connect { socket } => BesideCall::Connect { socket: *socket },
+            BesideCall::Resolve { host } => BesideCall::Resolve {
+                host: host.try_clone()?,
+            },
+        })
     }
 }
 
 /// A pending call beside which other calls go on. It begins no operation but its line's own.
-#[derive(Clone, Copy, Debug, PartialEq, Eq)]
+#[derive(Drop)]
 pub struct Beside {
     /// The number of the line that began it.
     pub line: u32,
@@ -61,10 +68,10 @@ impl BesideList {
     }
 
     /// The call with this number. Takes no memory.
-    pub(crate) fn get(&self, line: u32) -> Option<Beside>
-        ensures { result ≡ beside_in self.now line }
+    pub(crate) fn get(&self, line: u32) -> Option<&Beside>
+        ensures { option_map (λ call. call.now) result ≡ beside_in self.now line }
     {
-        self.calls.iter().copied().find(|b| b.line == line)
+        self.calls.iter().find(|b| b.line == line)
     }
 
     /// Adds a call, the last one.

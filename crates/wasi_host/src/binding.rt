@@ -15,7 +15,7 @@ use wasi_records::{InProgress, OpenUdp, RecordId, TcpRecord, UdpInProgress, find
 use wasi_world::{Answer, Ids, TrapKind, World};
 
 /// Leaves nothing in progress where a bind of 0.3 is done: no call finishes it there.
-fn leave_bound(record: &mut TcpRecord, interface: Interface, answer: Answer<()>)
+pub(crate) fn leave_bound(record: &mut TcpRecord, interface: Interface, answer: Answer<()>)
     ensures { record.new ≡ bound_as interface answer record.old }
 {
     match (interface, answer) {

@@ -136,7 +136,7 @@ impl Store {
     {
         match call {
             StandingCall::Bind { socket, .. } => self.tcp_cancel_bind(socket),
-            StandingCall::Listen { socket } => self.cancel_listen(world, socket)?,
+            StandingCall::Listen { socket, .. } => self.cancel_listen(world, socket)?,
             StandingCall::UdpCreate { socket, .. } => self.cancel_create(world, socket)?,
             StandingCall::UdpBind { socket, .. } => self.cancel_udp_bind(socket),
             StandingCall::UdpConnect { socket, .. } => self.cancel_udp_connect(socket),
@@ -167,7 +167,7 @@ impl Store {
 /// - A listen closes its network socket, and the socket stays closed.
 /// - A create closes its network socket.
 /// - The drop of an outgoing datagram stream loses its datagram.
-/// - The drop of an output, and a call that blocks, change nothing.
+/// - The drop of an output, a call that blocks and a lookup change nothing.
 ///
 /// Out of memory, which takes an exclusive call, nothing was asked, so no network socket is closed
 /// and its record keeps it. The call isn't pending any more.

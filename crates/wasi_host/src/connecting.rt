@@ -1,6 +1,6 @@
 //! Connects of 0.3, which stand beside other calls while they are pending.
 
-ghost use Rattle.std.specs.Prelude.{◌≡◌, List, [], ◌∷◌, ◌++◌, false};
+ghost use Rattle.std.specs.Prelude.{◌≡◌, List, [], ◌∷◌, ◌++◌, OnErr, false};
 ghost use Rattle.wasi_world.specs.Asks.{AsksFor, outcome};
 ghost use Rattle.wasi_records.specs.Sides.{Balances, no_socket};
 ghost use Rattle.wasi_host.specs.BaseStops.{ends_as};
@@ -99,8 +99,8 @@ impl Store {
     }
 
     /// Polls the connect of the TCP socket with this record number, which is pending under this
-    /// number. A socket that is gone: the trap `NoSuchHandle`. If it is pending still it keeps its
-    /// place beside other calls.
+    /// number. A socket that is gone: the trap `NoSuchHandle`. If it is pending still, and out of
+    /// memory, it keeps its place beside other calls.
     pub(crate) fn reconnect_tcp<W: World>(
         &mut self,
         world: &mut W,
@@ -111,6 +111,7 @@ impl Store {
         ensures asked { AsksFor (reconnect_of line place self.old) (W.seen world.old)
             (W.seen world.new) (λ answer. (answer, self.new)) (ends_as result) }
         ensures exclusive { self.new.standing ≡ self.old.standing }
+        ensures stays { OnErr (ends_as result) (self.new.beside ≡ self.old.beside) }
         ensures sides { KnowsSides (W.seen world.old) self.old
             → KnowsSides (W.seen world.new) self.new }
     {

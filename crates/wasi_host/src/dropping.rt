@@ -2,7 +2,7 @@
 
 ghost use Rattle.std.specs.Prelude.{◌≡◌, is_some, false, Ok, OnErr};
 ghost use Rattle.wasi_world.specs.Asks.{AsksFor};
-ghost use Rattle.wasi_records.specs.Holding.{drop_socket_asks};
+ghost use Rattle.wasi_records.specs.Holding.{drop_listener_asks, drop_socket_asks};
 ghost use Rattle.wasi_records.specs.Records.{tcp2_at};
 ghost use Rattle.wasi_host.specs.Dropping.{release_at, let_go_at, wait_at, drop_output_at};
 ghost use Rattle.wasi_host.specs.Dropping.{released};
@@ -17,6 +17,7 @@ use crate::kind::Kind;
 use crate::store::{StandingCall, Store};
 use crate::view::WasiSocketsCtxView;
 use std::alloc::AllocError;
+use wasi_addr::ShutdownType;
 use wasi_records::{RecordId, TcpRecord, find_mut};
 use wasi_streams::Fault;
 use wasi_world::{Answer, Handle, Ids, OpId, World};
@@ -70,6 +71,31 @@ impl Store {
         Ok(())
     }
 
+    /// Drops the listener of the TCP socket with this record number. Where nothing else holds the
+    /// network socket it is released, and the record is given back.
+    pub(crate) fn drop_listener<W: World>(
+        &mut self,
+        world: &mut W,
+        op: OpId,
+        place: RecordId,
+    ) -> Result<(), AllocError>
+        requires { (W.seen world.old).ended ≡ false }
+        ensures asked { AsksFor (let_go_at self.old place (drop_listener_asks op)
+            (tcp2_at self.old.records place)) (W.seen world.old) (W.seen world.new)
+            (λ done. (done, self.new)) result }
+        ensures sides { KnowsSides (W.seen world.old) self.old
+            → KnowsSides (W.seen world.new) self.new }
+    {
+        let Some(record) = find_mut::<TcpRecord>(&mut self.records, place) else {
+            return Ok(());
+        };
+        if record.drop_listener(world, op)? {
+            self.give_back(place);
+            return Ok(());
+        }
+        Ok(())
+    }
+
     /// Looks once whether the writer of the TCP socket with this record number is ready. While it
     /// isn't, the drop of its output is pending, under the line of these names.
     pub(crate) fn drop_output<W: World>(
@@ -113,12 +139,15 @@ impl Store {
 ///
 /// - A TCP socket of 0.2 releases its listener, its open halves and its network socket; one of 0.3
 ///   its network socket, where nothing else holds it; a UDP socket its network socket.
+/// - A listener of 0.3 refuses an arrival in hand, or closes a connection that isn't taken, and
+///   then releases the network socket, where nothing else holds it.
 /// - An output waits until its writer is ready, and an outgoing datagram stream until its datagram
 ///   in the background is sent or has failed. The call is pending until then, and
 ///   [`resume`](crate::resume) continues it.
 /// - An incoming datagram stream gives up its receive.
+/// - An end of a stream of 0.3 that is open releases its half of the connection.
 /// - The network isn't asked about a lookup any more.
-/// - The record of a socket, a lookup or a pipe is given back.
+/// - The record of a socket, a lookup, a pipe or a result slot is given back.
 ///
 /// No call may be pending before.
 pub fn drop_handle<W: World>(
@@ -163,6 +192,10 @@ fn release_kind<W: World>(
             view.store.tcp_drop(world, ids.own(), place)?;
             Ok(Answer::Ready(()))
         }
+        Kind::Listen3(place) => {
+            view.store.drop_listener(world, ids.own(), place)?;
+            Ok(Answer::Ready(()))
+        }
         Kind::Udp2(place) | Kind::Udp3(place) => {
             view.store.release_udp(world, ids.own(), place)?;
             Ok(Answer::Ready(()))
@@ -186,6 +219,20 @@ fn release_kind<W: World>(
         }
         Kind::PlainOutput(output) => {
             view.store.drop_plain_output(output);
+            Ok(Answer::Ready(()))
+        }
+        Kind::Receive3(end) => {
+            view.store
+                .drop_end(world, ids.own(), ShutdownType::Receive, end)?;
+            Ok(Answer::Ready(()))
+        }
+        Kind::Send3(end) => {
+            view.store
+                .drop_end(world, ids.own(), ShutdownType::Send, end)?;
+            Ok(Answer::Ready(()))
+        }
+        Kind::Result3(slot) => {
+            view.store.drop_slot(slot);
             Ok(Answer::Ready(()))
         }
         Kind::Network | Kind::Input(_) | Kind::Pollable(_) | Kind::ErrorValue => {

@@ -7,13 +7,16 @@ ghost use Rattle.wasi_host.specs.BaseStops.{base_outcome, ends_as, named_as};
 
 use std::alloc::AllocError;
 use thiserror::Error;
-use wasi_addr::{ErrorCode, p2};
+use wasi_addr::{ErrorCode, lookup, p2};
 use wasi_records::SocketError;
 use wasi_streams::{Fault, HostError};
 use wasi_world::{Handle, Refusal, TrapKind};
 
 /// Why a call of the store has no value, where its codes have no interface's names yet.
 pub type StoreError = HostError<ErrorCode>;
+
+/// The error of a lookup of 0.3.
+pub type LookupError = HostError<lookup::ErrorCode>;
 
 /// What a socket answered, as an error of the store.
 pub(crate) fn unnamed<T>(told: Result<T, Refusal>) -> Result<T, StoreError>

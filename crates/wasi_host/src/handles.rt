@@ -9,11 +9,12 @@ ghost use Rattle.wasi_records.specs.Stops.{fault_outcome};
 ghost use Rattle.wasi_host.specs.Store.{Records};
 ghost use Rattle.wasi_host.specs.KnownSides.{KnowsSides};
 ghost use Rattle.wasi_host.specs.Kinds.{kind_at, place_of, udp_of, tcp3_of, udp3_of, incoming_of};
-ghost use Rattle.wasi_host.specs.Kinds.{outgoing_of, lookup_of, is_network, is_error};
+ghost use Rattle.wasi_host.specs.Kinds.{outgoing_of, lookup_of, is_network, is_error, listen3_of};
+ghost use Rattle.wasi_host.specs.Kinds.{receive3_of, send3_of, result3_of};
 ghost use Rattle.wasi_host.specs.Kinds.{plain_output_of, watched_by, watch_of, table_parent};
 ghost use Rattle.wasi_host.specs.Kinds.{make_asks, taken_out, Names};
 
-use crate::kind::{Kind, PlainOutput, Watched};
+use crate::kind::{ConnectionEnd, Kind, PlainOutput, Watched};
 use std::alloc::AllocError;
 use wasi_records::RecordId;
 use wasi_streams::{Fault, TrapKind};
@@ -66,6 +67,46 @@ pub fn udp3_socket(table: &Table<Kind>, handle: Handle) -> Result<RecordId, Faul
 {
     match kind(table, handle) {
         Some(Kind::Udp3(place)) => Ok(place),
+        _ => Err(Fault::Trap(TrapKind::NoSuchHandle)),
+    }
+}
+
+/// The record number of a listener's socket, of 0.3.
+pub fn listener3(table: &Table<Kind>, handle: Handle) -> Result<RecordId, Fault>
+    ensures { Names result (listen3_of (kind_at table.now handle)) }
+{
+    match kind(table, handle) {
+        Some(Kind::Listen3(place)) => Ok(place),
+        _ => Err(Fault::Trap(TrapKind::NoSuchHandle)),
+    }
+}
+
+/// A read end of 0.3.
+pub fn receive3(table: &Table<Kind>, handle: Handle) -> Result<ConnectionEnd, Fault>
+    ensures { Names result (receive3_of (kind_at table.now handle)) }
+{
+    match kind(table, handle) {
+        Some(Kind::Receive3(end)) => Ok(end),
+        _ => Err(Fault::Trap(TrapKind::NoSuchHandle)),
+    }
+}
+
+/// A write end of 0.3.
+pub fn send3(table: &Table<Kind>, handle: Handle) -> Result<ConnectionEnd, Fault>
+    ensures { Names result (send3_of (kind_at table.now handle)) }
+{
+    match kind(table, handle) {
+        Some(Kind::Send3(end)) => Ok(end),
+        _ => Err(Fault::Trap(TrapKind::NoSuchHandle)),
+    }
+}
+
+/// The record number of a result slot of 0.3.
+pub fn result3(table: &Table<Kind>, handle: Handle) -> Result<RecordId, Fault>
+    ensures { Names result (result3_of (kind_at table.now handle)) }
+{
+    match kind(table, handle) {
+        Some(Kind::Result3(slot)) => Ok(slot),
         _ => Err(Fault::Trap(TrapKind::NoSuchHandle)),
     }
 }

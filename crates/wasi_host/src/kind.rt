@@ -7,6 +7,16 @@ ghost use Rattle.wasi_host.specs.Kinds.{udp_of, input_of, output_of, is_network,
 use wasi_records::RecordId;
 use wasi_world::{Handle, HandleKind};
 
+/// An end of a stream of a 0.3 connection. It is open while its half is in the record of its socket.
+#[derive(Clone, Copy, Debug, PartialEq, Eq)]
+pub struct ConnectionEnd {
+    /// The record number of its socket; `None` where its half couldn't be taken, so that it is
+    /// closed.
+    pub socket: Option<RecordId>,
+    /// The record number of its result slot, which may be dropped before it.
+    pub slot: RecordId,
+}
+
 /// What a pollable watches, with a record number.
 #[derive(Clone, Copy, Debug, PartialEq, Eq)]
 pub enum Watched {
@@ -100,6 +110,14 @@ pub enum Kind {
     Tcp3(RecordId),
     /// A UDP socket of the 0.3 interface.
     Udp3(RecordId),
+    /// The listener of a TCP socket of the 0.3 interface, with the number of its socket's record.
+    Listen3(RecordId),
+    /// The read end of a connection of 0.3.
+    Receive3(ConnectionEnd),
+    /// The write end of a connection of 0.3.
+    Send3(ConnectionEnd),
+    /// The result slot of such an end, with the number of its record.
+    Result3(RecordId),
 }
 
 impl Kind {
@@ -120,6 +138,10 @@ impl Kind {
             Kind::ErrorValue => HandleKind::ErrorValue,
             Kind::Tcp3(_) => HandleKind::Tcp3,
             Kind::Udp3(_) => HandleKind::Udp3,
+            Kind::Listen3(_) => HandleKind::Listen3,
+            Kind::Receive3(_) => HandleKind::Receive3,
+            Kind::Send3(_) => HandleKind::Send3,
+            Kind::Result3(_) => HandleKind::Result3,
         }
     }
 
@@ -143,7 +165,9 @@ impl Kind {
             | Kind::Lookup(_)
             | Kind::ErrorValue
             | Kind::Tcp3(_)
-            | Kind::Udp3(_) => None,
+            | Kind::Udp3(_)
+            | Kind::Listen3(_) => None,
+            | Kind::Receive3(_) | Kind::Send3(_) | Kind::Result3(_) => None,
         }
     }
 }

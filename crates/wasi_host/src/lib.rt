@@ -7,12 +7,15 @@ mod binding;
 pub mod blocking;
 mod cancelling;
 mod connecting;
+mod connection_ends;
 mod datagram_calls;
 mod dropping;
+mod end_polls;
 pub mod error;
 pub mod handles;
 pub mod jobs;
 pub mod kind;
+mod listening;
 mod lookup_calls;
 pub mod machine;
 mod options;
@@ -20,6 +23,7 @@ pub mod pending;
 mod plain_streams;
 mod pollables;
 pub mod polling;
+mod resolving;
 pub mod store;
 mod stream_ends;
 mod streams;
@@ -35,7 +39,8 @@ pub use blocking::{
 };
 pub use cancelling::cancel;
 pub use dropping::drop_handle;
-pub use error::{CallError, StoreError};
+pub use end_polls::not_yet;
+pub use error::{CallError, LookupError, StoreError};
 pub use jobs::turn;
 pub use kind::{Interface, Kind, PlainInput, PlainOutput, Watched};
 pub use machine::Machine;
@@ -56,6 +61,6 @@ pub use view::{
 pub use wasi_jobs::HostJob;
 pub use wasi_records::{
     Addresses, AsyncOperation, InProgress, Incoming, Listening, Lookup, LookupOp, OpenUdp,
-    Outgoing, Receiving, Record, Sending, SocketError, Streams, TcpRecord, UdpInProgress,
-    UdpRecord,
+    Outgoing, Receiving, Record, Sending, Slot, SocketError, StreamResult, Streams, TcpRecord,
+    UdpInProgress, UdpRecord,
 };

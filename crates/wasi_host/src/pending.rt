@@ -8,7 +8,7 @@ ghost use Rattle.wasi_host.specs.Pending.{outcome_of, handle_outcome, pair_outco
 ghost use Rattle.wasi_host.specs.Pending.{relisten_at, stop_told, blocked_told};
 ghost use Rattle.wasi_host.specs.Pending.{nothing_given, unblock_asks, go_on, resume_asks};
 ghost use Rattle.wasi_host.specs.Pending.{go_on_beside, resume_beside};
-ghost use Rattle.wasi_host.specs.Pending.{refused_as, answered_told};
+ghost use Rattle.wasi_host.specs.Pending.{refused_as, answered_told, resolved_told};
 ghost use Rattle.wasi_host.specs.BaseStops.{ends_as};
 ghost use Rattle.wasi_host.specs.Beside.{beside_of};
 ghost use Rattle.wasi_host.specs.KnownSides.{KnowsSides};
@@ -20,15 +20,15 @@ use crate::blocking::{
     BlockingCall, blocking_flush, blocking_read, blocking_skip, blocking_splice, finish_rest,
     write_rest,
 };
-use crate::error::{CallError, StoreError};
+use crate::error::{CallError, LookupError, StoreError};
 use crate::kind::Interface;
 use crate::polling::{Look, block_by, poll_by};
 use crate::store::{Standing, StandingCall, Store};
 use crate::view::WasiSocketsCtxView;
 use std::alloc::Global;
-use wasi_addr::{ErrorCode, p2, p3};
+use wasi_addr::{ErrorCode, lookup, p2, p3};
 use wasi_records::{RecordId, SocketError, TcpRecord, find_mut};
-use wasi_world::{Answer, Handle, Ids, NumberList, Octets, TrapKind, World};
+use wasi_world::{Answer, Handle, Ids, IpList, NumberList, Octets, TrapKind, World};
 
 /// What a pending call gives once it is polled: its value, or the error of a call of a stream.
 #[derive(Drop)]
@@ -51,6 +51,10 @@ pub enum Outcome {
     Places(NumberList),
     /// A call of 0.3 was refused with this code.
     Refused(p3::ErrorCode),
+    /// Addresses that a lookup of 0.3 found.
+    Addresses(IpList),
+    /// A lookup of 0.3 failed with this code.
+    Unresolved(lookup::ErrorCode),
 }
 
 impl Outcome {
@@ -134,7 +138,11 @@ impl Store {
             return Err(SocketError::Trap(TrapKind::NoSuchHandle));
         };
         let answer = record.poll_listen(world)?;
-        Ok(self.stand(ids, StandingCall::Listen { socket: place }, answer))
+        let call = StandingCall::Listen {
+            socket: place,
+            handle: None,
+        };
+        Ok(self.stand(ids, call, answer))
     }
 }
 
@@ -196,8 +204,8 @@ fn of_refusal(interface: Interface, code: ErrorCode) -> Result<Answer<Outcome>, 
     }
 }
 
-/// The outcome of a create of a UDP socket for this interface.
-fn of_create(
+/// The outcome of a create of a UDP socket or of a listen for this interface.
+fn of_handle(
     interface: Interface,
     created: Result<Answer<Handle>, StoreError>,
 ) -> Result<Answer<Outcome>, SocketError>
@@ -223,6 +231,19 @@ fn of_start(
         Err(StoreError::Code(code)) => of_refusal(interface, code),
         Err(StoreError::Trap(kind)) => Err(SocketError::Trap(kind)),
         Err(StoreError::Memory(e)) => Err(SocketError::Memory(e)),
+    }
+}
+
+/// The outcome of a lookup of 0.3.
+fn of_lookup(told: Result<Answer<IpList>, LookupError>) -> Result<Answer<Outcome>, SocketError>
+    ensures { host_outcome result ≡ resolved_told (ends_as told) }
+{
+    match told {
+        Ok(Answer::Ready(addresses)) => Ok(Answer::Ready(Outcome::Addresses(addresses))),
+        Ok(Answer::Pending) => Ok(Answer::Pending),
+        Err(LookupError::Code(code)) => Ok(Answer::Ready(Outcome::Unresolved(code))),
+        Err(LookupError::Trap(kind)) => Err(SocketError::Trap(kind)),
+        Err(LookupError::Memory(e)) => Err(SocketError::Memory(e)),
     }
 }
 
@@ -272,6 +293,32 @@ fn unblock<W: World>(
     }
 }
 
+/// Polls a listen once, of either interface: with this handle of its socket it is of 0.3.
+fn go_on_listen<W: World>(
+    view: &mut WasiSocketsCtxView<'_>,
+    world: &mut W,
+    ids: Ids,
+    socket: RecordId,
+    handle: Option<Handle>,
+) -> Result<Answer<Outcome>, SocketError>
+    requires { (W.seen world.old).ended ≡ false }
+    ensures asked { AsksFor (go_on (state_of view.old) ids (StandingCall.Listen socket handle))
+        (W.seen world.old) (W.seen world.new) (λ answer. (answer, state_of view.new))
+        (host_outcome result) }
+    ensures sides { KnowsSides (W.seen world.old) view.old.store.now
+        → KnowsSides (W.seen world.new) view.new.store.now }
+    ensures view { SameView view.old view.new }
+{
+    let Some(handle) = handle else {
+        let answer = view.store.relisten(world, ids, socket)?;
+        return Ok(Outcome::of_nothing(answer));
+    };
+    let listened = view
+        .store
+        .relisten_tcp(view.table, world, ids, socket, handle);
+    of_handle(Interface::P3, listened)
+}
+
 /// Polls the pending call once, under the operation names of the line that began it. If it is still
 /// pending it is stored again.
 fn go_on<W: World>(
@@ -293,10 +340,7 @@ fn go_on<W: World>(
             let bound = view.store.tcp_rebind(world, ids, socket, interface);
             of_start(interface, bound)
         }
-        StandingCall::Listen { socket } => {
-            let answer = view.store.relisten(world, ids, socket)?;
-            Ok(Outcome::of_nothing(answer))
-        }
+        StandingCall::Listen { socket, handle } => go_on_listen(view, world, ids, socket, handle),
         StandingCall::DropOutput { socket } => {
             let answer = view.store.drop_output(world, ids, socket)?;
             Ok(Outcome::of_nothing(answer))
@@ -305,7 +349,7 @@ fn go_on<W: World>(
             let created = view
                 .store
                 .create_on(view.table, world, ids, socket, interface);
-            of_create(interface, created)
+            of_handle(interface, created)
         }
         StandingCall::UdpBind { socket, interface } => {
             let bound = view.store.rebind_udp(world, ids, socket, interface);
@@ -330,7 +374,7 @@ fn go_on<W: World>(
 }
 
 /// Polls a call that stands beside others once, where it stands, under the operation names of the
-/// line that began it.
+/// line that began it. Out of memory it stands still.
 fn go_on_beside<W: World>(
     view: &mut WasiSocketsCtxView<'_>,
     world: &mut W,
@@ -341,16 +385,23 @@ fn go_on_beside<W: World>(
     ensures asked { AsksFor (go_on_beside (state_of view.old) line call) (W.seen world.old)
         (W.seen world.new) (λ answer. (answer, state_of view.new)) (host_outcome result) }
     ensures exclusive { view.new.store.now.standing ≡ view.old.store.now.standing }
+    ensures stays { OnErr (host_outcome result)
+        (view.new.store.now.beside ≡ view.old.store.now.beside) }
     ensures sides { KnowsSides (W.seen world.old) view.old.store.now
         → KnowsSides (W.seen world.new) view.new.store.now }
     ensures view { SameView view.old view.new }
 {
-    let connected = view.store.reconnect_tcp(world, line, call.socket());
-    of_start(Interface::P3, connected)
+    match call {
+        BesideCall::Connect { socket } => {
+            let connected = view.store.reconnect_tcp(world, line, socket);
+            of_start(Interface::P3, connected)
+        }
+        BesideCall::Resolve { host } => of_lookup(view.store.reresolve_host(world, line, host)),
+    }
 }
 
 /// Polls the call with this number once that stands beside others; `None` exactly where there is
-/// none. If it is over it is taken out.
+/// none. If it is over it is taken out; out of memory it stands still.
 fn resume_beside<W: World>(
     view: &mut WasiSocketsCtxView<'_>,
     world: &mut W,
@@ -361,6 +412,8 @@ fn resume_beside<W: World>(
         (beside_of view.old.store.now line)) (W.seen world.old) (W.seen world.new)
         (λ answer. (answer, state_of view.new)) (host_outcome result) }
     ensures exclusive { view.new.store.now.standing ≡ view.old.store.now.standing }
+    ensures stays { OnErr (host_outcome result)
+        (view.new.store.now.beside ≡ view.old.store.now.beside) }
     ensures sides { KnowsSides (W.seen world.old) view.old.store.now
         → KnowsSides (W.seen world.new) view.new.store.now }
     ensures view { SameView view.old view.new }
@@ -368,7 +421,8 @@ fn resume_beside<W: World>(
     let Some(beside) = view.store.find_beside(line) else {
         return Ok(None);
     };
-    let answer = go_on_beside(view, world, line, beside.call)?;
+    let call = beside.call.try_clone()?;
+    let answer = go_on_beside(view, world, line, call)?;
     Ok(Some(answer))
 }
 
@@ -381,7 +435,8 @@ fn resume_beside<W: World>(
 /// The error of a call of a stream is an [`Outcome`], and so is the code of a call of 0.3. A code
 /// that is an error is that of a bind, a listen, a create or a connect of 0.2.
 ///
-/// Out of memory an exclusive call isn't pending any more.
+/// Out of memory an exclusive call isn't pending any more, and a call that stands beside others
+/// still is.
 pub fn resume<W: World>(
     alloc: Global,
     view: &mut WasiSocketsCtxView<'_>,
@@ -393,6 +448,9 @@ pub fn resume<W: World>(
         (W.seen world.new) (λ answer. (answer, state_of view.new)) (host_outcome result) }
     ensures gone { OnErr (host_outcome result)
         (call_of view.new.store.now.standing line ≡ None) }
+    ensures stays { OnErr (host_outcome result)
+        (call_of view.old.store.now.standing line ≡ None
+        → view.new.store.now.beside ≡ view.old.store.now.beside) }
     ensures sides { KnowsSides (W.seen world.old) view.old.store.now
         → KnowsSides (W.seen world.new) view.new.store.now }
     ensures view { SameView view.old view.new }

@@ -46,9 +46,11 @@ pub enum StandingCall {
         socket: RecordId,
         interface: Interface,
     },
-    /// Makes the TCP socket with this record number listen; its record has the operation.
+    /// Makes the TCP socket with this record number listen; its record has the operation. Of 0.3
+    /// there is the handle of the socket, under which its listener is marked.
     Listen {
         socket: RecordId,
+        handle: Option<Handle>,
     },
     /// Drops the output of the TCP socket with this record number, and waits until its writer is
     /// ready.
@@ -342,8 +344,8 @@ impl Store {
     }
 
     /// The call with this number that is pending and stands beside others.
-    pub(crate) fn find_beside(&self, line: u32) -> Option<Beside>
-        ensures { result ≡ beside_of self.now line }
+    pub(crate) fn find_beside(&self, line: u32) -> Option<&Beside>
+        ensures { option_map (λ call. call.now) result ≡ beside_of self.now line }
     {
         self.beside.get(line)
     }

@@ -211,7 +211,11 @@ impl Store {
             return Err(SocketError::Code(p2::ErrorCode::ConcurrencyConflict));
         }
         let answer = record.begin_listen(world, ids.own())?;
-        Ok(self.stand(ids, StandingCall::Listen { socket: place }, answer))
+        let call = StandingCall::Listen {
+            socket: place,
+            handle: None,
+        };
+        Ok(self.stand(ids, call, answer))
     }
 
     /// Accepts a connection of the listener with this record number (`accept`), and returns the

@@ -17,6 +17,8 @@ use Rattle.wasi_host.specs.declared.pending.Outcome.TheVariants.{Nothing, One, T
 use Rattle.wasi_host.specs.declared.pending.Outcome.TheVariants as outcome
 use Rattle.wasi_host.specs.declared.store.Standing.{Standing}
 use Rattle.wasi_records.specs.Stops.{Stop, StopOf, Code, Trap}
+use Rattle.wasi_records.specs.declared.slot.StreamResult.{StreamResult}
+use Rattle.wasi_records.specs.declared.slot.StreamResult.TheVariants.{Completed, Dropped, Cancelled}
 use Rattle.wasi_host.specs.CallStops.{CallStop, Failed, Closed, Traps}
 use Rattle.wasi_host.specs.Machine.{first_state, own_of, socket_at, udp_socket_at, incoming_at, outgoing_at, lookup_number, create_asks, subscribe_asks, ready_asks, drop_asks, turn_machine_asks}
 use Rattle.wasi_host.specs.declared.kind.Kind.TheVariants.{PlainInput, PlainOutput}
@@ -40,9 +42,13 @@ use Rattle.wasi_p2.specs.Lookup.{resolve_asks, next_address_on, error_code_on}
 use Rattle.wasi_p2.specs.Udp.{start_udp_bind_asks, finish_udp_bind_on, udp_local_on, udp_remote_on, udp_family_on, get_udp_option_on, set_udp_option_on, udp_stream_asks, check_send_on, send_datagrams_on, receive_datagrams_on}
 use Rattle.wasi_host.specs.Beside.{beside_of}
 use Rattle.wasi_host.specs.Block.{Does}
+use Rattle.wasi_host.specs.Resolves.{Resolved}
 use Rattle.wasi_p3.specs.Stops.{P3Stop}
+use Rattle.wasi_p3.specs.Listening as listening3
+use Rattle.wasi_p3.specs.Lookup as lookup3
 use Rattle.wasi_p3.specs.Tcp as p3
 use Rattle.wasi_p3.specs.Udp as udp3
+use Rattle.wasi_p3.specs.Streams as streams3
 use Rattle.wasi_steps.specs.declared.fields.NoCode.{NoCode}
 use Rattle.wasi_steps.specs.declared.reply.CodeWord.{CodeWord}
 use Rattle.wasi_steps.specs.declared.reply.Field.{Field}
@@ -52,7 +58,7 @@ use Rattle.wasi_steps.specs.declared.guest_call.GuestCall.{GuestCall}
 use Rattle.wasi_steps.specs.declared.step.Step.{Step}
 use Rattle.wasi_steps.specs.declared.guest_call.GuestCall.TheVariants as guest
 use Rattle.wasi_steps.specs.declared.step.Step.TheVariants as step
-use Rattle.wasi_steps.specs.Reply.{word_of_p2, word_of_p3, is_trap, no_fields, no_values, number_fields, numbers_fields, pair_fields, pair_values, datagram_values, triple_values, bytes_fields, truth_fields, family_fields, address_values, found_values, absent_values}
+use Rattle.wasi_steps.specs.Reply.{word_of_p2, word_of_p3, word_of_lookup, is_trap, no_fields, no_values, number_fields, numbers_fields, handed_fields, pair_fields, pair_values, datagram_values, triple_values, bytes_fields, truth_fields, family_fields, address_values, found_values, ips_values, absent_values}
 use Rattle.wasi_steps.specs.Settings.{Chosen, AnOption, TheBacklog, chosen, udp_opt, udp_chosen}
 use Rattle.wasi_steps.specs.Steps.{context_of}
 
@@ -143,6 +149,27 @@ p3_answer_reply fields line (Ok (Ready value)) = reply.Ok (fields value)
 p3_answer_reply fields line (Ok Pending) = reply.Pending line
 p3_answer_reply fields line (Err stop) = stop_as word_of_p3 stop
 
+-- of one poll of an end of 0.3; one that is the last is never pending
+abbrev pub stream_result_reply : {A : Type 0} → (A → List Field) → Result (Answer (StreamResult A)) P3Stop → Reply
+stream_result_reply fields (Ok (Ready (Completed value))) = reply.Ok (fields value)
+stream_result_reply fields (Ok (Ready Dropped)) = reply.Dropped
+stream_result_reply fields (Ok (Ready Cancelled)) = reply.Cancelled
+stream_result_reply fields (Ok Pending) = reply.Cancelled
+stream_result_reply fields (Err stop) = stop_as word_of_p3 stop
+
+-- of a result slot
+abbrev pub slot_reply : Result (Option (Result (Unit {0}) P3Code)) P3Stop → Reply
+slot_reply (Ok None) = reply.Unfilled
+slot_reply (Ok (Some (Ok done))) = reply.Ok no_fields
+slot_reply (Ok (Some (Err c))) = reply.Err (word_of_p3 c)
+slot_reply (Err stop) = stop_as word_of_p3 stop
+
+-- of a lookup of 0.3, which has codes of its own
+abbrev pub lookup_reply : ℕ → Resolved → Reply
+lookup_reply line (Ok (Ready addresses)) = reply.Ok (ips_values addresses)
+lookup_reply line (Ok Pending) = reply.Pending line
+lookup_reply line (Err stop) = stop_as word_of_lookup stop
+
 abbrev pub answer_reply : ℕ → Result (Answer (Unit {0})) Stop → Reply
 answer_reply = answer_reply_of no_values
 
@@ -157,6 +184,8 @@ outcome_reply line (Ready (outcome.Failed c e)) = call_stop_reply (Failed c e)
 outcome_reply line (Ready outcome.Closed) = reply.Closed
 outcome_reply line (Ready (Places places)) = reply.Ok (numbers_fields places)
 outcome_reply line (Ready (outcome.Refused c)) = reply.Err (word_of_p3 c)
+outcome_reply line (Ready (outcome.Addresses addresses)) = reply.Ok (ips_values addresses)
+outcome_reply line (Ready (outcome.Unresolved c)) = reply.Err (word_of_lookup c)
 outcome_reply line Pending = reply.Pending line
 
 abbrev pub resumed_reply : ℕ → Result (Option (Answer Outcome)) Stop → Reply
@@ -248,12 +277,19 @@ call_asks ctx m line (guest.BlockingSplice output input len) = bind (blocking_sp
 call_asks ctx m line (guest.P3TcpCreate family) = bind (p3.create (own_of line) ctx family m) (λ done. Give (p3_reply number_fields done.0, done.1))
 call_asks ctx m line (guest.P3TcpBind s a) = bind (p3.bind_to (first_ids line) s a m) (λ done. Give (p3_answer_reply no_values line done.0, done.1))
 call_asks ctx m line (guest.P3TcpConnect s a) = bind (p3.connect_to line s a m) (λ done. Give (p3_answer_reply no_values line done.0, done.1))
+call_asks ctx m line (guest.P3TcpListen s) = bind (listening3.listen_to (first_ids line) s m) (λ done. Give (p3_answer_reply number_fields line done.0, done.1))
+call_asks ctx m line (guest.P3Accept listener remaining) = bind (listening3.accept (first_ids line) true remaining listener m) (λ done. Give (stream_result_reply handed_fields done.0, done.1))
 call_asks ctx m line (guest.P3TcpLocalAddress s) = bind (p3.local_address (own_of line) s m) (λ done. Give (p3_reply address_values done.0, done.1))
 call_asks ctx m line (guest.P3TcpRemoteAddress s) = bind (p3.remote_address (own_of line) s m) (λ done. Give (p3_reply address_values done.0, done.1))
 call_asks ctx m line (guest.P3TcpIsListening s) = Give (p3_reply truth_fields (p3.is_listening m s), m)
 call_asks ctx m line (guest.P3TcpAddressFamily s) = Give (p3_reply family_fields (p3.address_family m s), m)
 call_asks ctx m line (guest.P3TcpGet s option) = bind (p3.get_option (own_of line) s option m) (λ done. Give (p3_reply number_fields done.0, done.1))
 call_asks ctx m line (guest.P3TcpSet s setting) = bind (set_p3 (own_of line) s (chosen setting) m) (λ done. Give (p3_reply no_values done.0, done.1))
+call_asks ctx m line (guest.P3TcpSend s) = bind (streams3.send (own_of line) s m) (λ done. Give (p3_reply pair_values done.0, done.1))
+call_asks ctx m line (guest.P3Write end bytes) = bind (streams3.write (own_of line) true bytes end m) (λ done. Give (stream_result_reply number_fields done.0, done.1))
+call_asks ctx m line (guest.P3TcpReceive s) = bind (streams3.receive (own_of line) s m) (λ done. Give (p3_reply pair_values done.0, done.1))
+call_asks ctx m line (guest.P3Read end len) = bind (streams3.read (own_of line) true len end m) (λ done. Give (stream_result_reply bytes_fields done.0, done.1))
+call_asks ctx m line (guest.P3Result slot) = let done = streams3.take_result m slot in Give (slot_reply done.0, done.1)
 call_asks ctx m line (guest.P3UdpCreate family) = bind (udp3.create (first_ids line) ctx family m) (λ done. Give (p3_answer_reply number_fields line done.0, done.1))
 call_asks ctx m line (guest.P3UdpBind s a) = bind (udp3.bind_to (first_ids line) s a m) (λ done. Give (p3_answer_reply no_values line done.0, done.1))
 call_asks ctx m line (guest.P3UdpConnect s a) = bind (udp3.connect_to (first_ids line) s a m) (λ done. Give (p3_answer_reply no_values line done.0, done.1))
@@ -263,6 +299,7 @@ call_asks ctx m line (guest.P3UdpRemoteAddress s) = Give (p3_reply address_value
 call_asks ctx m line (guest.P3UdpAddressFamily s) = Give (p3_reply family_fields (udp3.address_family m s), m)
 call_asks ctx m line (guest.P3UdpGet s option) = bind (udp3.get_option (own_of line) s (udp_opt option) m) (λ done. Give (p3_reply number_fields done.0, done.1))
 call_asks ctx m line (guest.P3UdpSet s setting) = bind (udp3.set_option (own_of line) s (udp_chosen setting).0 (udp_chosen setting).1 m) (λ done. Give (p3_reply no_values done.0, done.1))
+call_asks ctx m line (guest.P3Resolve name) = bind (lookup3.resolve line ctx name m) (λ done. Give (lookup_reply line done.0, done.1))
 
 -- what a step asks, its reply, and the machine afterwards, where this is the context of its guest
 abbrev pub asks_in : WasiSocketsCtx → Machine → ℕ → Step → Asks (Reply × Machine)

@@ -7,14 +7,15 @@ ghost use Rattle.wasi_machine.specs.Machine.{reply_of, stream_reply_of, answer_r
 ghost use Rattle.wasi_machine.specs.Machine.{blocked_reply_of, cancelled_reply, stop_reply};
 ghost use Rattle.wasi_machine.specs.Machine.{call_stop_reply, outcome_reply, resumed_reply};
 ghost use Rattle.wasi_machine.specs.Machine.{p3_reply, p3_answer_reply, stop_as};
+ghost use Rattle.wasi_machine.specs.Machine.{stream_result_reply, slot_reply, lookup_reply};
 ghost use Rattle.wasi_p3.specs.Stops.{ends_as, IsStopOf};
-ghost use Rattle.wasi_steps.specs.Reply.{word_of_p3};
+ghost use Rattle.wasi_steps.specs.Reply.{word_of_p3, word_of_lookup};
 
 use std::alloc::{AllocError, Global};
-use wasi_addr::{ErrorCode, p2};
-use wasi_host::{CallError, Outcome, SocketError};
+use wasi_addr::{ErrorCode, p2, p3};
+use wasi_host::{CallError, LookupError, Outcome, SocketError, StreamResult};
 use wasi_steps::{CodeWord, IntoFields, Reply};
-use wasi_world::{Answer, Handle};
+use wasi_world::{Answer, Handle, IpList};
 
 /// `ok` with the fields of this value. Takes memory for them.
 fn ok<T: IntoFields>(alloc: Global, value: T) -> Result<Reply, AllocError>
@@ -117,6 +118,57 @@ pub fn p3_answer_reply<T: IntoFields>(
     }
 }
 
+/// The same of a lookup of 0.3.
+pub fn lookup_reply(
+    alloc: Global,
+    line: u32,
+    answer: Result<Answer<IpList>, LookupError>,
+) -> Result<Reply, AllocError>
+    ensures { IfOk result (λ reply. IsOkAnd (ends_as answer)
+        (λ x. reply ≡ lookup_reply line x)) }
+{
+    match answer {
+        Ok(Answer::Ready(addresses)) => ok(alloc, addresses),
+        Ok(Answer::Pending) => Ok(Reply::Pending(line)),
+        Err(error) => lookup_stop_reply(error),
+    }
+}
+
+/// The reply of one poll of an end of 0.3, which is the last one and so never pending: `ok` with its
+/// value, `dropped`, `cancelled`, or its trap. Takes memory for the fields. The only error is out of
+/// memory, the call's own too.
+pub fn stream_result_reply<T: IntoFields>(
+    alloc: Global,
+    answer: Result<Answer<StreamResult<T>>, wasi_p3::SocketError>,
+) -> Result<Reply, AllocError>
+    ensures { IfOk result (λ reply. IsOkAnd (ends_as answer)
+        (λ x. reply ≡ stream_result_reply T.fields x)) }
+{
+    match answer {
+        Ok(Answer::Ready(StreamResult::Completed(value))) => ok(alloc, value),
+        Ok(Answer::Ready(StreamResult::Dropped)) => Ok(Reply::Dropped),
+        Ok(Answer::Ready(StreamResult::Cancelled)) => Ok(Reply::Cancelled),
+        Ok(Answer::Pending) => Ok(Reply::Cancelled),
+        Err(error) => p3_stop_reply(error),
+    }
+}
+
+/// The reply of a result that is taken out of its slot: `ok` or its code, `unfilled` where there is
+/// none, or its trap. The only error is out of memory.
+pub fn slot_reply(
+    alloc: Global,
+    answer: Result<Option<Result<(), p3::ErrorCode>>, wasi_p3::SocketError>,
+) -> Result<Reply, AllocError>
+    ensures { IfOk result (λ reply. IsOkAnd (ends_as answer) (λ x. reply ≡ slot_reply x)) }
+{
+    match answer {
+        Ok(None) => Ok(Reply::Unfilled),
+        Ok(Some(Ok(()))) => Ok(Reply::done(alloc)),
+        Ok(Some(Err(code))) => Ok(Reply::Err(CodeWord::from_p3(code))),
+        Err(error) => p3_stop_reply(error),
+    }
+}
+
 /// The reply of a call without a value: its code or its trap. Out of memory has none.
 fn stop_reply(error: SocketError) -> Result<Reply, AllocError>
     ensures { IfOk result (λ reply. IsStop error (λ stop. reply ≡ stop_reply stop)) }
@@ -136,6 +188,18 @@ fn p3_stop_reply(error: wasi_p3::SocketError) -> Result<Reply, AllocError>
         wasi_p3::SocketError::Code(code) => Ok(Reply::Err(CodeWord::from_p3(code))),
         wasi_p3::SocketError::Trap(kind) => Ok(Reply::Trap(kind)),
         wasi_p3::SocketError::Memory(e) => Err(e),
+    }
+}
+
+/// The same of a lookup of 0.3.
+fn lookup_stop_reply(error: LookupError) -> Result<Reply, AllocError>
+    ensures { IfOk result (λ reply. IsStopOf error
+        (λ stop. reply ≡ stop_as word_of_lookup stop)) }
+{
+    match error {
+        LookupError::Code(code) => Ok(Reply::Err(CodeWord::from_lookup(code))),
+        LookupError::Trap(kind) => Ok(Reply::Trap(kind)),
+        LookupError::Memory(e) => Err(e),
     }
 }
 
@@ -175,6 +239,8 @@ fn outcome_reply(alloc: Global, line: u32, answer: Answer<Outcome>) -> Result<Re
         Answer::Ready(Outcome::Closed) => Ok(Reply::Closed),
         Answer::Ready(Outcome::Places(places)) => ok(alloc, places),
         Answer::Ready(Outcome::Refused(code)) => Ok(Reply::Err(CodeWord::from_p3(code))),
+        Answer::Ready(Outcome::Addresses(addresses)) => ok(alloc, addresses),
+        Answer::Ready(Outcome::Unresolved(code)) => Ok(Reply::Err(CodeWord::from_lookup(code))),
         Answer::Pending => Ok(Reply::Pending(line)),
     }
 }

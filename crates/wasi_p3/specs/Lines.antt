@@ -58,7 +58,10 @@ of_tcp handle call = do
   place ← tcp_named handle
   last (in_store (on_tcp place call))
 
--- a call on the store, whose codes get their 0.3 names
+-- a call whose codes get their 0.3 names: on all of it, or on the store
+abbrev pub in_host : {A : Type 0} → Does ErrorCode Machine A → Line P3Code Machine A
+in_host call = Call (renamed p3_of_code) (λ m. m) (λ m now. now) call
+
 abbrev pub in_base : {A : Type 0} → Does ErrorCode Records A → Line P3Code Machine A
 in_base call = Call (renamed p3_of_code) (λ m. m.store) storing call
 

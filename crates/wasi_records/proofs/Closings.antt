@@ -7,7 +7,7 @@ use Rattle.wasi_world.specs.Closings.{Named, NoneNamed}
 use Rattle.wasi_world.specs.Seen.{Seen}
 use Rattle.wasi_tcp.specs.Socket.{side_of}
 use Rattle.wasi_records.specs.declared.records.Record.{Record}
-use Rattle.wasi_records.specs.declared.records.Record.TheVariants.{Tcp, Udp, Lookup, InputPipe, OutputPipe, Gone}
+use Rattle.wasi_records.specs.declared.records.Record.TheVariants.{Tcp, Udp, Lookup, InputPipe, OutputPipe, Slot as SlotRecord, Gone}
 use Rattle.wasi_records.specs.declared.udp.UdpRecord.{UdpRecord}
 use Rattle.wasi_records.specs.declared.udp.UdpRecord.TheVariants.{Creating, Open, Closed}
 use Rattle.wasi_records.specs.Sides.{Weight, Tally, each, only, no_socket, one_socket, tally, tally_all, made_in, closed_in, held_by, held_in, ClosesAll}
@@ -67,6 +67,7 @@ few_by (Udp u) = few_udp u
 few_by (Lookup l) = omega arith
 few_by (InputPipe bytes) = omega arith
 few_by (OutputPipe pipe) = omega arith
+few_by (SlotRecord s) = omega arith
 few_by Gone = omega arith
 
 few_held : (xs : List Record) → held_in xs each ≤ length xs + length xs

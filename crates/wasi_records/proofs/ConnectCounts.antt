@@ -30,7 +30,7 @@ use Rattle.wasi_tcp.specs.Connect.{IsConnect, IsLeftOfConnect, Unbound, Unchecke
 use Rattle.wasi_tcp.specs.Connecting.{HoldsConnect, connect_ended, finish_in, in_socket, finish_connect_asks}
 use Rattle.wasi_records.specs.Records.{tcp2_at, tcp2_put}
 use Rattle.wasi_records.specs.declared.records.Record.{Record}
-use Rattle.wasi_records.specs.declared.records.Record.TheVariants.{Tcp, Udp, Lookup, InputPipe, OutputPipe, Gone}
+use Rattle.wasi_records.specs.declared.records.Record.TheVariants.{Tcp, Udp, Lookup, InputPipe, OutputPipe, Slot as SlotRecord, Gone}
 use Rattle.wasi_records.specs.declared.socket.TcpRecord.{TcpRecord}
 use Rattle.wasi_world.proofs.Walks.{asks_end, reaches_in, asks_err}
 use Rattle.wasi_records.specs.Sockets.{with_inner, opened_send, opened_receive, opened, connect_polled, connect_settled, connect_told, poll_connect_asks}
@@ -261,5 +261,6 @@ held_in-swap w (Udp u ∷ rs) zero r s h = absurd (cc)
 held_in-swap w (Lookup l ∷ rs) zero r s h = absurd (cc)
 held_in-swap w (InputPipe b ∷ rs) zero r s h = absurd (cc)
 held_in-swap w (OutputPipe p ∷ rs) zero r s h = absurd (cc)
+held_in-swap w (SlotRecord x ∷ rs) zero r s h = absurd (cc)
 held_in-swap w (Gone ∷ rs) zero r s h = absurd (cc)
 held_in-swap w (x ∷ rs) (suc i) old now h = let p = held_in-swap w rs i old now h in omega arith

@@ -30,3 +30,5 @@ pub mod Numbers
 pub mod RecordMaps
 pub mod HeldMaps
 pub mod PipeCounts
+pub mod SlotCounts
+pub mod EndCalms

@@ -123,7 +123,7 @@ calm_shut_receive op s = calm_then Any Any (reader_shutdown_asks op s.reader) _ 
 calm_shut_send : (op : OpId) (s : Streams) → Calm Any (shut_send op s)
 calm_shut_send op s = calm_then Any Any (writer_shutdown_asks op s.writer) _ (calm_writer_shutdown op s.writer) (λ d k. tt)
 
-calm_shut : (op : OpId) (how : ShutdownType) (s : Streams) → Calm Any (shut_streams op how s)
+pub calm_shut : (op : OpId) (how : ShutdownType) (s : Streams) → Calm Any (shut_streams op how s)
 calm_shut op Receive s = calm_shut_receive op s
 calm_shut op Send s = calm_shut_send op s
 calm_shut op Both s = calm_then Any Any (shut_receive op s) _ (calm_shut_receive op s) (λ d k. calm_shut_send op d.1)

@@ -1,7 +1,7 @@
 -- Look-ups in the store.
 use Rattle.std.proofs.Common.{◌≡◌, ℕ, zero, suc, List, [], ◌∷◌, Some, None, refl, sym, ap}
 use Rattle.wasi_records.specs.declared.records.Record.{Record}
-use Rattle.wasi_records.specs.declared.records.Record.TheVariants.{Tcp, Udp, Lookup, InputPipe, OutputPipe, Gone}
+use Rattle.wasi_records.specs.declared.records.Record.TheVariants.{Tcp, Udp, Lookup, InputPipe, OutputPipe, Slot as SlotRecord, Gone}
 use Rattle.wasi_records.specs.declared.socket.TcpRecord.{TcpRecord}
 use Rattle.wasi_records.specs.Records.{tcp2_at, tcp2_put}
 use Rattle.std.specs.Borrow.{Bor, MutBor}
@@ -24,6 +24,7 @@ set_back xs i x h = put_same xs i x.now (sym h)
     put_same (Lookup l ∷ ys) zero r e = absurd (cc)
     put_same (InputPipe b ∷ ys) zero r e = absurd (cc)
     put_same (OutputPipe p ∷ ys) zero r e = absurd (cc)
+    put_same (SlotRecord s ∷ ys) zero r e = absurd (cc)
     put_same (Gone ∷ ys) zero r e = absurd (cc)
     put_same (y ∷ ys) (suc k) r e = ap (λ (l : List Record). y ∷ l) (put_same ys k r e)
 

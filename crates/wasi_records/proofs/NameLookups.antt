@@ -3,7 +3,7 @@ use Rattle.std.specs.Borrow.{Bor, MutBor}
 use Rattle.std.proofs.Common.{◌≡◌, ℕ, zero, suc, ◌+◌, ◌<◌, List, [], ◌∷◌, Some, None, sym, ap, refl, map, length, slice_set, get_or, arith}
 use Rattle.wasi_records.specs.declared.name_lookup.Lookup.{Lookup as NameLookup}
 use Rattle.wasi_records.specs.declared.records.Record.{Record}
-use Rattle.wasi_records.specs.declared.records.Record.TheVariants.{Tcp, Udp, Lookup, InputPipe, OutputPipe, Gone}
+use Rattle.wasi_records.specs.declared.records.Record.TheVariants.{Tcp, Udp, Lookup, InputPipe, OutputPipe, Slot as SlotRecord, Gone}
 use Rattle.wasi_records.specs.Numbered.{item_at}
 use Rattle.wasi_records.specs.Records.{lookup_at, lookup_put, lookup_pushed}
 use Rattle.wasi_records.specs.Sides.{Weight, no_socket, held_by, held_in}
@@ -62,6 +62,7 @@ module _ (w : Weight) where
   put_in (Udp u ∷ rs) zero old now h = absurd (cc)
   put_in (InputPipe b ∷ rs) zero old now h = absurd (cc)
   put_in (OutputPipe p ∷ rs) zero old now h = absurd (cc)
+  put_in (SlotRecord s ∷ rs) zero old now h = absurd (cc)
   put_in (Gone ∷ rs) zero old now h = absurd (cc)
   put_in (Lookup l ∷ rs) zero old now h = refl
   put_in (x ∷ rs) (suc i) old now h = ap (λ n. held_by x w + n) (put_in rs i old now h)

@@ -2,7 +2,7 @@
 use Rattle.std.proofs.Common.{◌≡◌, ℕ, zero, suc, ◌+◌, List, [], ◌∷◌, ◌++◌, Some, ap, refl}
 use Rattle.memory_streams.specs.Plain.{Contents}
 use Rattle.wasi_records.specs.declared.records.Record.{Record}
-use Rattle.wasi_records.specs.declared.records.Record.TheVariants.{Tcp, Udp, Lookup, InputPipe, OutputPipe, Gone}
+use Rattle.wasi_records.specs.declared.records.Record.TheVariants.{Tcp, Udp, Lookup, InputPipe, OutputPipe, Slot as SlotRecord, Gone}
 use Rattle.wasi_records.specs.Records.{input_pipe_at, input_pipe_put, output_pipe_at, output_pipe_put}
 use Rattle.wasi_records.specs.Sides.{Weight, no_socket, held_by, held_in}
 use Rattle.wasi_records.proofs.SideCounts.{same_tally}
@@ -14,6 +14,7 @@ module _ (w : Weight) where
   input_in (Udp u ∷ rs) zero old now h = absurd (cc)
   input_in (Lookup l ∷ rs) zero old now h = absurd (cc)
   input_in (OutputPipe p ∷ rs) zero old now h = absurd (cc)
+  input_in (SlotRecord s ∷ rs) zero old now h = absurd (cc)
   input_in (Gone ∷ rs) zero old now h = absurd (cc)
   input_in (InputPipe b ∷ rs) zero old now h = refl
   input_in (x ∷ rs) (suc i) old now h = ap (λ n. held_by x w + n) (input_in rs i old now h)
@@ -25,6 +26,7 @@ module _ (w : Weight) where
   output_in (Lookup l ∷ rs) zero old now h = absurd (cc)
   output_in (InputPipe b ∷ rs) zero old now h = absurd (cc)
   output_in (OutputPipe p ∷ rs) zero old now h = refl
+  output_in (SlotRecord s ∷ rs) zero old now h = absurd (cc)
   output_in (Gone ∷ rs) zero old now h = absurd (cc)
   output_in (x ∷ rs) (suc i) old now h = ap (λ n. held_by x w + n) (output_in rs i old now h)
 

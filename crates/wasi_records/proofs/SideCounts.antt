@@ -35,7 +35,7 @@ use Rattle.wasi_tcp.specs.Socket.{side_of, after_create, ask_bound, bound_asks}
 use Rattle.wasi_world.proofs.Walks.{reaches_all}
 use Rattle.wasi_records.specs.Records.{tcp2_put, tcp2_at, tcp2_pushed}
 use Rattle.wasi_records.specs.declared.records.Record.{Record}
-use Rattle.wasi_records.specs.declared.records.Record.TheVariants.{Tcp, Udp, Lookup, InputPipe, OutputPipe, Gone}
+use Rattle.wasi_records.specs.declared.records.Record.TheVariants.{Tcp, Udp, Lookup, InputPipe, OutputPipe, Slot as SlotRecord, Gone}
 use Rattle.wasi_records.specs.declared.socket.TcpRecord.{TcpRecord}
 use Rattle.wasi_records.specs.Sockets.{begin_connect_asks, tell_local_asks, tell_remote_asks}
 use Rattle.wasi_records.specs.Sides.{Weight, Tally, no_socket, tally, makes, made_by, closed_by, made_in, closed_in, holds, held_in, Balances, MakesNone, held_by}
@@ -104,6 +104,7 @@ same_in w (Udp u ∷ rs) zero r s h e = absurd (cc)
 same_in w (Lookup l ∷ rs) zero r s h e = absurd (cc)
 same_in w (InputPipe b ∷ rs) zero r s h e = absurd (cc)
 same_in w (OutputPipe p ∷ rs) zero r s h e = absurd (cc)
+same_in w (SlotRecord x ∷ rs) zero r s h e = absurd (cc)
 same_in w (Gone ∷ rs) zero r s h e = absurd (cc)
 same_in w (x ∷ rs) (suc i) r s h e = ap (λ n. held_by x w + n) (same_in w rs i r s h e)
 

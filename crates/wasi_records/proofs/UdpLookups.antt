@@ -2,7 +2,7 @@
 use Rattle.std.specs.Borrow.{Bor, MutBor}
 use Rattle.std.proofs.Common.{◌≡◌, ℕ, zero, suc, ◌+◌, List, [], ◌∷◌, Option, Some, None, refl, sym, ap, arith}
 use Rattle.wasi_records.specs.declared.records.Record.{Record}
-use Rattle.wasi_records.specs.declared.records.Record.TheVariants.{Tcp, Udp, Lookup, InputPipe, OutputPipe, Gone}
+use Rattle.wasi_records.specs.declared.records.Record.TheVariants.{Tcp, Udp, Lookup, InputPipe, OutputPipe, Slot as SlotRecord, Gone}
 use Rattle.wasi_records.specs.declared.udp.OpenUdp.{OpenUdp}
 use Rattle.wasi_records.specs.declared.udp.UdpRecord.{UdpRecord}
 use Rattle.wasi_records.specs.declared.udp.UdpRecord.TheVariants.{Creating, Open, Closed}
@@ -44,6 +44,7 @@ udp_put_same (Tcp r ∷ xs) zero u h = absurd (cc)
 udp_put_same (Lookup l ∷ xs) zero u h = absurd (cc)
 udp_put_same (InputPipe b ∷ xs) zero u h = absurd (cc)
 udp_put_same (OutputPipe p ∷ xs) zero u h = absurd (cc)
+udp_put_same (SlotRecord s ∷ xs) zero u h = absurd (cc)
 udp_put_same (Gone ∷ xs) zero u h = absurd (cc)
 udp_put_same (Udp x ∷ xs) zero u h = cc
 udp_put_same (x ∷ xs) (suc i) u h = ap (λ (l : List Record). x ∷ l) (udp_put_same xs i u h)
@@ -64,6 +65,7 @@ held_in-udp_swap w (Tcp r ∷ rs) zero old now h = absurd (cc)
 held_in-udp_swap w (Lookup l ∷ rs) zero old now h = absurd (cc)
 held_in-udp_swap w (InputPipe b ∷ rs) zero old now h = absurd (cc)
 held_in-udp_swap w (OutputPipe p ∷ rs) zero old now h = absurd (cc)
+held_in-udp_swap w (SlotRecord s ∷ rs) zero old now h = absurd (cc)
 held_in-udp_swap w (Gone ∷ rs) zero old now h = absurd (cc)
 held_in-udp_swap w (Udp u ∷ rs) zero old now h = let k : u ≡ old = cc in let p = ap (λ (y : UdpRecord). udp_holds y w) k in omega arith
 held_in-udp_swap w (x ∷ rs) (suc i) old now h = let p = held_in-udp_swap w rs i old now h in omega arith

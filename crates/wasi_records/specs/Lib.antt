@@ -10,6 +10,8 @@ pub mod Halves
 pub mod Binding
 pub mod Listening
 pub mod Shutdowns
+pub mod Slots
+pub mod Ends
 pub mod Looks
 pub mod Releasing
 pub mod Holding

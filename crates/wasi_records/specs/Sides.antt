@@ -13,7 +13,7 @@ use Rattle.wasi_world.specs.Sides.{is_done, is_same}
 use Rattle.wasi_tcp.specs.Shape.{Socket}
 use Rattle.wasi_tcp.specs.Socket.{side_of}
 use Rattle.wasi_records.specs.declared.records.Record.{Record}
-use Rattle.wasi_records.specs.declared.records.Record.TheVariants.{Tcp, Udp, Lookup, InputPipe, OutputPipe, Gone}
+use Rattle.wasi_records.specs.declared.records.Record.TheVariants.{Tcp, Udp, Lookup, InputPipe, OutputPipe, Slot, Gone}
 use Rattle.wasi_records.specs.declared.socket.TcpRecord.{TcpRecord}
 use Rattle.wasi_records.specs.Listening.{side_in}
 use Rattle.wasi_records.specs.Udp.{udp_holds}
@@ -83,6 +83,7 @@ held_by (Udp u) = udp_holds u
 held_by (Lookup l) = no_socket
 held_by (InputPipe bytes) = no_socket
 held_by (OutputPipe pipe) = no_socket
+held_by (Slot s) = no_socket
 held_by Gone = no_socket
 
 abbrev pub held_in : List Record → Tally

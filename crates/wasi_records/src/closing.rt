@@ -37,7 +37,11 @@ fn close_record<W: World>(world: &mut W, closed: &Record)
             close_one(world, socket.listening.side());
         }
         Record::Udp(socket) => close_one(world, socket.held()),
-        Record::Lookup(_) | Record::InputPipe(_) | Record::OutputPipe(_) | Record::Gone => (),
+        Record::Lookup(_)
+        | Record::InputPipe(_)
+        | Record::OutputPipe(_)
+        | Record::Slot(_)
+        | Record::Gone => (),
     }
 }
 

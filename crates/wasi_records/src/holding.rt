@@ -13,7 +13,7 @@ use wasi_tcp::{ReadState, WriteState};
 use wasi_world::{OpId, World};
 
 /// Whether the receiving half is open.
-fn is_reading(reader: &ReadState) -> bool
+pub(crate) fn is_reading(reader: &ReadState) -> bool
     ensures { result ≡ is_reading reader.now }
 {
     match reader {
@@ -23,7 +23,7 @@ fn is_reading(reader: &ReadState) -> bool
 }
 
 /// Whether the sending half is open.
-fn is_writing(writer: &WriteState) -> bool
+pub(crate) fn is_writing(writer: &WriteState) -> bool
     ensures { result ≡ is_writing writer.now }
 {
     match writer {

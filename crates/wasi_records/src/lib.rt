@@ -4,6 +4,7 @@
 
 pub mod closing;
 pub mod datagrams;
+pub mod ends;
 pub mod error;
 mod halves;
 mod holding;
@@ -13,6 +14,7 @@ mod receiving;
 pub mod record_list;
 pub mod records;
 mod releasing;
+pub mod slot;
 pub mod socket;
 pub mod tcp_binding;
 pub mod tcp_listening;
@@ -25,6 +27,7 @@ pub use error::SocketError;
 pub use name_lookup::{Addresses, Lookup, LookupOp, unresolvable};
 pub use record_list::{RecordId, RecordList, SlotKey};
 pub use records::{Record, Stored, find, find_mut, find_mut_in};
+pub use slot::{Slot, StreamResult};
 pub use socket::{Streams, TcpRecord};
 pub use tcp_binding::{AsyncOperation, InProgress};
 pub use tcp_listening::{Listening, keep_accepted};

@@ -10,6 +10,7 @@ ghost use Rattle.wasi_records.specs.NameLookup.{is_looking, lookup_told, next_of
 ghost use Rattle.wasi_records.specs.NameLookup.{poll_lookup_asks, unresolvable};
 ghost use Rattle.wasi_records.specs.Sides.{MakesNone};
 
+use crate::records::{Record, Stored};
 use std::alloc::{AllocError, Global};
 use std::collections::VecDeque;
 use std::marker::Model;
@@ -159,4 +160,32 @@ pub fn unresolvable() -> p2::ErrorCode
     ensures { result ≡ unresolvable }
 {
     p2::ErrorCode::from_lookup(lookup_code::ErrorCode::NameUnresolvable)
+}
+
+impl Stored for Lookup {
+    ghost use Rattle.std.specs.Prelude.{refl};
+    ghost use Rattle.wasi_records.specs.Records.{lookup_of};
+    ghost use Rattle.wasi_records.specs.declared.records.Record.TheVariants.{Lookup as LookupRecord};
+
+    ghost into = { λ r. LookupRecord r };
+
+    ghost of = { lookup_of };
+
+    fn of_record(one: &Record) -> Option<&Lookup> {
+        match one {
+            Record::Lookup(lookup) => Some(lookup),
+            _ => None,
+        }
+    }
+
+    fn of_record_mut(one: &mut Record) -> Option<&mut Lookup> {
+        match one {
+            Record::Lookup(lookup) => Some(lookup),
+            _ => None,
+        }
+    }
+
+    ghost none = { refl };
+
+    ghost gone = { refl };
 }

@@ -9,6 +9,7 @@ ghost use Rattle.wasi_records.specs.declared.records.Record.TheVariants.{Gone};
 
 use crate::name_lookup::Lookup;
 use crate::record_list::{RecordId, RecordList, SlotKey};
+use crate::slot::Slot;
 use crate::socket::TcpRecord;
 use crate::udp::{OpenUdp, UdpRecord};
 use memory_streams::{InputPipeCore, OutputPipe};
@@ -26,6 +27,8 @@ pub enum Record {
     InputPipe(InputPipeCore),
     /// A pipe that a guest writes.
     OutputPipe(OutputPipe),
+    /// The result slot of an end of a 0.3 connection's stream.
+    Slot(Slot),
     /// Nothing: the record was given back, since nothing refers to it any more, or its number
     /// wasn't given yet.
     Gone,
@@ -54,115 +57,6 @@ pub trait Stored {
 
     /// Nor where one was given back.
     ghost gone: { of (Some Gone) ≡ None };
-}
-
-impl Stored for TcpRecord {
-    ghost use Rattle.wasi_records.specs.Records.{tcp2_of};
-    ghost use Rattle.wasi_records.specs.declared.records.Record.TheVariants.{Tcp};
-
-    ghost into = { λ r. Tcp r };
-
-    ghost of = { tcp2_of };
-
-    fn of_record(one: &Record) -> Option<&TcpRecord> {
-        match one {
-            Record::Tcp(socket) => Some(socket),
-            _ => None,
-        }
-    }
-
-    fn of_record_mut(one: &mut Record) -> Option<&mut TcpRecord> {
-        match one {
-            Record::Tcp(socket) => Some(socket),
-            _ => None,
-        }
-    }
-
-    ghost none = { refl };
-
-    ghost gone = { refl };
-}
-
-impl Stored for UdpRecord {
-    ghost use Rattle.wasi_records.specs.Records.{udp2_of};
-    ghost use Rattle.wasi_records.specs.declared.records.Record.TheVariants.{Udp};
-
-    ghost into = { λ r. Udp r };
-
-    ghost of = { udp2_of };
-
-    fn of_record(one: &Record) -> Option<&UdpRecord> {
-        match one {
-            Record::Udp(socket) => Some(socket),
-            _ => None,
-        }
-    }
-
-    fn of_record_mut(one: &mut Record) -> Option<&mut UdpRecord> {
-        match one {
-            Record::Udp(socket) => Some(socket),
-            _ => None,
-        }
-    }
-
-    ghost none = { refl };
-
-    ghost gone = { refl };
-}
-
-impl Stored for OpenUdp {
-    ghost use Rattle.wasi_records.specs.Records.{open_record_of};
-    ghost use Rattle.wasi_records.specs.declared.records.Record.TheVariants.{Udp};
-    ghost use Rattle.wasi_records.specs.declared.udp.UdpRecord.TheVariants.{Open};
-
-    ghost into = { λ o. Udp (Open o) };
-
-    ghost of = { open_record_of };
-
-    fn of_record(one: &Record) -> Option<&OpenUdp> {
-        match one {
-            Record::Udp(socket) => socket.as_open(),
-            _ => None,
-        }
-    }
-
-    fn of_record_mut(one: &mut Record) -> Option<&mut OpenUdp> {
-        match one {
-            Record::Udp(socket) => socket.as_open_mut(),
-            _ => None,
-        }
-    }
-
-    ghost none = { refl };
-
-    ghost gone = { refl };
-}
-
-impl Stored for Lookup {
-    ghost use Rattle.wasi_records.specs.Records.{lookup_of};
-    ghost use Rattle.wasi_records.specs.declared.records.Record.TheVariants.{Lookup as LookupRecord};
-
-    ghost into = { λ r. LookupRecord r };
-
-    ghost of = { lookup_of };
-
-    fn of_record(one: &Record) -> Option<&Lookup> {
-        match one {
-            Record::Lookup(lookup) => Some(lookup),
-            _ => None,
-        }
-    }
-
-    fn of_record_mut(one: &mut Record) -> Option<&mut Lookup> {
-        match one {
-            Record::Lookup(lookup) => Some(lookup),
-            _ => None,
-        }
-    }
-
-    ghost none = { refl };
-
-    ghost gone = { refl };
 }
 
 impl Stored for InputPipeCore {

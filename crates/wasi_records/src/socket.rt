@@ -11,6 +11,7 @@ ghost use Rattle.wasi_records.specs.Sockets.{connect_settled, opened, tell_local
 ghost use Rattle.wasi_records.specs.Sockets.{tell_remote_asks, new_record};
 
 use crate::error::SocketError;
+use crate::records::{Record, Stored};
 use crate::tcp_binding::{AsyncOperation, InProgress};
 use crate::tcp_listening::Listening;
 use wasi_addr::{IpSocketAddress, p2};
@@ -162,4 +163,32 @@ impl TcpRecord {
     {
         self.inner.remote_address(world, op)
     }
+}
+
+impl Stored for TcpRecord {
+    ghost use Rattle.std.specs.Prelude.{refl};
+    ghost use Rattle.wasi_records.specs.Records.{tcp2_of};
+    ghost use Rattle.wasi_records.specs.declared.records.Record.TheVariants.{Tcp};
+
+    ghost into = { λ r. Tcp r };
+
+    ghost of = { tcp2_of };
+
+    fn of_record(one: &Record) -> Option<&TcpRecord> {
+        match one {
+            Record::Tcp(socket) => Some(socket),
+            _ => None,
+        }
+    }
+
+    fn of_record_mut(one: &mut Record) -> Option<&mut TcpRecord> {
+        match one {
+            Record::Tcp(socket) => Some(socket),
+            _ => None,
+        }
+    }
+
+    ghost none = { refl };
+
+    ghost gone = { refl };
 }

@@ -7,6 +7,7 @@ ghost use Rattle.wasi_records.specs.Listening.{with_listening, listen_told, list
 ghost use Rattle.wasi_records.specs.Listening.{poll_listen_asks, listen_once, begin_listen_asks};
 ghost use Rattle.wasi_records.specs.Listening.{accept_record_asks, with_accepted_in, ids_of};
 ghost use Rattle.wasi_records.specs.Listening.{side_in, give_up_asks, unclosed, Accepted, TakesOne};
+ghost use Rattle.wasi_records.specs.Listening.{look_accept_asks};
 ghost use Rattle.wasi_records.specs.Sides.{Balances, given_by, no_socket};
 
 use crate::error::SocketError;
@@ -90,8 +91,9 @@ impl TcpRecord {
         self.listen_once(world, op)
     }
 
-    /// Begins a listen of a socket that is bound, and polls it once.
-    fn listen_once<W: World>(&mut self, world: &mut W, op: OpId) -> Result<Answer<()>, Refusal>
+    /// Begins a listen, and polls it once (`tcp-socket.listen` of 0.3). A socket that isn't in its
+    /// first state, or that listens already: `InvalidState`.
+    pub fn listen_once<W: World>(&mut self, world: &mut W, op: OpId) -> Result<Answer<()>, Refusal>
         requires { (W.seen world.old).ended ≡ false }
         ensures asked { AsksFor (listen_once op self.old self.old.listening) (W.seen world.old)
             (W.seen world.new) (λ answer. (answer, self.new)) (outcome result) }
@@ -175,6 +177,32 @@ impl TcpRecord {
         match &mut self.listening {
             Listening::Accepts(listener) => {
                 let answer = listener.poll_accept(world, ids)?;
+                Ok(answer)
+            }
+            Listening::Not => Err(Refusal::Code(ErrorCode::InvalidState)),
+            Listening::Begins(_) => Err(Refusal::Code(ErrorCode::InvalidState)),
+            Listening::Unclosed(_) => Err(Refusal::Code(ErrorCode::InvalidState)),
+        }
+    }
+
+    /// Looks whether [`poll_accept`](TcpRecord::poll_accept) would give something, which the
+    /// listener keeps. Nothing yet: pending. Not a listener: `InvalidState`.
+    pub fn look_accept<W: World>(
+        &mut self,
+        world: &mut W,
+        ids: &mut Ids,
+    ) -> Result<Answer<()>, Refusal>
+        requires open { (W.seen world.old).ended ≡ false }
+        requires names { ids.old.next_part + 1 < 2 ^ 64 }
+        ensures asked { AsksFor (look_accept_asks ids.old self.old) (W.seen world.old)
+            (W.seen world.new) (λ answer. (answer, self.new)) (outcome result) }
+        ensures ids { ids.new ≡ ids_of self.old.listening ids.old }
+        ensures sides { Balances (W.seen world.old) (W.seen world.new) no_socket self.old
+            self.new }
+    {
+        match &mut self.listening {
+            Listening::Accepts(listener) => {
+                let answer = listener.poll_ready(world, ids)?;
                 Ok(answer)
             }
             Listening::Not => Err(Refusal::Code(ErrorCode::InvalidState)),

@@ -17,6 +17,7 @@ ghost use Rattle.wasi_records.specs.Udp.{opened_udp};
 ghost use Rattle.wasi_records.specs.declared.udp.UdpRecord.TheVariants.{Open};
 
 use crate::datagrams::{Incoming, Outgoing};
+use crate::records::{Record, Stored};
 use crate::udp_connecting::PendingUdpConnect;
 use std::alloc::AllocError;
 use std::marker::Model;
@@ -382,4 +383,61 @@ impl OpenUdp {
     {
         self.inner.local_address(world, op)
     }
+}
+
+impl Stored for UdpRecord {
+    ghost use Rattle.std.specs.Prelude.{refl};
+    ghost use Rattle.wasi_records.specs.Records.{udp2_of};
+    ghost use Rattle.wasi_records.specs.declared.records.Record.TheVariants.{Udp};
+
+    ghost into = { λ r. Udp r };
+
+    ghost of = { udp2_of };
+
+    fn of_record(one: &Record) -> Option<&UdpRecord> {
+        match one {
+            Record::Udp(socket) => Some(socket),
+            _ => None,
+        }
+    }
+
+    fn of_record_mut(one: &mut Record) -> Option<&mut UdpRecord> {
+        match one {
+            Record::Udp(socket) => Some(socket),
+            _ => None,
+        }
+    }
+
+    ghost none = { refl };
+
+    ghost gone = { refl };
+}
+
+impl Stored for OpenUdp {
+    ghost use Rattle.std.specs.Prelude.{refl};
+    ghost use Rattle.wasi_records.specs.Records.{open_record_of};
+    ghost use Rattle.wasi_records.specs.declared.records.Record.TheVariants.{Udp};
+    ghost use Rattle.wasi_records.specs.declared.udp.UdpRecord.TheVariants.{Open};
+
+    ghost into = { λ o. Udp (Open o) };
+
+    ghost of = { open_record_of };
+
+    fn of_record(one: &Record) -> Option<&OpenUdp> {
+        match one {
+            Record::Udp(socket) => socket.as_open(),
+            _ => None,
+        }
+    }
+
+    fn of_record_mut(one: &mut Record) -> Option<&mut OpenUdp> {
+        match one {
+            Record::Udp(socket) => socket.as_open_mut(),
+            _ => None,
+        }
+    }
+
+    ghost none = { refl };
+
+    ghost gone = { refl };
 }

@@ -37,3 +37,21 @@ returns-in_err-release_udp-in-Udp2-clause-asked g c = asks_at (λ asks. asks) (d
 
 pub returns-in_ok-release_udp-in-Udp2-clause-asked : goal.returns-in_ok-release_udp-in-Udp2-clause-asked
 returns-in_ok-release_udp-in-Udp2-clause-asked g c = asks_at (λ asks. asks) (drop_udp (state_of c.args.view.now) c.args.ids.now c.args.kind c.in-Udp2.is) (asks_end _ (rw c.own-in-Udp2.ensures at c.in_ok-release_udp-in-Udp2.ensures.asked).ok refl)
+
+pub returns-in_err-drop_listener-in-Listen3-clause-asked : goal.returns-in_err-drop_listener-in-Listen3-clause-asked
+returns-in_err-drop_listener-in-Listen3-clause-asked g c = rw c.in-Listen3.is (fault_exit _ c.from_residual-in_err-drop_listener-in-Listen3.result c.from_residual-in_err-drop_listener-in-Listen3.ensures.1 (rw c.own-in-Listen3.ensures at c.in_err-drop_listener-in-Listen3.ensures.asked).err)
+
+pub returns-in_ok-drop_listener-in-Listen3-clause-asked : goal.returns-in_ok-drop_listener-in-Listen3-clause-asked
+returns-in_ok-drop_listener-in-Listen3-clause-asked g c = rw c.in-Listen3.is (asks_end _ (rw c.own-in-Listen3.ensures at c.in_ok-drop_listener-in-Listen3.ensures.asked).ok refl)
+
+pub returns-in_err-drop_end-in-Receive3-clause-asked : goal.returns-in_err-drop_end-in-Receive3-clause-asked
+returns-in_err-drop_end-in-Receive3-clause-asked g c = rw c.in-Receive3.is (fault_exit _ c.from_residual-in_err-drop_end-in-Receive3.result c.from_residual-in_err-drop_end-in-Receive3.ensures.1 (rw c.own-in-Receive3.ensures at c.in_err-drop_end-in-Receive3.ensures.asked).err)
+
+pub returns-in_ok-drop_end-in-Receive3-clause-asked : goal.returns-in_ok-drop_end-in-Receive3-clause-asked
+returns-in_ok-drop_end-in-Receive3-clause-asked g c = rw c.in-Receive3.is (asks_end _ (rw c.own-in-Receive3.ensures at c.in_ok-drop_end-in-Receive3.ensures.asked).ok refl)
+
+pub returns-in_err-drop_end-in-Send3-clause-asked : goal.returns-in_err-drop_end-in-Send3-clause-asked
+returns-in_err-drop_end-in-Send3-clause-asked g c = rw c.in-Send3.is (fault_exit _ c.from_residual-in_err-drop_end-in-Send3.result c.from_residual-in_err-drop_end-in-Send3.ensures.1 (rw c.own-in-Send3.ensures at c.in_err-drop_end-in-Send3.ensures.asked).err)
+
+pub returns-in_ok-drop_end-in-Send3-clause-asked : goal.returns-in_ok-drop_end-in-Send3-clause-asked
+returns-in_ok-drop_end-in-Send3-clause-asked g c = rw c.in-Send3.is (asks_end _ (rw c.own-in-Send3.ensures at c.in_ok-drop_end-in-Send3.ensures.asked).ok refl)

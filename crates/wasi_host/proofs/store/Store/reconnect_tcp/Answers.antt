@@ -2,7 +2,7 @@ use Rattle.std.proofs.Common.{refl}
 use Rattle.wasi_world.proofs.Walks.{asks_end, reaches_all}
 use Rattle.wasi_records.proofs.Lookups.{found_at, none_at}
 use Rattle.wasi_host.specs.Store.{Records}
-use Rattle.wasi_host.proofs.Connects.{polled_asked}
+use Rattle.wasi_host.proofs.Connects.{polled_asked, polled_stays}
 use Rattle.wasi_host.proofs.KnownSides.{knows_polled, knows_same}
 use Rattle.wasi_host.proofs.store.Store.reconnect_tcp.Goals as goal
 
@@ -19,3 +19,6 @@ pub returns-clause-sides : goal.returns-clause-sides
 returns-clause-sides g c = λ k.
     let store : Records = record { records = c.self.inside.records.items; jobs = c.self.inside.jobs.items; standing = c.self.inside.standing; beside = c.self.inside.beside } in
     knows_same _ _ refl (knows_polled store c.args.place c.in-Some.record.now c.reconnect-connected.new.record (found_at c.self.inside.records.items c.args.place c.in-Some.record c.in-Some.ensures.item) c.reconnect-connected.ensures.sides (rw (← c.self.view_is) at k))
+
+pub returns-clause-stays : goal.returns-clause-stays
+returns-clause-stays g c = rw (← c.self.view_is, c.unnamed.ensures.told, c.keep_polled.ensures) (polled_stays _ c.args.line c.reconnect-connected.result)

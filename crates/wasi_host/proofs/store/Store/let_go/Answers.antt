@@ -1,0 +1,42 @@
+use Rattle.std.proofs.Common.{refl}
+use Rattle.wasi_world.proofs.Walks.{asks_exit, asks_end, asks_given}
+use Rattle.wasi_records.specs.declared.records.Record.TheVariants.{Tcp}
+use Rattle.wasi_host.specs.Store.{Records}
+use Rattle.wasi_host.proofs.KnownSides.{knows_polled}
+use Rattle.wasi_records.proofs.Lookups.{found_at, none_at}
+use Rattle.wasi_host.proofs.GivenBack.{put_none}
+use Rattle.wasi_host.proofs.store.Store.let_go.Goals as goal
+
+pub returns-in_default-clause-asked : goal.returns-in_default-clause-asked
+returns-in_default-clause-asked g c = rw (← c.self.view_is, none_at c.self.inside.records.items c.args.place c.in_default.ensures.item) (asks_given _ _ refl refl)
+
+pub returns-in_err-let_go-clause-asked : goal.returns-in_err-let_go-clause-asked
+returns-in_err-let_go-clause-asked g c =
+    rw (← c.self.view_is, found_at c.self.inside.records.items c.args.place c.in-Some.record c.in-Some.ensures.item)
+    (asks_exit _ _ c.from_residual.ensures.1 c.in_err-let_go.ensures.asked.err)
+
+pub returns-in_err-let_go-clause-sides : goal.returns-in_err-let_go-clause-sides
+returns-in_err-let_go-clause-sides g c = λ k.
+    let store : Records = record { records = c.self.inside.records.items; jobs = c.self.inside.jobs.items; standing = c.self.inside.standing; beside = c.self.inside.beside } in
+    knows_polled store c.args.place c.in-Some.record.now c.let_go.new.self (found_at c.self.inside.records.items c.args.place c.in-Some.record c.in-Some.ensures.item) c.let_go.ensures.sides (rw (← c.self.view_is) at k)
+
+pub returns-then-branch-clause-asked : goal.returns-then-branch-clause-asked
+returns-then-branch-clause-asked g c =
+    rw (← c.self.view_is, found_at c.self.inside.records.items c.args.place c.in-Some.record c.in-Some.ensures.item, c.give_back.ensures.state)
+    (asks_end _ (rw c.if-branch.true at c.in_ok-let_go.ensures.asked.ok) refl)
+
+pub returns-then-branch-clause-sides : goal.returns-then-branch-clause-sides
+returns-then-branch-clause-sides g c = λ k.
+    let store : Records = record { records = c.self.inside.records.items; jobs = c.self.inside.jobs.items; standing = c.self.inside.standing; beside = c.self.inside.beside } in
+    c.give_back.ensures.sides (g.W.World.seen c.let_go.new.world) (put_none c.self.inside.records.items c.args.place (Tcp c.let_go.new.self) (c.in_ok-let_go.ensures.none c.if-branch.true))
+    (knows_polled store c.args.place c.in-Some.record.now c.let_go.new.self (found_at c.self.inside.records.items c.args.place c.in-Some.record c.in-Some.ensures.item) c.let_go.ensures.sides (rw (← c.self.view_is) at k))
+
+pub returns-clause-asked : goal.returns-clause-asked
+returns-clause-asked g c =
+    rw (← c.self.view_is, found_at c.self.inside.records.items c.args.place c.in-Some.record c.in-Some.ensures.item)
+    (asks_end _ (rw c.if-branch.false at c.in_ok-let_go.ensures.asked.ok) refl)
+
+pub returns-clause-sides : goal.returns-clause-sides
+returns-clause-sides g c = λ k.
+    let store : Records = record { records = c.self.inside.records.items; jobs = c.self.inside.jobs.items; standing = c.self.inside.standing; beside = c.self.inside.beside } in
+    knows_polled store c.args.place c.in-Some.record.now c.let_go.new.self (found_at c.self.inside.records.items c.args.place c.in-Some.record c.in-Some.ensures.item) c.let_go.ensures.sides (rw (← c.self.view_is) at k)

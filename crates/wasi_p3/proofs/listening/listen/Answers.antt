@@ -1,0 +1,10 @@
+use Rattle.wasi_addr.specs.Code.{p3_of_code}
+use Rattle.wasi_host.specs.BaseStops.{ends_as}
+use Rattle.wasi_host.specs.Views.{state_of}
+use Rattle.wasi_p3.proofs.HostCalls.{host_named}
+use Rattle.wasi_p3.proofs.listening.listen.Goals as goal
+
+pub returns-clause-asked : goal.returns-clause-asked
+returns-clause-asked g c =
+    rw (c.named.ensures, c.in_ok-place.ensures)
+    (host_named p3_of_code (state_of c.args.view.now) (ends_as c.listen_tcp.result) c.listen_tcp.ensures.asked)

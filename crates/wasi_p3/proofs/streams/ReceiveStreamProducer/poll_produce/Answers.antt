@@ -1,0 +1,10 @@
+use Rattle.wasi_addr.specs.Code.{p3_of_code}
+use Rattle.wasi_host.specs.BaseStops.{ends_as}
+use Rattle.wasi_host.specs.Views.{state_of}
+use Rattle.wasi_host.proofs.Bases.{stored_named}
+use Rattle.wasi_p3.proofs.streams.ReceiveStreamProducer.poll_produce.Goals as goal
+
+pub returns-clause-asked : goal.returns-clause-asked
+returns-clause-asked g c =
+    rw (c.named.ensures, c.in_ok-end.ensures)
+    (stored_named p3_of_code (state_of c.args.view.now) (ends_as c.poll_read_end.result) (rw c.own-own.ensures at c.poll_read_end.ensures.asked))
