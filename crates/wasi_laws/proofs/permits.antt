@@ -5,6 +5,7 @@ pub mod Taken
 pub mod Law
 pub mod Lets
 pub mod Calls
+pub mod Ends
 pub mod Splices
 pub mod Blocking
 pub mod Checked

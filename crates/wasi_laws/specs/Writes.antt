@@ -19,7 +19,12 @@ use Rattle.wasi_host.specs.declared.store.StandingCall.TheVariants.{Blocking}
 use Rattle.wasi_host.specs.Blocking.{look_asks}
 use Rattle.wasi_host.specs.CallStops.{CallStop}
 use Rattle.wasi_host.specs.Kinds.{kind_at, is_readable, is_writable}
-use Rattle.wasi_host.specs.Machine.{output_at}
+use Rattle.wasi_host.specs.Machine.{output_at, send3_at}
+use Rattle.wasi_host.specs.declared.kind.ConnectionEnd.{ConnectionEnd}
+use Rattle.wasi_records.specs.Ends.{half_of, send_half}
+use Rattle.wasi_records.specs.Records.{tcp2_at}
+use Rattle.wasi_tcp.specs.Taken.{took}
+use Rattle.wasi_tcp.specs.declared.halves.TcpSendStream.{TcpSendStream}
 use Rattle.wasi_records.specs.Names.{own_of}
 use Rattle.wasi_host.specs.Standing.{unstood}
 use Rattle.wasi_host.specs.StreamCalls.{read_asks, check_asks, write_asks}
@@ -153,3 +158,27 @@ let_on side own m call entries = []
 abbrev pub let_resumed : OpId → Machine → Option Standing → List Entry → List ℕ
 let_resumed side m None entries = []
 let_resumed side m (Some s) entries = let_on side (own_of s.ids.line) (record m { store = unstood m.store }) s.call entries
+
+-- == a write of 0.3
+-- it offers its bytes once, and is let write those of them that were taken
+abbrev pub let_taken : List ℕ → List Entry → List ℕ
+let_taken bytes [] = []
+let_taken bytes (e ∷ entries) = take (length (took e.answer)) bytes
+
+-- by the half of its end, where that is open
+abbrev pub let_offer : OpId → List ℕ → Option TcpSendStream → List Entry → List ℕ
+let_offer side bytes None entries = []
+let_offer side [] (Some half) entries = []
+let_offer side (b ∷ bytes) (Some half) entries = if is_same half.side side then let_taken (take 4294967295 (b ∷ bytes)) entries else []
+
+abbrev pub half_at : Machine → Option ℕ → Option TcpSendStream
+half_at m None = None
+half_at m (Some place) = half_of send_half (tcp2_at m.store.records place)
+
+abbrev pub half_by : Machine → Option ConnectionEnd → Option TcpSendStream
+half_by m None = None
+half_by m (Some end) = half_at m end.socket
+
+-- the half of the end that a handle names
+abbrev pub let_end : OpId → Machine → ℕ → List ℕ → List Entry → List ℕ
+let_end side m handle bytes entries = let_offer side bytes (half_by m (send3_at m handle)) entries

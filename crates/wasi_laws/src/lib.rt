@@ -41,7 +41,8 @@ pub fn runs_are_of_steps()
 {}
 
 /// What a network socket took is a prefix of the permitted bytes: those that the steps so far were
-/// allowed to write to it, given the answers so far.
+/// allowed to write to it, given the answers so far. A write of 0.3 is one ask, and is allowed those
+/// of its bytes that were taken.
 ///
 /// - `done`: after each step.
 /// - `begun`: in the middle of the next step.

@@ -1,12 +1,14 @@
 -- Places of a store: the records of one kind by number. What holds of one kind holds of each, so there is one theory of lists.
-use Rattle.std.proofs.Common.{◌≡◌, ◌⊎◌, inl, inr, ℕ, zero, suc, List, [], ◌∷◌, ◌++◌, Option, Some, None, true, length, refl, sym, ap, slice_get, slice_set, ◌∙◌}
-use Rattle.std.specs.Prelude.{is_some}
+use Rattle.std.proofs.Common.{◌≡◌, ◌⊎◌, inl, inr, ℕ, zero, suc, List, [], ◌∷◌, ◌++◌, Option, Some, None, true, length, refl, sym, ap, slice_get, slice_set, subst, ◌∙◌}
+use Rattle.std.specs.Prelude.{IsSome, is_some}
+use Rattle.wasi_records.specs.Slots.{slot_of}
+use Rattle.wasi_records.specs.declared.slot.Slot.{Slot}
 use Rattle.wasi_walks.proofs.Lists.{get_seam}
 use Rattle.memory_streams.specs.Plain.{Contents}
 use Rattle.wasi_records.specs.Records.{tcp2_of, udp2_of, lookup_of, input_pipe_of, output_pipe_of}
 use Rattle.wasi_records.specs.declared.name_lookup.Lookup.{Lookup}
 use Rattle.wasi_records.specs.declared.records.Record.{Record}
-use Rattle.wasi_records.specs.declared.records.Record.TheVariants.{Tcp, Udp, Lookup as LookupRecord, InputPipe, OutputPipe}
+use Rattle.wasi_records.specs.declared.records.Record.TheVariants.{Tcp, Udp, Lookup as LookupRecord, InputPipe, OutputPipe, Slot as SlotRecord}
 use Rattle.wasi_records.specs.declared.socket.TcpRecord.{TcpRecord}
 use Rattle.wasi_records.specs.declared.udp.UdpRecord.{UdpRecord}
 
@@ -197,6 +199,10 @@ pub input_it : (o : Option Record) (bytes : List ℕ) → input_pipe_of o ≡ So
 input_it (Some (InputPipe x)) bytes e = let p : x ≡ bytes = cc in ap (λ (y : List ℕ). Some (InputPipe y)) p
 input_it _ bytes e = absurd (cc)
 
+pub slot_it : (o : Option Record) (t : Slot) → slot_of o ≡ Some t → o ≡ Some (SlotRecord t)
+slot_it (Some (SlotRecord x)) t e = let p : x ≡ t = cc in ap (λ (y : Slot). Some (SlotRecord y)) p
+slot_it _ t e = absurd (cc)
+
 pub output_it : (o : Option Record) (pipe : Contents) → output_pipe_of o ≡ Some pipe → o ≡ Some (OutputPipe pipe)
 output_it (Some (OutputPipe x)) pipe e = let p : x ≡ pipe = cc in ap (λ (y : Contents). Some (OutputPipe y)) p
 output_it _ pipe e = absurd (cc)
@@ -215,3 +221,14 @@ input_sort = record { into = λ bytes. InputPipe bytes; of = input_pipe_of; is =
 
 abbrev pub output_sort : Sort Contents
 output_sort = record { into = λ pipe. OutputPipe pipe; of = output_pipe_of; is = λ pipe. refl; none = refl; it = output_it }
+
+abbrev pub slot_sort : Sort Slot
+slot_sort = record { into = λ t. SlotRecord t; of = slot_of; is = λ t. refl; none = refl; it = slot_it }
+
+-- == whatever is there
+-- a place that is there stays where another is replaced, and where one more joins
+pub there_put : {A : Type 0} (xs : List A) (i : ℕ) (now : A) (k : ℕ) → IsSome (slice_get xs k) → IsSome (slice_get (slice_set xs i now) k)
+there_put {A = A} xs i now k h = elim (set_at xs i now k) [ inl same ↦ subst (λ (o : Option A). IsSome o) (sym same) h | inr its ↦ subst (λ (o : Option A). IsSome o) (sym its.1) refl ]
+
+pub there_push : {A : Type 0} (xs : List A) (now : A) (k : ℕ) → IsSome (slice_get xs k) → IsSome (slice_get (xs ++ now ∷ []) k)
+there_push {A = A} xs now k h = elim (push_at xs now k) [ inl same ↦ subst (λ (o : Option A). IsSome o) (sym same) h | inr its ↦ subst (λ (o : Option A). IsSome o) (sym its.1) refl ]

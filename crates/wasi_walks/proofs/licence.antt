@@ -1,5 +1,6 @@
 -- Each ask is licensed.
 pub mod Lookups
+pub mod Besides
 pub mod State
 pub mod Frames
 pub mod DatagramFrames
@@ -8,6 +9,8 @@ pub mod States
 pub mod Binds
 pub mod Connects
 pub mod WriteJobs
+pub mod Unbound
+pub mod Wilds
 pub mod ListenAsks
 pub mod AcceptAsks
 pub mod Replies
@@ -17,6 +20,7 @@ pub mod Line
 pub mod LookupMoves
 pub mod UdpMoves
 pub mod StreamMoves
+pub mod Ends
 pub mod Moves
 pub mod Asked
 pub mod LookupAsks
@@ -25,10 +29,14 @@ pub mod UdpAsks
 pub mod DatagramAsks
 pub mod UdpMarks
 pub mod ErrorMarks
+pub mod ListenMarks
+pub mod EndAsks
 pub mod UdpGoesOn
 pub mod GoesOn
-pub mod Runs
 pub mod Meanings
+pub mod WildAsks
+pub mod Judged
+pub mod Runs
 pub mod Rows
 pub mod ListenRows
 pub mod BacklogRows
@@ -36,4 +44,5 @@ pub mod Refused
 pub mod UdpRows
 pub mod DatagramRows
 pub mod StreamRows
+pub mod P3Rows
 pub mod PollRows

@@ -2,4 +2,6 @@
 pub mod Kinds
 pub mod Names
 pub mod Owned
+pub mod Records
+pub mod NewHandles
 pub mod Law

@@ -1,4 +1,5 @@
 pub mod Allowed
+pub mod Lines
 pub mod Licence
 pub mod Answered
 pub mod Missing

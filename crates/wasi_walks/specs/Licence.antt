@@ -16,7 +16,7 @@ use Rattle.wasi_world.specs.declared.call.Call.{Call}
 use Rattle.wasi_world.specs.declared.call.Call.TheVariants.{Check, Lookup, TcpCreate, UdpCreate, UdpWritable, Local, Peer, Bind, UdpBind, UdpConnect, Listen, SetBacklog, Connect, Accept, Hand, Refuse, Read, ReadReady, WriteReady, Write, Shutdown, UdpDisconnect, Send, Recv, GetOption, SetOption, Close, Made}
 use Rattle.wasi_world.specs.declared.call.HandleKind.{HandleKind}
 use Rattle.wasi_world.specs.declared.call.HandleKind.TheVariants as handle_kind
-use Rattle.wasi_world.specs.declared.call.HandleKind.TheVariants.{Network, Tcp2, Tcp3, Udp2, Udp3, Input, Output, Pollable, ErrorValue, Incoming, Outgoing}
+use Rattle.wasi_world.specs.declared.call.HandleKind.TheVariants.{Network, Tcp2, Tcp3, Udp2, Udp3, Listen3, Input, Output, Pollable, ErrorValue, Incoming, Outgoing, Receive3, Send3, Result3}
 use Rattle.wasi_world.specs.declared.call.Opt.{Opt}
 use Rattle.wasi_world.specs.declared.call.Told.{Told}
 use Rattle.wasi_world.specs.declared.call.Told.TheVariants.{Done, Yes, Addr, Arrived, Code}
@@ -35,43 +35,7 @@ use Rattle.wasi_steps.specs.Settings.{Chosen, AnOption, TheBacklog, chosen, udp_
 pub use Rattle.wasi_steps.specs.Steps.{handles_of}
 use Rattle.wasi_walks.specs.Allowed.{InOrder}
 pub use Rattle.wasi_walks.specs.Allowed.{Has, IsSide, IsMaker, Created, UdpCreated, Handed, entry}
-
--- == entries
--- how many handles the entries mark
-abbrev pub marked_by : Call → ℕ
-marked_by (Made handle kind parent sock) = 1
-marked_by _ = 0
-
-abbrev pub marks_in : List Entry → ℕ
-marks_in [] = 0
-marks_in (e ∷ es) = marked_by e.call + marks_in es
-
--- == steps
--- the step of this line, counted from 1
-abbrev pub step_at : List Step → ℕ → Option Step
-step_at steps zero = None
-step_at steps (suc n) = slice_get steps n
-
--- The step whose line began the operation is one of which this holds.
-pub record BeganBy (steps : List Step) (op : OpId) (P : Step → Type 0) : Type 0 where
-  pub origin : Step
-  pub at : step_at steps op.step ≡ Some origin
-  pub holds : P origin
-
--- == network sockets
--- The mark of a handle says this of its network socket.
-pub record IsMarkedWith (before : List Entry) (handle : ℕ) (sock : Option OpId) : Type 0 where
-  pub op : OpId
-  pub kind : HandleKind
-  pub parent : Option ℕ
-  pub told : Told
-  pub mark : Has before (entry op (Made handle kind parent sock) told)
-
--- The step names a handle of this network socket.
-pub record NamesSide (before : List Entry) (side : OpId) (origin : Step) : Type 0 where
-  pub handle : ℕ
-  pub named : Has (handles_of origin) handle
-  pub is : IsSide before handle side
+pub use Rattle.wasi_walks.specs.Lines.{marked_by, marks_in, step_at, BeganBy, IsMarkedWith, NamesSide}
 
 -- an operation reaches the network sockets that its step names, and the network socket that it makes itself
 abbrev pub ReachesSide : List Step → List Entry → OpId → OpId → Type 0
@@ -91,6 +55,13 @@ pub record HasWildcardYes (before : List Entry) (op side : OpId) (usage : Socket
   pub family : SocketAddressFamily
   pub maker : IsMaker before ctx family side
   pub checked : Has before (entry op (Check ctx (wildcard family) usage) Yes)
+
+-- The address is the wildcard of the network socket's family.
+pub record IsItsWildcard (before : List Entry) (side : OpId) (addr : IpSocketAddress) : Type 0 where
+  pub ctx : ℕ
+  pub family : SocketAddressFamily
+  pub maker : IsMaker before ctx family side
+  pub is : addr ≡ wildcard family
 
 -- The network socket's local address was reported, and it is another than the wildcard of the network socket's family.
 pub record IsBoundSide (before : List Entry) (side : OpId) : Type 0 where
@@ -206,6 +177,7 @@ pub record MayLookUp (contexts : List WasiSocketsCtx) (number : ℕ) : Type 0 wh
 -- a lookup of a name, which is this domain, by a context that may look names up
 abbrev pub IsLookupOf : List WasiSocketsCtx → List ℕ → Step → Type 0
 IsLookupOf contexts host (step.Call ctx (guest.Resolve network name)) = MayLookUp contexts ctx × (name_is name ≡ Some (Domain host))
+IsLookupOf contexts host (step.Call ctx (guest.P3Resolve name)) = MayLookUp contexts ctx × (name_is name ≡ Some (Domain host))
 IsLookupOf contexts host _ = ⊥
 
 -- a create of a TCP socket
@@ -285,7 +257,13 @@ IsConnectTo addr _ = ⊥
 -- a listen
 abbrev pub IsListenStep : Step → Type 0
 IsListenStep (step.Call ctx (guest.TcpStartListen socket)) = ⊤
+IsListenStep (step.Call ctx (guest.P3TcpListen socket)) = ⊤
 IsListenStep _ = ⊥
+
+-- a listen of 0.3, which binds a socket that isn't bound to the wildcard
+abbrev pub BindsAnywhere : Step → Type 0
+BindsAnywhere (step.Call ctx (guest.P3TcpListen socket)) = ⊤
+BindsAnywhere _ = ⊥
 
 -- a get of this option
 abbrev pub IsGetOf : Opt → Step → Type 0
@@ -331,9 +309,9 @@ MarksNoSocket before side = (o : OpId) (handle : ℕ) (name : HandleKind) (paren
 
 -- The first mark of an accept's step is of the socket that was accepted: its parent is the listener's handle, and its network
 -- socket was handed over on the listener's network socket, and is in no earlier mark of a socket.
-pub record IsAcceptedMark (before : List Entry) (op : OpId) (listener : ℕ) (kind : HandleKind) (parent : Option ℕ) (sock : Option OpId) : Type 0 where
-  pub first : (handle : ℕ) (name : HandleKind) (above : Option ℕ) (side : Option OpId) (told : Told) → Has before (entry op (Made handle name above side) told) → ⊥
-  pub socket : kind ≡ Tcp2
+pub record IsAcceptedMark (before : List Entry) (op : OpId) (listener : ℕ) (name : HandleKind) (kind : HandleKind) (parent : Option ℕ) (sock : Option OpId) : Type 0 where
+  pub first : (handle : ℕ) (other : HandleKind) (above : Option ℕ) (side : Option OpId) (told : Told) → Has before (entry op (Made handle other above side) told) → ⊥
+  pub socket : kind ≡ name
   pub under : parent ≡ Some listener
   pub accept : OpId
   pub side : sock ≡ Some accept
@@ -343,6 +321,10 @@ pub record IsAcceptedMark (before : List Entry) (op : OpId) (listener : ℕ) (ki
   pub told : Told
   pub handed : Has before (entry accept (Hand on peer) told)
   pub fresh : MarksNoSocket before accept
+
+-- the socket of a fault has no network socket
+abbrev pub IsFaultMark : ℕ → HandleKind → Option ℕ → Option OpId → Type 0
+IsFaultMark listener kind parent sock = (kind ≡ Tcp3) × (parent ≡ Some listener) × (sock ≡ None)
 
 -- Its later marks are of the streams of the socket that it marked first: the parent is that socket's handle, and the network
 -- socket is its.
@@ -391,8 +373,9 @@ abbrev pub IsErrorMark : List Entry → OpId → HandleKind → ℕ → Option �
 IsErrorMark before op kind stream parent sock = (kind ≡ ErrorValue) × IsOfParent before stream parent sock × HasFailed before op stream sock
 
 -- what a mark says, by the step that makes the handle: a network has no network socket, nor has a pipe, a sink or a closed stream; a
--- socket that was created has its own, one that was accepted has what was handed over, a lookup has none, and the two streams of a
--- connection or of a UDP socket, an error and a pollable are of their parent's; no other step makes a handle
+-- socket that was created has its own, one that was accepted has what was handed over, or none where the accept failed, a listener has
+-- its socket's, a lookup has none, and the two streams of a connection or of a UDP socket, an end of 0.3 and its slot, an error and a
+-- pollable are of their parent's; no other step makes a handle
 abbrev pub IsMarkOf : List Entry → OpId → HandleKind → Option ℕ → Option OpId → Step → Type 0
 IsMarkOf before op kind parent sock (step.Call ctx guest.Network) = (kind ≡ Network) × (parent ≡ None) × (sock ≡ None)
 IsMarkOf before op kind parent sock (step.Call ctx (guest.TcpCreate family)) =
@@ -404,8 +387,12 @@ IsMarkOf before op kind parent sock (step.Call ctx (guest.UdpCreate family)) =
 IsMarkOf before op kind parent sock (step.Call ctx (guest.P3UdpCreate family)) =
     (kind ≡ Udp3) × (parent ≡ None) × (sock ≡ Some op) × ((name : ℕ) × (f : SocketAddressFamily) × Has before (entry op (UdpCreate name f) Done))
 IsMarkOf before op kind parent sock (step.Call ctx (guest.TcpFinishConnect socket)) = ((kind ≡ Input) ⊎ (kind ≡ Output)) × IsOfParent before socket parent sock
-IsMarkOf before op kind parent sock (step.Call ctx (guest.TcpAccept socket)) = IsAcceptedMark before op socket kind parent sock ⊎ IsStreamMark before op kind parent sock
+IsMarkOf before op kind parent sock (step.Call ctx (guest.TcpAccept socket)) = IsAcceptedMark before op socket Tcp2 kind parent sock ⊎ IsStreamMark before op kind parent sock
+IsMarkOf before op kind parent sock (step.Call ctx (guest.P3TcpListen socket)) = (kind ≡ Listen3) × IsOfParent before socket parent sock
+IsMarkOf before op kind parent sock (step.Call ctx (guest.P3Accept listener remaining)) = IsAcceptedMark before op listener Tcp3 kind parent sock ⊎ IsFaultMark listener kind parent sock
 IsMarkOf before op kind parent sock (step.Call ctx (guest.UdpStream socket remote)) = ((kind ≡ Incoming) ⊎ (kind ≡ Outgoing)) × IsOfParent before socket parent sock
+IsMarkOf before op kind parent sock (step.Call ctx (guest.P3TcpSend socket)) = ((kind ≡ Send3) ⊎ (kind ≡ Result3)) × IsOfParent before socket parent sock
+IsMarkOf before op kind parent sock (step.Call ctx (guest.P3TcpReceive socket)) = ((kind ≡ Receive3) ⊎ (kind ≡ Result3)) × IsOfParent before socket parent sock
 IsMarkOf before op kind parent sock (step.Call ctx (guest.PipeIn bytes)) = IsPlainMark Input kind parent sock
 IsMarkOf before op kind parent sock (step.Call ctx (guest.PipeOut capacity)) = IsPlainMark Output kind parent sock
 IsMarkOf before op kind parent sock (step.Call ctx guest.Sink) = IsPlainMark Output kind parent sock
@@ -439,7 +426,7 @@ MayAsk contexts steps before op (UdpWritable sock) = ReachesSide steps before op
 MayAsk contexts steps before op (Local sock) = ReachesSide steps before op sock
 MayAsk contexts steps before op (Peer sock) = ReachesSide steps before op sock
 MayAsk contexts steps before op (Bind sock addr) =
-    ReachesSide steps before op sock × BeganBy steps op (IsBindTo addr) × HasYes before before op sock addr TcpBind × BeganBy steps sock MakesTcp
+    ReachesSide steps before op sock × (BeganBy steps op (IsBindTo addr) ⊎ (BeganBy steps op BindsAnywhere × IsItsWildcard before sock addr)) × HasYes before before op sock addr TcpBind × BeganBy steps sock MakesTcp
 MayAsk contexts steps before op (UdpBind sock addr) =
     ReachesSide steps before op sock × BeganBy steps op (IsUdpBindTo addr) × HasYes before before op sock addr use_of.UdpBind × BeganBy steps sock MakesUdp
 MayAsk contexts steps before op (UdpConnect sock addr) =

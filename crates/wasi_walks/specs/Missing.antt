@@ -14,16 +14,18 @@ use Rattle.wasi_host.specs.declared.machine.Machine.{Machine}
 use Rattle.wasi_records.specs.declared.socket.TcpRecord.{TcpRecord}
 use Rattle.wasi_host.specs.declared.store.StandingCall.{StandingCall}
 use Rattle.wasi_host.specs.declared.store.StandingCall.TheVariants as standing
-use Rattle.wasi_host.specs.Kinds.{kind_at, is_network, is_error, udp_of, watched_by, watch_of, place_in}
-use Rattle.wasi_host.specs.Machine.{lookup_number}
+use Rattle.wasi_host.specs.Kinds.{kind_at, is_network, is_error, udp_of, tcp3_of, watched_by, watch_of, place_in}
+use Rattle.wasi_host.specs.Lines.{tcp_in}
+use Rattle.wasi_host.specs.Machine.{listen3_at, lookup_number, receive3_at, send3_at, result3_at}
 use Rattle.wasi_records.specs.Records.{tcp2_at, udp2_at, open_at, input_pipe_at, output_pipe_at}
 use Rattle.wasi_host.specs.Standing.{call_of, stands_as}
 use Rattle.wasi_host.specs.declared.beside.BesideCall.{BesideCall}
-use Rattle.wasi_host.specs.declared.beside.BesideCall.TheVariants.{Connect}
+use Rattle.wasi_host.specs.declared.beside.BesideCall.TheVariants.{Connect, Resolve}
 use Rattle.wasi_host.specs.Beside.{beside_of}
 use Rattle.wasi_host.specs.StreamCalls.{plain_input_at, plain_output_at}
 use Rattle.wasi_p3.specs.Lines as p3
-use Rattle.wasi_steps.specs.Steps.{Kind, HandleOf, ALine, ANetwork, ASocket, ASocket3, ADatagramSocket, ADatagramSocket3, AnInput, AnOutput, AnIncoming, AnOutgoing, ALookup, AnError, Watchable, APollable, Anything, SomePollables, Value, Values, written_of}
+use Rattle.wasi_steps.specs.Steps.{Kind, HandleOf, ALine, ANetwork, ASocket, ASocket3, ADatagramSocket, ADatagramSocket3, AnInput, AnOutput, AnIncoming, AnOutgoing, ALookup, AnError, Watchable, APollable, AListener3, Anything, SomePollables, Value, Values, written_of, AReadEnd3, AWriteEnd3, AResult3}
+use Rattle.wasi_p3.specs.Streams.{slot_in}
 use Rattle.wasi_steps.specs.declared.step.Step.{Step}
 use Rattle.wasi_steps.specs.declared.guest_call.GuestCall.TheVariants as guest
 use Rattle.wasi_steps.specs.declared.step.Step.TheVariants as step
@@ -96,7 +98,8 @@ MissesStream m (blocking.Poll pollables) = MissesOneOf m pollables
 -- the call is a bind, a listen, a create or a connect of no socket, or a call on a stream or a pollable that isn't there
 abbrev pub IsOnNothing : Machine → StandingCall → Type 0
 IsOnNothing m (standing.Bind place face) = tcp2_at m.store.records place ≡ None
-IsOnNothing m (standing.Listen place) = tcp2_at m.store.records place ≡ None
+IsOnNothing m (standing.Listen place None) = tcp2_at m.store.records place ≡ None
+IsOnNothing m (standing.Listen place (Some handle)) = (tcp2_at m.store.records place ≡ None) ⊎ (tcp3_of (kind_at m.table handle) ≡ None)
 IsOnNothing m (standing.DropOutput place) = ⊥
 IsOnNothing m (standing.UdpCreate place face) = udp2_at m.store.records place ≡ None
 IsOnNothing m (standing.UdpBind place face) = open_at m.store.records place ≡ None
@@ -108,6 +111,7 @@ IsOnNothing m (standing.Blocking call) = MissesStream m call
 -- a call that stands beside others is a connect of no socket: that one was dropped
 abbrev pub IsOfNoSocket : Machine → BesideCall → Type 0
 IsOfNoSocket m (Connect place) = tcp2_at m.store.records place ≡ None
+IsOfNoSocket m (Resolve host) = ⊥
 
 abbrev pub BesideNothing : Machine → ℕ → Type 0
 BesideNothing m n = (stands_as m.store.standing n ≡ false) × IsSomeAnd (beside_of m.store n) (λ b. IsOfNoSocket m b.call)
@@ -128,6 +132,9 @@ MissesValue m (HandleOf ASocket) h = record_at m h ≡ None
 MissesValue m (HandleOf ASocket3) h = p3.tcp_of m h ≡ None
 MissesValue m (HandleOf ADatagramSocket) h = open_udp_at m h ≡ None
 MissesValue m (HandleOf ADatagramSocket3) h = p3.udp_of m h ≡ None
+MissesValue m (HandleOf AReadEnd3) h = receive3_at m h ≡ None
+MissesValue m (HandleOf AWriteEnd3) h = send3_at m h ≡ None
+MissesValue m (HandleOf AResult3) h = slot_in m (result3_at m h) ≡ None
 MissesValue m (HandleOf AnIncoming) h = incoming_in m h ≡ None
 MissesValue m (HandleOf AnOutgoing) h = outgoing_in m h ≡ None
 MissesValue m (HandleOf AnInput) h = MissesInput m h
@@ -135,6 +142,7 @@ MissesValue m (HandleOf AnOutput) h = MissesOutput m h
 MissesValue m (HandleOf ALookup) h = lookup_in m (lookup_number m h) ≡ None
 MissesValue m (HandleOf AnError) h = is_error (kind_at m.table h) ≡ false
 MissesValue m (HandleOf Watchable) h = watched_by (kind_at m.table h) ≡ None
+MissesValue m (HandleOf AListener3) h = tcp_in m (listen3_at m h) ≡ None
 MissesValue m (HandleOf APollable) h = MissesWatched m (watch_of (kind_at m.table h))
 MissesValue m (HandleOf Anything) h = kind_at m.table h ≡ None
 MissesValue m SomePollables handles = MissesOneOf m handles
@@ -163,11 +171,15 @@ abbrev pub MakesHandle : Step → Type 0
 MakesHandle (step.Call ctx guest.Network) = ⊤
 MakesHandle (step.Call ctx (guest.TcpCreate family)) = ⊤
 MakesHandle (step.Call ctx (guest.P3TcpCreate family)) = ⊤
+MakesHandle (step.Call ctx (guest.P3TcpSend socket)) = ⊤
+MakesHandle (step.Call ctx (guest.P3TcpReceive socket)) = ⊤
 MakesHandle (step.Call ctx (guest.UdpCreate family)) = ⊤
 MakesHandle (step.Call ctx (guest.P3UdpCreate family)) = ⊤
 MakesHandle (step.Call ctx (guest.UdpStream socket remote)) = ⊤
 MakesHandle (step.Call ctx (guest.TcpFinishConnect socket)) = ⊤
 MakesHandle (step.Call ctx (guest.TcpAccept socket)) = ⊤
+MakesHandle (step.Call ctx (guest.P3TcpListen socket)) = ⊤
+MakesHandle (step.Call ctx (guest.P3Accept listener remaining)) = ⊤
 MakesHandle (step.Call ctx (guest.Resolve network name)) = ⊤
 MakesHandle (step.Call ctx (guest.PipeIn bytes)) = ⊤
 MakesHandle (step.Call ctx (guest.PipeOut capacity)) = ⊤

@@ -131,7 +131,7 @@ abbrev pub IsPoll : Step → Type 0
 IsPoll (step.Poll n) = ⊤
 IsPoll _ = ⊥
 
--- the step may be pending under this number: a bind or the start of one, a connect of 0.3, the start of a listen, a create of a UDP
+-- the step may be pending under this number: a bind or a listen, or the start of one, a connect or a lookup of 0.3, a create of a UDP
 -- socket, that of its streams, the drop of an output or of an outgoing datagram stream, and a call that blocks, of a stream or for
 -- pollables, under their line's, and a poll under the one that it polls
 abbrev pub MayStand : Machine → ℕ → Step → ℕ → Type 0
@@ -140,9 +140,11 @@ MayStand m line (step.Call ctx (guest.TcpStartListen socket)) n = n ≡ line
 MayStand m line (step.Call ctx (guest.UdpCreate family)) n = n ≡ line
 MayStand m line (step.Call ctx (guest.P3TcpBind socket a)) n = n ≡ line
 MayStand m line (step.Call ctx (guest.P3TcpConnect socket a)) n = n ≡ line
+MayStand m line (step.Call ctx (guest.P3TcpListen socket)) n = n ≡ line
 MayStand m line (step.Call ctx (guest.P3UdpCreate family)) n = n ≡ line
 MayStand m line (step.Call ctx (guest.P3UdpBind socket a)) n = n ≡ line
 MayStand m line (step.Call ctx (guest.P3UdpConnect socket a)) n = n ≡ line
+MayStand m line (step.Call ctx (guest.P3Resolve name)) n = n ≡ line
 MayStand m line (step.Call ctx (guest.UdpStartBind socket network a)) n = n ≡ line
 MayStand m line (step.Call ctx (guest.UdpStream socket remote)) n = n ≡ line
 MayStand m line (step.Call ctx (guest.Drop handle)) n = (IsSome (output_at m handle) ⊎ IsSome (outgoing_at m handle)) × (n ≡ line)
@@ -168,12 +170,21 @@ pub record IsRestOfBind (op : Operation) : Type 0 where
   pub last : op.who.last ≡ NothingLast
   pub left : IsLeftOfBind op.left
 
--- a listen of a socket that is bound asks so: it closes its network socket only in the poll that is refused
+-- a listen asks so, of a socket that is bound or not: it closes its network socket only in the poll that is refused
 abbrev pub IsAskOfListen : Item → Type 0
 IsAskOfListen (CheckLocal TcpListen) = ⊤
 IsAskOfListen (Check a TcpListen) = ⊤
 IsAskOfListen (Listen backlog) = ⊤
+IsAskOfListen (Check a TcpBind) = ⊤
+IsAskOfListen (Bind a) = ⊤
 IsAskOfListen _ = ⊥
+
+-- one of a bound socket asks so
+abbrev pub IsAskOfBound : Item → Type 0
+IsAskOfBound (CheckLocal TcpListen) = ⊤
+IsAskOfBound (Check a TcpListen) = ⊤
+IsAskOfBound (Listen backlog) = ⊤
+IsAskOfBound _ = ⊥
 
 -- what is left doesn't begin with the question for the local address
 abbrev pub StartsTold : List Item → Type 0
@@ -184,12 +195,19 @@ StartsTold _ = ⊤
 abbrev pub IsAskLeft : Item → Type 0
 IsAskLeft (Check a TcpListen) = ⊤
 IsAskLeft (Listen backlog) = ⊤
+IsAskLeft (Check a TcpBind) = ⊤
+IsAskLeft (Bind a) = ⊤
 IsAskLeft _ = ⊥
 
 -- where a listen is in progress, it is one, and only its asks are left, one at least; and the socket has no network socket
 abbrev pub IsListening : TcpState → Listening → Type 0
 IsListening s (listening.Begins op) = IsListen op × AllOf IsAskLeft op.left × (is_over op ≡ false) × (side_in s ≡ None)
 IsListening s _ = ⊥
+
+-- where a listen is in progress, its socket is bound
+abbrev pub IsOfBound : Listening → Type 0
+IsOfBound (listening.Begins op) = AllOf IsAskOfBound op.left
+IsOfBound _ = ⊤
 
 -- a bind is in progress
 abbrev pub IsBinding : InProgress → Type 0
@@ -224,7 +242,8 @@ IsUdpConnecting None = ⊥
 
 abbrev pub HoldsCall : Machine → StandingCall → Type 0
 HoldsCall m (standing.Bind place face) = IfSome (tcp2_at m.store.records place) (λ r. IsBinding r.in_progress)
-HoldsCall m (standing.Listen place) = IfSome (tcp2_at m.store.records place) (λ r. IsListening r.inner.state r.listening)
+HoldsCall m (standing.Listen place None) = IfSome (tcp2_at m.store.records place) (λ r. IsListening r.inner.state r.listening × IsOfBound r.listening)
+HoldsCall m (standing.Listen place (Some handle)) = IfSome (tcp2_at m.store.records place) (λ r. IsListening r.inner.state r.listening)
 HoldsCall m (standing.DropOutput place) = ⊤
 HoldsCall m (standing.UdpCreate place face) = IfSome (udp2_at m.store.records place) IsCreating
 HoldsCall m (standing.UdpBind place face) = IfSome (open_at m.store.records place) (λ o. IsUdpBinding o.in_progress)
@@ -233,7 +252,7 @@ HoldsCall m (standing.UdpConnect3 place) = IfSome (open_at m.store.records place
 HoldsCall m (standing.DropOutgoing place) = ⊤
 HoldsCall m (standing.Blocking call) = ⊤
 
--- where a bind, a listen, a create or a connect is pending, its record has one in progress
+-- where a bind, a listen, a create or a connect is pending, its record has one in progress; a listen of 0.2 is that of a bound socket
 abbrev pub PendingCallsFit : Machine → Type 0
 PendingCallsFit m = IfSome m.store.standing (λ s. HoldsCall m s.call)
 
@@ -266,7 +285,7 @@ UdpConnectWaits None entries = ⊥
 -- writer waits, or a datagram of the stream isn't sent yet
 abbrev pub CallWaits : Machine → OpId → List Entry → StandingCall → Type 0
 CallWaits m own entries (standing.Bind place face) = IsSomeAnd (tcp2_at m.store.records place) (λ r. BindWaits r.in_progress entries)
-CallWaits m own entries (standing.Listen place) = IsSomeAnd (tcp2_at m.store.records place) (λ r. ListenWaits r.listening entries)
+CallWaits m own entries (standing.Listen place handle) = IsSomeAnd (tcp2_at m.store.records place) (λ r. ListenWaits r.listening entries)
 CallWaits m own entries (standing.UdpCreate place face) = IsSomeAnd (udp2_at m.store.records place) (λ u. CreateWaits u entries)
 CallWaits m own entries (standing.UdpBind place face) = IsSomeAnd (open_at m.store.records place) (λ o. UdpBindWaits o.in_progress entries)
 CallWaits m own entries (standing.UdpConnect place handle) = IsSomeAnd (open_at m.store.records place) (λ o. UdpConnectWaits o.connecting entries)
@@ -289,9 +308,12 @@ pub data BindFails (op : Operation) (entries : List Entry) : ErrorCode → Type 
   ToldNo : (a : IpSocketAddress) → Has op.left (Check a TcpBind) → EndsWith (entry op.who.id (call.Check op.who.context a TcpBind) told.No) entries → BindFails op entries AccessDenied
   ToldWhy : (a : IpSocketAddress) (c : ErrorCode) → Has op.left (Bind a) → EndsWith (entry op.who.id (call.Bind op.who.side a) (told.Code c)) entries → BindFails op entries c
 
--- A listen ended with a code, and closed its network socket: its check was answered no, or the listen was answered with the code.
+-- A listen ended with a code, and closed its network socket: a check of it was answered no, or the listen, or the bind to the wildcard,
+-- was answered with the code.
 pub data ListenEnds (op : Operation) (entries : List Entry) : ErrorCode → Type 0 where
   CheckedNo : (a : IpSocketAddress) → EndsClosing op.who (call.Check op.who.context a TcpListen) told.No entries → ListenEnds op entries AccessDenied
+  CheckedNoBind : (a : IpSocketAddress) → Has op.left (Check a TcpBind) → EndsClosing op.who (call.Check op.who.context a TcpBind) told.No entries → ListenEnds op entries AccessDenied
+  BindCode : (a : IpSocketAddress) (c : ErrorCode) → Has op.left (Bind a) → EndsClosing op.who (call.Bind op.who.side a) (told.Code c) entries → ListenEnds op entries c
   ListenCode : (backlog : ℕ) (c : ErrorCode) → EndsClosing op.who (call.Listen op.who.side backlog) (told.Code c) entries → ListenEnds op entries c
 
 -- A bind of a UDP socket ended with a code: its check was answered no, or it was answered with the code.
@@ -317,11 +339,12 @@ pub data CallFails (m : Machine) (entries : List Entry) : StandingCall → Error
   UdpConnect3Failed : (place : ℕ) (o : OpenUdp) (op : Operation) (c : ErrorCode) → open_at m.store.records place ≡ Some o → o.connecting ≡ Some op → UdpConnectFails op entries c → CallFails m entries (standing.UdpConnect3 place) c
   UdpBindFailed : (place : ℕ) (face : Interface) (o : OpenUdp) (op : Operation) (c : ErrorCode) → open_at m.store.records place ≡ Some o → o.in_progress ≡ udp_doing.Binding op → UdpBindFails op entries c → CallFails m entries (standing.UdpBind place face) c
   BindFailed : (place : ℕ) (face : Interface) (r : TcpRecord) (op : Operation) (c : ErrorCode) → tcp2_at m.store.records place ≡ Some r → r.in_progress ≡ Binding op → BindFails op entries c → CallFails m entries (standing.Bind place face) c
-  ListenFailed : (place : ℕ) (r : TcpRecord) (op : Operation) (c : ErrorCode) → tcp2_at m.store.records place ≡ Some r → r.listening ≡ listening.Begins op → ListenEnds op entries c → CallFails m entries (standing.Listen place) c
+  ListenFailed : (place : ℕ) (handle : Option ℕ) (r : TcpRecord) (op : Operation) (c : ErrorCode) → tcp2_at m.store.records place ≡ Some r → r.listening ≡ listening.Begins op → ListenEnds op entries c → CallFails m entries (standing.Listen place handle) c
 
 -- the word of a code that a pending call fails with: that of its interface
 abbrev pub word_for : StandingCall → ErrorCode → CodeWord
 word_for (standing.Bind place P3) c = p3_word c
+word_for (standing.Listen place (Some handle)) c = p3_word c
 word_for (standing.UdpCreate place P3) c = p3_word c
 word_for (standing.UdpBind place P3) c = p3_word c
 word_for (standing.UdpConnect3 place) c = p3_word c

@@ -5,10 +5,16 @@ use Rattle.wasi_world.specs.declared.call.Told.TheVariants as told
 use Rattle.wasi_tcp.specs.declared.listener.Accepting.TheVariants as accepting
 use Rattle.wasi_tcp.specs.declared.socket.TcpState.TheVariants as state
 use Rattle.socket_common.specs.Rounds.{is_going, some_left}
+use Rattle.wasi_host.specs.declared.kind.Kind.TheVariants.{Listen3, Result3, Tcp3}
+use Rattle.std.specs.Prelude.{take}
+use Rattle.wasi_steps.specs.declared.guest_call.GuestCall.{GuestCall}
+use Rattle.wasi_tcp.specs.Halves.{write_asks}
+use Rattle.wasi_tcp.specs.declared.halves.TcpSendStream.{TcpSendStream}
 use Rattle.wasi_walks.proofs.claims.Law.{begins_on_names}
 use Rattle.wasi_walks.proofs.walks.Runs.{each_entry}
 use Rattle.wasi_laws.proofs.Words.{made_to, false, ErrorValue, BeginsWrites, Accepts, Allows, Asks, Base, BaseBetween, Begins, Call, End, Entry, Err, ErrorCode, FitListening, Found, HandleTable, Held, Here, HoldsAccept, IpSocketAddress, IsAcceptOn, IsDoneOrCode, Item, Job, Kind, Law, Left, List, Listener, Machine, Made, Move, None, Not, Ok, OpId, Operation, Option, Over, Own, Reply, Result, Socket, SocketAddressFamily, Some, Spends, Starts, Step, Streams, Tcp2, TcpRecord, Told, Unused, Used, Walks, WasiSocketsCtx, WriteState, [], after_create, allows_if, allows_then, allows_weaker, ap, base_over, base_starts, bind, closed_record, entry, first_base, first_state, job_after, length, machine_asks, machine_walks, made_so, make_asks, may_while, new_asks, new_socket, on_along, on_names, own_of, poll_asks, put, refl, run, side_at, side_in, side_of, socket_of, subst, sym, told_addr, told_done, told_same, true, with_listening, with_writer, ℕ, ◌++◌, ◌+◌, ◌∙◌, ◌∷◌, ◌≡◌}
-use Rattle.wasi_walks.proofs.walks.Asked.{Asked, Questions, SetsBacklog, Learns, Closes, UdpQuestions, UdpDisconnects, UdpLearns, UdpPeers, UdpCloses, UdpBegins, Resolves, Looks, MarksOne, MarksAccepted, MarksUdp, MarksStream, MarksError, AsksCreate, Polls, Turns, GivesUp, UdpGivesUp}
+use Rattle.wasi_walks.proofs.walks.Asked.{Asked, Questions, SetsBacklog, Learns, Closes, UdpQuestions, UdpDisconnects, UdpLearns, UdpPeers, UdpCloses, UdpBegins, Resolves, Looks, MarksOne, MarksAccepted, MarksListener, MarksPlain, MarksResult, WritesOnce, MarksUdp, MarksStream, MarksError, AsksCreate, Polls, Turns, GivesUp, UdpGivesUp}
+use Rattle.wasi_walks.proofs.walks.Asked.{ResolvesBeside, LooksBeside}
 use Rattle.wasi_walks.proofs.walks.Layers.{begins_layer, layer}
 use Rattle.wasi_walks.proofs.walks.OfState.{begins_state, creating, of_state}
 use Rattle.wasi_laws.proofs.Words.{BeginsIn, Rests}
@@ -20,6 +26,7 @@ use Rattle.wasi_laws.proofs.asks.Trees.{GoesOn, Undoes, Then, makes_by, turns_by
 use Rattle.wasi_laws.proofs.shapes.Shape.{ListenerShape, on_socket, Same, SocketsStay, sockets_stay, UdpLives}
 use Rattle.wasi_laws.proofs.shapes.Law.{Shaped, shapes}
 use Rattle.wasi_records.specs.Records.{tcp2_at, udp2_at}
+use Rattle.wasi_host.specs.declared.beside.Beside.{Beside}
 use Rattle.wasi_host.specs.Kinds.{udp_kind}
 use Rattle.wasi_records.specs.declared.records.Record.{Record}
 use Rattle.wasi_records.specs.declared.udp.OpenUdp.{OpenUdp}
@@ -30,7 +37,7 @@ use Rattle.wasi_udp.specs.Create.{Create, create_cancel_asks, new_create, after_
 use Rattle.wasi_udp.specs.Shape.{Socket as UdpShape}
 use Rattle.wasi_udp.specs.Socket.{after_local as udp_after_local, after_peer}
 use Rattle.wasi_walks.proofs.fits.UdpFits.{learnt_side}
-use Rattle.wasi_walks.proofs.walks.Moves.{Interface, tcp_kind, Past, ToSend, put_udp, FoundUdp, part_of, udp_begun, with_records}
+use Rattle.wasi_walks.proofs.walks.Moves.{Interface, tcp_kind, Past, ToSend, put_udp, FoundUdp, part_of, udp_begun, with_beside, with_records}
 
 -- a close of this network socket leaves the record so
 pub data Closing (r : TcpRecord) : TcpRecord → OpId → Type 0 where
@@ -65,10 +72,15 @@ module _ (contexts : List WasiSocketsCtx) (line : ℕ) (origin : Step) where
     pub udp_closes : (es : List Entry) (h : Here) (place : ℕ) (u : UdpRecord) (op : OpId) → FoundUdp h place u → UdpLives u → Grounds h → Inv es h → Then P (λ fs. Inv fs (put_udp h place (UdpRecord.Closed (udp_side u)))) es op (call.Close (udp_side u))
     -- a lookup changes: other records, with the same sockets among them
     pub lookups : (es : List Entry) (h : Here) (records : List Record) → SocketsStay h.machine.store.records records → Inv es h → Inv es (with_records h records)
+    -- other calls stand beside others
+    pub beside : (es : List Entry) (h : Here) (calls : List Beside) → Inv es h → Inv es (with_beside h calls)
     -- what is in progress: an operation, and a write
     pub polls : (es : List Entry) (h : Here) (op : Operation) (after : End × List Item → Here) → Held h op after → Grounds h → Inv es h → Allows P (λ fs ended. Inv fs (after ended)) es (poll_asks op)
     pub turns : (es : List Entry) (h : Here) (place : ℕ) (r : TcpRecord) (s : Streams) (job : Job) (now : Job → WriteState) → Found h place r → r.streams ≡ Some s → GoesOn s.writer job now → Grounds h → Inv es h
         → Allows P (λ fs ended. Inv fs (put h place (with_writer r s (now (job_after job.write.who ended))))) es (poll_asks job.write)
+    -- a write of 0.3, which offers its bytes once
+    pub offers : (es : List Entry) (h : Here) (ctx handle place : ℕ) (given : List ℕ) (r : TcpRecord) (s : Streams) (half : TcpSendStream) (permit : ℕ) → origin ≡ Step.Call ctx (GuestCall.P3Write handle given) → Found h place r → r.streams ≡ Some s → s.writer ≡ WriteState.Ready half permit → h.own ≡ Unused → Grounds h → Inv es h
+        → (let c : Call = call.Write half.side (length (take 4294967295 given)) in P es (own_of line) c × ((told : Told) → Inv (es ++ entry (own_of line) c told ∷ []) (record h { own = Used })))
 
   -- it is kept where a write begins in a call of streams, of whatever line
   abbrev pub KeepsWrites : (List Entry → Here → Type 0) → Type 0
@@ -140,10 +152,15 @@ module _ (contexts : List WasiSocketsCtx) (line : ℕ) (origin : Step) where
     made_by es h op kind parent sock so i =
         allows_weaker P (λ fs made. Inv fs h) (λ fs made. Inv fs (record h { machine = record h.machine { table = made.1 }; made = so made })) (λ fs made k. a.tables fs h made.1 (so made) k) es _ (makes_by P (λ fs. Inv fs h) es h.machine.table op kind parent sock i (a.asks es h op _ refl (OnNone refl) i))
 
+    -- bytes are offered once
+    offered : (es : List Entry) (h : Here) (side : OpId) (bytes : List ℕ) → (let c : Call = call.Write side (length bytes) in P es (own_of line) c × ((told : Told) → Inv (es ++ entry (own_of line) c told ∷ []) (record h { own = Used }))) → Allows P (λ fs told. Inv fs (record h { own = Used })) es (write_asks (own_of line) side bytes)
+    unfolding bind
+    offered es h side bytes x = (x.0, λ told fits front. x.1 told)
+
     single_asks : (es : List Entry) (h : Here) (A : Type 0) (tree : Asks A) (end : A → Here)
         → Asked contexts line origin es h A tree end → Grounds h → Inv es h
         → Allows P (λ fs x. Inv fs (end x)) es tree
-    single_asks es h _ _ _ (Questions place n r side c at g o q) b i = let x = on_record es h place r (own_of n) side c g (on_socket r side (b.1 place r g) o) (question_calm line origin n side c q) b i in (x.0, λ told f. x.1 told)
+    single_asks es h _ _ _ (Questions place n r side c at g o q) b i = let x = on_record es h place r (own_of n) side c g (on_socket r side (b.1 place r g) o) (question_calm line origin n side c q.0) b i in (x.0, λ told f. x.1 told)
     single_asks es h _ _ _ (SetsBacklog place r side backlog at g s is) b i = let x = on_record es h place r (own_of line) side (call.SetBacklog side backlog) g (ap side_in s) (record { calm = refl; quiet = tt; on = refl }) b i in (x.0, λ told f. x.1 told)
     single_asks es h _ _ _ (Learns place r side at g e) b i =
         let x = on_record es h place r (own_of line) side (call.Local side) g (ap side_in e) (record { calm = refl; quiet = tt; on = refl }) b i in
@@ -157,15 +174,21 @@ module _ (contexts : List WasiSocketsCtx) (line : ℕ) (origin : Step) where
     single_asks es h _ _ _ (UdpBegins face ctx family c may at u m) b i = ((a.asks es h (own_of line) (call.UdpCreate ctx.name family) refl (OnNone refl) i).0, λ told f. udp_created es h ctx family u b i told f)
     single_asks es h _ _ _ (Resolves host records l s) b i = let x = a.asks es h (own_of line) (call.Lookup host) refl (OnNone refl) i in (x.0, λ told f. a.lookups _ h (records told) (sockets_stay (s told)) (x.1 told))
     single_asks es h _ _ _ (Looks place op g) b i = let x = a.asks es h op.id (call.Lookup op.host) refl (OnNone refl) i in (x.0, λ told f. x.1 told)
+    single_asks es h _ _ _ (ResolvesBeside host l) b i = let x = a.asks es h (own_of line) (call.Lookup host) refl (OnNone refl) i in (x.0, λ told f. a.beside _ h _ (x.1 told))
+    single_asks es h _ _ _ (LooksBeside n b host g e) c i = let x = a.asks es h (own_of n) (call.Lookup host) refl (OnNone refl) i in (x.0, λ told f. x.1 told)
     single_asks es h _ _ _ (MarksOne kind parent sock m) b i = made_by es h (own_of line) kind parent sock (λ made. h.made) i
     single_asks es h _ _ _ (MarksAccepted c listener place r is e o g) b i = made_by es h (own_of line) (Tcp2 place) (Some listener) (side_at (tcp2_at h.machine.store.records place)) (λ made. made_so place made.0) i
+    single_asks es h _ _ _ (MarksPlain c listener remaining place r is e o g) b i = made_by es h (own_of line) (Tcp3 place) (Some listener) (side_at (tcp2_at h.machine.store.records place)) (λ made. Past) i
+    single_asks es h _ _ _ (MarksListener n handle reached place r q m g has e) b i = made_by es h (own_of n) (Listen3 place) (Some handle) (side_at (tcp2_at h.machine.store.records place)) (λ made. Past) i
+    single_asks es h _ _ _ (MarksResult socket place slot r makes made e g) b i = made_by es h (own_of line) (Result3 slot) (Some socket) (side_at (tcp2_at h.machine.store.records place)) (λ made. Past) i
+    single_asks es h _ _ _ (WritesOnce c handle place given end r s half permit is to of at g e w own) b i = offered es h half.side (take 4294967295 given) (a.offers es h c handle place given r s half permit is g e w own b i)
     single_asks es h _ _ _ (MarksUdp face place u g) b i = made_by es h (udp_side u) (udp_kind face place) None (Some (udp_side u)) (λ made. Past) i
     single_asks es h _ _ _ (MarksStream place n handle reached kind m new e) b i = made_by es h (own_of n) kind (Some handle) (udp_side_at (udp2_at h.machine.store.records place)) (λ made. ToSend n handle reached) i
     single_asks es h _ _ _ (MarksError n handle place handles m k e f) b i = made_by es h (own_of n) ErrorValue (Some handle) (side_at (tcp2_at h.machine.store.records place)) (λ made. h.made) i
     single_asks es h _ _ _ (AsksCreate tells fails face ctx family c at u m) b i = allows_then P (Created h ctx family) (λ fs done. Inv fs (record h { machine = done.1; own = Used })) es (new_asks (own_of line) ctx family) (made_to tells fails (tcp_kind face) h.machine (own_of line)) (created es h ctx family u b i) (λ fs made k. joins tells fails face fs h ctx family made u k b)
     single_asks es h _ _ _ (Polls op after k) b i = a.polls es h op after k b i
     single_asks es h _ _ _ (Turns place r s g e) b i = turns_by P (λ fs w. Inv fs (put h place (with_writer r s w))) es s.writer (a.same es h place r (with_writer r s s.writer) g (record { side = refl; streams = sym e; listening = refl; does = refl; doing = refl }) i) (λ job now on. a.turns es h place r s job now g e on b i)
-    single_asks es h _ _ _ (GivesUp place r q g) b i = gives_up_by P (λ fs. Inv fs (put h place (with_listening r Not))) es (a.stops es h place r g i) r.inner.state r.listening (b.1 place r g).1 (λ op c u. undoes es h place r op c g u b i)
+    single_asks es h _ _ _ (GivesUp place r q goes g) b i = gives_up_by P (λ fs. Inv fs (put h place (with_listening r Not))) es (a.stops es h place r g i) r.inner.state r.listening (b.1 place r g).1 (λ op c u. undoes es h place r op c g u b i)
     single_asks es h _ _ _ (UdpGivesUp place create q g) b i = udp_gone es h place create g b i
 
     -- the law, over that the records have their shape

@@ -195,6 +195,7 @@ module _ (ours : OpId → Bool) where
   half_sockets (rec.Lookup l ∷ rs) = let d = half_sockets rs in omega (arith, d)
   half_sockets (rec.InputPipe bytes ∷ rs) = let d = half_sockets rs in omega (arith, d)
   half_sockets (rec.OutputPipe pipe ∷ rs) = let d = half_sockets rs in omega (arith, d)
+  half_sockets (rec.Slot s ∷ rs) = let d = half_sockets rs in omega (arith, d)
   half_sockets (rec.Gone ∷ rs) = let d = half_sockets rs in omega (arith, d)
 
   -- what is given back weighs nothing any more
@@ -245,6 +246,7 @@ module _ (ours : OpId → Bool) where
   beside_udp (rec.Lookup l ∷ rs) zero u g = absurd (cc)
   beside_udp (rec.InputPipe bytes ∷ rs) zero u g = absurd (cc)
   beside_udp (rec.OutputPipe pipe ∷ rs) zero u g = absurd (cc)
+  beside_udp (rec.Slot s ∷ rs) zero u g = absurd (cc)
   beside_udp (rec.Gone ∷ rs) zero u g = absurd (cc)
   beside_udp (x ∷ rs) (suc place) u g =
       let k = beside_udp rs place u g in

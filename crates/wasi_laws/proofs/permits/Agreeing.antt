@@ -1,4 +1,6 @@
 -- What was taken and what was permitted, by the network socket that a record was made with.
+use Rattle.wasi_tcp.specs.declared.socket.TcpState.{TcpState}
+use Rattle.wasi_tcp.specs.declared.socket.TcpState.TheVariants as state
 use Rattle.wasi_tcp.specs.declared.writer.WriteState.TheVariants as writing
 use Rattle.wasi_world.specs.declared.outcome.Answer.{Answer}
 use Rattle.wasi_world.specs.declared.outcome.Answer.TheVariants.{Ready, Pending}
@@ -34,6 +36,15 @@ abbrev pub Agree : List ℕ → List ℕ → Option Streams → Type 0
 Agree taken permitted None = Untouched taken permitted
 Agree taken permitted (Some s) = Agrees taken permitted s.writer
 
+-- the sending half isn't taken yet
+abbrev pub IsFree : TcpState → Type 0
+IsFree (state.Connected c) = c.send_taken ≡ false
+IsFree _ = ⊤
+
+-- and then all was taken
+abbrev pub AgreeIn : List ℕ → List ℕ → TcpRecord → Type 0
+AgreeIn taken permitted r = Agree taken permitted r.streams × (IsFree r.inner.state → taken ≡ permitted)
+
 module _ (side : OpId) where
   pub record MadeWith (records : List Record) : Type 0 where
     pub place : ℕ
@@ -46,7 +57,7 @@ module _ (side : OpId) where
   pub record Agreeing (over : Type 0) (taken permitted : List ℕ) (records : List Record) : Type 0 where
     pub front : IsFrontOf taken permitted
     pub made : Untouched taken permitted ⊎ (MadeWith records ⊎ over)
-    pub lives : (i : ℕ) (r : TcpRecord) → tcp2_at records i ≡ Some r → Lives side r → Agree taken permitted r.streams
+    pub lives : (i : ℕ) (r : TcpRecord) → tcp2_at records i ≡ Some r → Lives side r → AgreeIn taken permitted r
 
   -- where it is over says another fact
   pub agrees_over : {over now : Type 0} (taken permitted : List ℕ) (records : List Record) → (over → now) → Agreeing over taken permitted records → Agreeing now taken permitted records
@@ -60,31 +71,31 @@ module _ (side : OpId) where
     ]
 
   module _ {over : Type 0} (records : List Record) (place : ℕ) (old now : TcpRecord) (g : tcp2_at records place ≡ Some old) (s : now.side ≡ old.side) where
-    pub agrees_put : (taken permitted : List ℕ) → (Lives side now → Agree taken permitted now.streams) → Agreeing over taken permitted records → Agreeing over taken permitted (tcp2_put records place now)
+    pub agrees_put : (taken permitted : List ℕ) → (Lives side now → AgreeIn taken permitted now) → Agreeing over taken permitted records → Agreeing over taken permitted (tcp2_put records place now)
     agrees_put taken permitted f h = record {
       front = h.front;
       made = elim h.made [ inl u ↦ inl u | inr m ↦ inr (elim m [ inl w ↦ inl (made_put records place old now g s w) | inr o ↦ inr o ]) ];
-      lives = λ i r e. elim (put_found tcp_sort records place now i r e) [ inl p ↦ subst (λ (x : TcpRecord). Lives side x → Agree taken permitted x.streams) p.1 f | inr p ↦ h.lives i r p ];
+      lives = λ i r e. elim (put_found tcp_sort records place now i r e) [ inl p ↦ subst (λ (x : TcpRecord). Lives side x → AgreeIn taken permitted x) p.1 f | inr p ↦ h.lives i r p ];
     }
 
     -- the record of the network socket changes, and with it what was taken and permitted
-    pub agrees_moved : (taken permitted more bytes : List ℕ) → now.side ≡ Some side → ((i : ℕ) (r : TcpRecord) → tcp2_at records i ≡ Some r → r.side ≡ Some side → i ≡ place) → IsFrontOf more bytes → Agree more bytes now.streams → Agreeing over taken permitted records → Agreeing over more bytes (tcp2_put records place now)
+    pub agrees_moved : (taken permitted more bytes : List ℕ) → now.side ≡ Some side → ((i : ℕ) (r : TcpRecord) → tcp2_at records i ≡ Some r → r.side ≡ Some side → i ≡ place) → IsFrontOf more bytes → AgreeIn more bytes now → Agreeing over taken permitted records → Agreeing over more bytes (tcp2_put records place now)
     agrees_moved taken permitted more bytes its one front f h = record {
       front = front;
       made = inr (inl (made_put records place old now g s (record { place = place; was = old; at = g; of = sym s ∙ its })));
       lives = λ i r e l. elim (put_found tcp_sort records place now i r e) [
-        | inl p ↦ subst (λ (x : TcpRecord). Agree more bytes x.streams) p.1 f
-        | inr p ↦ (let at = ap (tcp2_at (tcp2_put records place now)) (one i r p l.0) ∙ put_finds tcp_sort records place old now g in subst (λ (x : TcpRecord). Agree more bytes x.streams) (some_same now r (sym at ∙ e)) f)
+        | inl p ↦ subst (λ (x : TcpRecord). AgreeIn more bytes x) p.1 f
+        | inr p ↦ (let at = ap (tcp2_at (tcp2_put records place now)) (one i r p l.0) ∙ put_finds tcp_sort records place old now g in subst (λ (x : TcpRecord). AgreeIn more bytes x) (some_same now r (sym at ∙ e)) f)
       ];
     }
 
   -- a record more: where it is of the network socket, no other is
   pub agrees_push : {over : Type 0} (taken permitted : List ℕ) (records : List Record) (now : TcpRecord) → (now.side ≡ Some side → (i : ℕ) (r : TcpRecord) → tcp2_at records i ≡ Some r → r.side ≡ Some side → ⊥) → (now.side ≡ Some side → over → ⊥)
-      → (Untouched taken permitted → Agree taken permitted now.streams) → Agreeing over taken permitted records → Agreeing over taken permitted (tcp2_pushed records now)
+      → (Untouched taken permitted → AgreeIn taken permitted now) → Agreeing over taken permitted records → Agreeing over taken permitted (tcp2_pushed records now)
   agrees_push {over} taken permitted records now fresh ended f h = record {
     front = h.front;
     made = elim h.made [ inl u ↦ inl u | inr m ↦ inr (elim m [ inl w ↦ inl (record { place = w.place; was = w.was; at = push_still tcp_sort tcp_sort records now w.place w.was w.at; of = w.of }) | inr o ↦ inr o ]) ];
-    lives = λ i r e l. elim (push_new tcp_sort records now i r e) [ inl p ↦ h.lives i r p l | inr p ↦ subst (λ (x : TcpRecord). Agree taken permitted x.streams) p (f (untouched (ap (λ (x : TcpRecord). x.side) p ∙ l.0) h.made)) ];
+    lives = λ i r e l. elim (push_new tcp_sort records now i r e) [ inl p ↦ h.lives i r p l | inr p ↦ subst (λ (x : TcpRecord). AgreeIn taken permitted x) p (f (untouched (ap (λ (x : TcpRecord). x.side) p ∙ l.0) h.made)) ];
   }
     where
       untouched : now.side ≡ Some side → Untouched taken permitted ⊎ (MadeWith records ⊎ over) → Untouched taken permitted

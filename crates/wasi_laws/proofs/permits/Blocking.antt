@@ -1,4 +1,5 @@
 -- What the calls that block are let write: a splice what was read, and a write, in rounds, as much as is permitted.
+use Rattle.wasi_laws.proofs.permits.Law.{NotOffer}
 use Rattle.std.specs.Prelude.{min}
 use Rattle.wasi_world.specs.declared.ids.Ids.{Ids}
 use Rattle.wasi_world.specs.declared.outcome.Answer.TheVariants.{Ready}
@@ -20,7 +21,7 @@ use Rattle.wasi_laws.specs.Writes.{LetAgain, let_after, let_all, let_blocking_co
 none_permitted : (len : ℕ) → min 0 len ≡ 0
 none_permitted len = omega arith
 
-module _ (contexts : List WasiSocketsCtx) (side : OpId) (line : ℕ) (origin : Step) (ids : Ids) where
+module _ (contexts : List WasiSocketsCtx) (side : OpId) (line : ℕ) (origin : Step) (no_offer : NotOffer origin) (ids : Ids) where
   abbrev own : OpId
   own = own_of ids.line
 
@@ -35,11 +36,11 @@ module _ (contexts : List WasiSocketsCtx) (side : OpId) (line : ℕ) (origin : S
     Before given es at m = So contexts side line origin ids.line (to ∷ from ∷ []) given es at m
 
     none : (given : List ℕ) (es : List Entry) (at : Option (ℕ × ℕ)) (done : Blocked ℕ) → Before given es at done.1 → Along given es (λ gs. []) (Give done)
-    none given es at done i = gone contexts side line origin ids.line (to ∷ from ∷ []) given es at done i
+    none given es at done i = gone contexts side line origin no_offer ids.line (to ∷ from ∷ []) given es at done i
 
     -- it is pending
     waits : (given : List ℕ) (es : List Entry) (at : Option (ℕ × ℕ)) (m : Machine) → Before given es at m → (let done : Blocked ℕ = waits_as ids (Splice to from len) m in Along given es (λ gs. []) (Give done))
-    waits given es at m i = over contexts side line origin given (waits_walks ids {A = ℕ} m (Splice to from len) refl) es i
+    waits given es at m i = over contexts side line origin no_offer given (waits_walks ids {A = ℕ} m (Splice to from len) refl) es i
 
     written_same : (count : ℕ) (done : Result (Unit {0}) CallStop × Machine) → (splice_written count done).1 ≡ done.1
     written_same count (Ok done, m) = refl
@@ -47,14 +48,14 @@ module _ (contexts : List WasiSocketsCtx) (side : OpId) (line : ℕ) (origin : S
 
     read_lets : (given : List ℕ) (es : List Entry) (at : Option (ℕ × ℕ)) (read : Result (List ℕ) CallStop × Machine) → Before given es at read.1 → Along given es (let_read side to read) (splice_given ids to from len read)
     read_lets given es at (Ok [], m) i = let done : Blocked ℕ = waits_as ids (Splice to from len) m in none_lets contexts side line origin given es m to (Give done) (waits given es at m i)
-    read_lets given es at (Ok (b ∷ bytes), m) i = writes_last contexts side line origin ids.line (to ∷ from ∷ []) given es at m to (inl refl) (b ∷ bytes) i (splice_written (length (b ∷ bytes))) (written_same (length (b ∷ bytes)))
+    read_lets given es at (Ok (b ∷ bytes), m) i = writes_last contexts side line origin no_offer ids.line (to ∷ from ∷ []) given es at m to (inl refl) (b ∷ bytes) i (splice_written (length (b ∷ bytes))) (written_same (length (b ∷ bytes)))
     read_lets given es at (Err stop, m) i = none given es at (stops stop m) i
 
     looked_lets : (count : ℕ) (given : List ℕ) (es : List Entry) (at : Option (ℕ × ℕ)) (looked : Result Bool CallStop × Machine) → Before given es at looked.1 → Along given es (let_looked side own to from count looked) (splice_looked ids to from len count looked)
     looked_lets count given es at (Ok true, m) i =
         let now = reaching at ids.line (input_at m from) in
         lets_after side (Ends contexts side line origin) (λ fs read. Before given fs now read.1) (let_read side to) given es (read_asks m own from count) (λ read. splice_given ids to from len read)
-        (along contexts side line origin given (read_asks_walks m from (inr (inl refl)) count) es i) (λ fs read j. read_lets given fs now read j)
+        (along contexts side line origin no_offer given (read_asks_walks m from (inr (inl refl)) count) es i) (λ fs read j. read_lets given fs now read j)
     looked_lets count given es at (Ok false, m) i = waits given es at m i
     looked_lets count given es at (Err stop, m) i = none given es at (stops stop m) i
 
@@ -63,7 +64,7 @@ module _ (contexts : List WasiSocketsCtx) (side : OpId) (line : ℕ) (origin : S
     count_lets given es at m (suc count) i =
         let now = reaching at ids.line (input_at m from) in
         lets_after side (Ends contexts side line origin) (λ fs looked. Before given fs now looked.1) (let_looked side own to from (suc count)) given es (look_asks m own from) (λ looked. splice_looked ids to from len (suc count) looked)
-        (along contexts side line origin given (look_asks_walks m from (inr (inl refl))) es i) (λ fs looked j. looked_lets (suc count) given fs now looked j)
+        (along contexts side line origin no_offer given (look_asks_walks m from (inr (inl refl))) es i) (λ fs looked j. looked_lets (suc count) given fs now looked j)
 
     permit_lets : (given : List ℕ) (es : List Entry) (at : Option (ℕ × ℕ)) (checked : Result ℕ CallStop × Machine) → Before given es at checked.1 → Along given es (let_permitted (let_blocking_count side own to from) len checked) (splice_permitted ids to from len checked)
     permit_lets given es at (Ok zero, m) i =
@@ -77,7 +78,7 @@ module _ (contexts : List WasiSocketsCtx) (side : OpId) (line : ℕ) (origin : S
     when_lets given es at m true true i =
         let now = reaching at ids.line (output_at m to) in
         lets_after side (Ends contexts side line origin) (λ fs checked. Before given fs now checked.1) (let_permitted (let_blocking_count side own to from) len) given es (check_asks m own to) (λ checked. splice_permitted ids to from len checked)
-        (along contexts side line origin given (check_asks_walks m to (inl refl)) es i) (λ fs checked j. permit_lets given fs now checked j)
+        (along contexts side line origin no_offer given (check_asks_walks m to (inl refl)) es i) (λ fs checked j. permit_lets given fs now checked j)
     when_lets given es at m true false i = none given es at (stops (Traps NoSuchHandle) m) i
     when_lets given es at m false readable i = none given es at (stops (Traps NoSuchHandle) m) i
 
@@ -90,10 +91,10 @@ module _ (contexts : List WasiSocketsCtx) (side : OpId) (line : ℕ) (origin : S
     On given es at m = So contexts side line origin ids.line (output ∷ []) given es at m
 
     stopped : (given : List ℕ) (es : List Entry) (at : Option (ℕ × ℕ)) (m : Machine) (why : CallStop) → On given es at m → (let done : Blocked (Unit {0}) = stops why m in Along given es (λ gs. []) (Give done))
-    stopped given es at m why i = let done : Blocked (Unit {0}) = stops why m in gone contexts side line origin ids.line (output ∷ []) given es at done i
+    stopped given es at m why i = let done : Blocked (Unit {0}) = stops why m in gone contexts side line origin no_offer ids.line (output ∷ []) given es at done i
 
     pends : (given : List ℕ) (es : List Entry) (at : Option (ℕ × ℕ)) (m : Machine) (rest : List ℕ) → On given es at m → (let done : Blocked (Unit {0}) = waits_as ids (Write output rest) m in Along given es (λ gs. []) (Give done))
-    pends given es at m rest i = over contexts side line origin given (waits_walks ids {A = Unit {0}} m (Write output rest) refl) es i
+    pends given es at m rest i = over contexts side line origin no_offer given (waits_walks ids {A = Unit {0}} m (Write output rest) refl) es i
 
     -- it goes on with what isn't written yet
     abbrev GoesOn : LetAgain → Again → Type 0
@@ -101,7 +102,7 @@ module _ (contexts : List WasiSocketsCtx) (side : OpId) (line : ℕ) (origin : S
 
     rest_lets : (more : LetAgain) (again : Again) → GoesOn more again → (given : List ℕ) (es : List Entry) (at : Option (ℕ × ℕ)) (rest : List ℕ) (done : Result (Unit {0}) CallStop × Machine) → On given es at done.1 → Along given es (let_rest more rest done) (round_written ids output again rest done)
     rest_lets more again k given es at rest (Err why, m) i = stopped given es at m why i
-    rest_lets more again k given es at [] (Ok done, m) i = over contexts side line origin given (finish_walks ids output m) es i
+    rest_lets more again k given es at [] (Ok done, m) i = over contexts side line origin no_offer given (finish_walks ids output m) es i
     rest_lets more again k given es at (b ∷ rest) (Ok done, m) i = k given es at m (b ∷ rest) i
 
     round_lets : (more : LetAgain) (again : Again) → GoesOn more again → (given : List ℕ) (es : List Entry) (at : Option (ℕ × ℕ)) (rest : List ℕ) (checked : Result ℕ CallStop × Machine) → On given es at checked.1 → Along given es (let_round side own output more rest checked) (round_checked ids output again rest checked)
@@ -110,7 +111,7 @@ module _ (contexts : List WasiSocketsCtx) (side : OpId) (line : ℕ) (origin : S
         let bytes = let_write side m output (take (suc n) rest) in
         let now = reaching at ids.line (output_at m output) in
         lets_writes side (Ends contexts side line origin) (λ fs done. On (given ++ bytes) fs now done.1) (let_rest more (drop (suc n) rest)) given bytes es (write_asks m own output (take (suc n) rest)) (λ done. round_written ids output again (drop (suc n) rest) done)
-        (write_lets contexts side line origin ids.line (output ∷ []) given es at m output (inl refl) (take (suc n) rest) i) (λ fs done j. rest_lets more again k (given ++ bytes) fs now (drop (suc n) rest) done j)
+        (write_lets contexts side line origin no_offer ids.line (output ∷ []) given es at m output (inl refl) (take (suc n) rest) i) (λ fs done j. rest_lets more again k (given ++ bytes) fs now (drop (suc n) rest) done j)
     round_lets more again k given es at rest (Err why, m) i = stopped given es at m why i
 
     rounds_let : (rounds : ℕ) → GoesOn (let_rounds rounds side own output) (write_rounds rounds ids output)
@@ -118,7 +119,7 @@ module _ (contexts : List WasiSocketsCtx) (side : OpId) (line : ℕ) (origin : S
     rounds_let (suc k) given es at m rest i =
         let now = reaching at ids.line (output_at m output) in
         lets_after side (Ends contexts side line origin) (λ fs checked. On given fs now checked.1) (let_round side own output (let_rounds k side own output) rest) given es (check_asks m own output) (λ checked. round_checked ids output (write_rounds k ids output) rest checked)
-        (along contexts side line origin given (check_asks_walks m output (inl refl)) es i) (λ fs checked j. round_lets (let_rounds k side own output) (write_rounds k ids output) (rounds_let k) given fs now rest checked j)
+        (along contexts side line origin no_offer given (check_asks_walks m output (inl refl)) es i) (λ fs checked j. round_lets (let_rounds k side own output) (write_rounds k ids output) (rounds_let k) given fs now rest checked j)
 
     pub all_lets : (given : List ℕ) (es : List Entry) (at : Option (ℕ × ℕ)) (m : Machine) (rest : List ℕ) → On given es at m → Along given es (let_all side own output m rest) (write_rest_asks m ids output rest)
     all_lets given es at m rest i = rounds_let 4096 given es at m rest i

@@ -14,7 +14,7 @@ use Rattle.wasi_laws.proofs.asks.Single.{single_law, single_along}
 use Rattle.wasi_laws.proofs.shapes.Law.{Shaped}
 use Rattle.wasi_laws.proofs.permits.Agreeing.{Agreeing, agrees_over}
 use Rattle.wasi_laws.proofs.permits.Spent.{IsSpent, spent_own}
-use Rattle.wasi_laws.proofs.permits.Law.{Kept, permits}
+use Rattle.wasi_laws.proofs.permits.Law.{Kept, NotOffer, permits}
 use Rattle.wasi_laws.proofs.permits.Lets.{Lets, lets_same, lets_all}
 use Rattle.wasi_laws.proofs.permits.Taken.{Fronts}
 use Rattle.wasi_laws.specs.Writes.{let_write, writer_at}
@@ -95,17 +95,9 @@ module _ (contexts : List WasiSocketsCtx) (side : OpId) (line : ℕ) (origin : S
   abbrev pub Ends : {A : Type 0} → List ℕ → List Entry → A × Machine → Type 0
   Ends given es done = Holds given es (Over done.1)
 
-  -- what writes nothing more, along a walk
-  pub along : {A : Type 0} (given : List ℕ) {h : Here} {end : A → Here} {asks : Asks A} → Walks (single_law contexts line origin (permits side given line contexts origin)) h end asks → (es : List Entry) → Holds given es h → Allows (Fronts side given) (λ fs a. Holds given fs (end a)) es asks
-  along given w es i = single_along contexts line origin (permits side given line contexts origin) w es i.0 i.1.0 i.1.1
-
   -- such bytes are let write along the tree, and then the line is over
   abbrev pub Gives : {A : Type 0} → List ℕ → List Entry → (List Entry → List ℕ) → Asks (A × Machine) → Type 0
   Gives given es more asks = Lets side Ends (λ gs. given ++ more gs) es asks
-
-  -- none, where it is walked so
-  pub over : {A : Type 0} (given : List ℕ) {h : Here} {asks : Asks (A × Machine)} → Walks (single_law contexts line origin (permits side given line contexts origin)) h OverWith asks → (es : List Entry) → Holds given es h → Gives given es (λ gs. []) asks
-  over given {asks = asks} w es i = lets_same side Ends (λ gs. given) (λ gs. given ++ []) (λ gs. sym (append-nil given)) es asks (lets_all side Ends given es asks (along given w es i))
 
   -- no bytes begin no write
   pub none_lets : {A : Type 0} (given : List ℕ) (es : List Entry) (m : Machine) (output : ℕ) (asks : Asks (A × Machine)) → Gives given es (λ gs. []) asks → Gives given es (λ gs. let_write side m output []) asks
@@ -121,29 +113,40 @@ module _ (contexts : List WasiSocketsCtx) (side : OpId) (line : ℕ) (origin : S
     abbrev pub So : List ℕ → List Entry → Option (ℕ × ℕ) → Machine → Type 0
     So given es at m = Holds given es (Calling n handles at Used m)
 
+module _ (contexts : List WasiSocketsCtx) (side : OpId) (line : ℕ) (origin : Step) (no_offer : NotOffer origin) where
+  -- what writes nothing more, along a walk
+  pub along : {A : Type 0} (given : List ℕ) {h : Here} {end : A → Here} {asks : Asks A} → Walks (single_law contexts line origin (permits side given line contexts origin no_offer)) h end asks → (es : List Entry) → Holds contexts side line origin given es h → Allows (Fronts side given) (λ fs a. Holds contexts side line origin given fs (end a)) es asks
+  along given w es i = single_along contexts line origin (permits side given line contexts origin no_offer) w es i.0 i.1.0 i.1.1
+
+  -- none, where it is walked so
+  pub over : {A : Type 0} (given : List ℕ) {h : Here} {asks : Asks (A × Machine)} → Walks (single_law contexts line origin (permits side given line contexts origin no_offer)) h OverWith asks → (es : List Entry) → Holds contexts side line origin given es h → Gives contexts side line origin given es (λ gs. []) asks
+  over given {asks = asks} w es i = lets_same side (Ends contexts side line origin) (λ gs. given) (λ gs. given ++ []) (λ gs. sym (append-nil given)) es asks (lets_all side (Ends contexts side line origin) given es asks (along given w es i))
+
+  -- == calls of streams, for the line n
+  module _ (n : ℕ) (handles : List ℕ) where
     -- they are over
-    leaves : (given : List ℕ) (es : List Entry) (at : Option (ℕ × ℕ)) (m : Machine) → So given es at m → Holds given es (Over m)
+    leaves : (given : List ℕ) (es : List Entry) (at : Option (ℕ × ℕ)) (m : Machine) → So contexts side line origin n handles given es at m → Holds contexts side line origin given es (Over m)
     leaves given es at m i = let done : Unit {0} × Machine = (tt, m) in along given {end = OverWith} {asks = Give done} (gives _ (Leaves _)) es i
 
     -- nothing more is let write
-    pub gone : {A : Type 0} (given : List ℕ) (es : List Entry) (at : Option (ℕ × ℕ)) (done : A × Machine) → So given es at done.1 → Gives given es (λ gs. []) (Give done)
-    gone given es at done i = same_given given (given ++ []) es (Over done.1) (sym (append-nil given)) (leaves given es at done.1 i)
+    pub gone : {A : Type 0} (given : List ℕ) (es : List Entry) (at : Option (ℕ × ℕ)) (done : A × Machine) → So contexts side line origin n handles given es at done.1 → Gives contexts side line origin given es (λ gs. []) (Give done)
+    gone given es at done i = same_given contexts side line origin given (given ++ []) es (Over done.1) (sym (append-nil given)) (leaves given es at done.1 i)
 
     -- so much more is to be written
-    to_write : (given : List ℕ) (es : List Entry) (at : Option (ℕ × ℕ)) (m : Machine) (where_to : OpId) (bytes : List ℕ) → So given es at m → Holds (given ++ let_own side (ToWrite where_to bytes)) es (Calling n handles at (ToWrite where_to bytes) m)
+    to_write : (given : List ℕ) (es : List Entry) (at : Option (ℕ × ℕ)) (m : Machine) (where_to : OpId) (bytes : List ℕ) → So contexts side line origin n handles given es at m → Holds contexts side line origin (given ++ let_own side (ToWrite where_to bytes)) es (Calling n handles at (ToWrite where_to bytes) m)
     to_write given es at m where_to bytes i =
         let f = i.0.0 in let k = i.0.1 in let p = i.1.1 in (
-          (record { records = f.records; udps = f.udps; stands = f.stands }, record { one = k.one; apart = k.apart; older = k.older; named = k.named; held = k.held; udps = record { one = k.udps.one; apart = k.udps.apart; older = k.udps.older } }, (i.0.2.0, tt)),
+          (record { records = f.records; udps = f.udps; stands = f.stands }, record { one = k.one; apart = k.apart; older = k.older; named = k.named; held = k.held; udps = record { one = k.udps.one; apart = k.udps.apart; older = k.udps.older } }, (i.0.2.0, tt, i.0.2.2)),
           (i.1.0, record { held = given; stands = agrees_over side (taken_in side es) given m.store.records (spent_own side line Used (ToWrite where_to bytes) m.store.records (λ x o. o)) (subst (λ (held : List ℕ). Agreeing side (IsSpent side line (Over m)) (taken_in side es) held m.store.records) p.owes p.stands); owes = refl }),
         )
 
     -- a write, by what may begin
-    module _ (given : List ℕ) (es : List Entry) (at : Option (ℕ × ℕ)) (m : Machine) (output : ℕ) (named : Has handles output) (bytes : List ℕ) (i : So given es at m) where
+    module _ (given : List ℕ) (es : List Entry) (at : Option (ℕ × ℕ)) (m : Machine) (output : ℕ) (named : Has handles output) (bytes : List ℕ) (i : So contexts side line origin n handles given es at m) where
       abbrev Wrote : List ℕ → Type 0
-      Wrote all = Allows (Fronts side all) (λ fs done. Holds all fs (Called n handles (reaching at n (output_at m output)) Used done)) es (write_asks m (own_of n) output bytes)
+      Wrote all = Allows (Fronts side all) (λ fs done. Holds contexts side line origin all fs (Called n handles (reaching at n (output_at m output)) Used done)) es (write_asks m (own_of n) output bytes)
 
       wrote : (own : Own) → IsWrite own → may_at m bytes (output_at m output) ≡ own → Wrote (given ++ let_own side own)
-      wrote Unused k e = along (given ++ []) (write_asks_walks m output named bytes (AsNone refl e)) es (same_given given (given ++ []) es _ (sym (append-nil given)) i)
+      wrote Unused k e = along (given ++ []) (write_asks_walks m output named bytes (AsNone refl e)) es (same_given contexts side line origin given (given ++ []) es _ (sym (append-nil given)) i)
       wrote (ToWrite where_to b) k e = along (given ++ let_own side (ToWrite where_to b)) (write_asks_walks m output named bytes (AsLet (sym e))) es (to_write given es at m where_to b i)
       wrote Used k e = absurd k
       wrote (Names part) k e = absurd k
@@ -153,10 +156,10 @@ module _ (contexts : List WasiSocketsCtx) (side : OpId) (line : ℕ) (origin : S
       write_lets = subst (λ (more : List ℕ). Wrote (given ++ more)) (write_is side m output bytes) (wrote (may_at m bytes (output_at m output)) (write_at m bytes (output_at m output)) refl)
 
       -- the write is the last
-      pub writes_last : {A : Type 0} (g : Result (Unit {0}) CallStop × Machine → A × Machine) → ((done : Result (Unit {0}) CallStop × Machine) → (g done).1 ≡ done.1) → Gives given es (λ gs. let_write side m output bytes) (bind (write_asks m (own_of n) output bytes) (λ done. Give (g done)))
+      pub writes_last : {A : Type 0} (g : Result (Unit {0}) CallStop × Machine → A × Machine) → ((done : Result (Unit {0}) CallStop × Machine) → (g done).1 ≡ done.1) → Gives contexts side line origin given es (λ gs. let_write side m output bytes) (bind (write_asks m (own_of n) output bytes) (λ done. Give (g done)))
       writes_last g same =
           let all = given ++ let_write side m output bytes in
           let now = reaching at n (output_at m output) in
           let asks = write_asks m (own_of n) output bytes in
-          lets_all side Ends all es (bind asks (λ done. Give (g done)))
-          (allows_then (Fronts side all) (λ fs done. So all fs now done.1) (Ends all) es asks (λ done. Give (g done)) write_lets (λ fs done j. subst (λ (x : Machine). Holds all fs (Over x)) (sym (same done)) (leaves all fs now done.1 j)))
+          lets_all side (Ends contexts side line origin) all es (bind asks (λ done. Give (g done)))
+          (allows_then (Fronts side all) (λ fs done. So contexts side line origin n handles all fs now done.1) ((Ends contexts side line origin) all) es asks (λ done. Give (g done)) write_lets (λ fs done j. subst (λ (x : Machine). Holds contexts side line origin all fs (Over x)) (sym (same done)) (leaves all fs now done.1 j)))

@@ -12,10 +12,10 @@ use Rattle.wasi_steps.specs.declared.step.Step.TheVariants as step
 use Rattle.wasi_laws.proofs.Words.{Answered, Entry, Err, ErrorValue, Give, IsSomeAnd, Kind, Left, List, Machine, Named, None, Ok, OpId, Option, Over, Quiet, Reply, Result, Some, Standing, Starts, StreamStop, Streams, TcpRecord, Unused, WasiSocketsCtx, WriteState, WritesTo, [], ap, append-nil, asks_while, bind, check_write_asks, inl, is_full, make_asks, number_fields, output_at, own_of, permit_reply, quiet_if, quiet_then, reached, record_in, refl, side_at, side_in, side_of, stream_at, subst, sym, taken_in, with_store, writer_asks, writer_in, writer_of, writer_of_record, writer_side, ℕ, ⊤, ◌++◌, ◌<◌, ◌∙◌, ◌≡◌}
 use Rattle.wasi_laws.proofs.shapes.Shape.{Lives, HasStreams, StreamsShape, of_writer}
 use Rattle.wasi_laws.proofs.shapes.Law.{Shaped}
-use Rattle.wasi_laws.proofs.permits.Agreeing.{Agree, SaysAll, quiet_check}
+use Rattle.wasi_laws.proofs.permits.Agreeing.{AgreeIn, Agree, SaysAll, quiet_check}
 use Rattle.wasi_laws.proofs.permits.Taken.{Fronts, quiet_keep}
 
-module _ (side : OpId) (taken permitted : List ℕ) (m : Machine) (own : OpId) (output : ℕ) (line : ℕ) (h : (i : ℕ) (r : TcpRecord) → tcp2_at m.store.records i ≡ Some r → Lives side r → Agree taken permitted r.streams) (shaped : Shaped (Over m)) (named : Named line (Starts m Unused)) where
+module _ (side : OpId) (taken permitted : List ℕ) (m : Machine) (own : OpId) (output : ℕ) (line : ℕ) (h : (i : ℕ) (r : TcpRecord) → tcp2_at m.store.records i ≡ Some r → Lives side r → AgreeIn taken permitted r) (shaped : Shaped (Over m)) (named : Named line (Starts m Unused)) where
   -- the writer of the output writes to the network socket
   abbrev Writes : Option WriteState → Type 0
   Writes found = IsSomeAnd found (λ w. writer_side w ≡ Some side)
@@ -45,7 +45,7 @@ module _ (side : OpId) (taken permitted : List ℕ) (m : Machine) (own : OpId) (
   says_of place r (Some s) g e w =
       let o : HasStreams r.inner.state s = subst (StreamsShape r.inner.state) e (shaped place r g).0 in
       let held : side_of r.inner ≡ Some side = ap side_in o.is ∙ ap (λ (x : OpId). Some x) (of_writer o.connection.side side s.writer o.writer w) in
-      quiet_then (λ done. SaysAll taken permitted done.0) Says [] (check_write_asks own s.writer) _ (quiet_check taken permitted [] own s.writer (subst (Agree taken permitted) e (h place r g (named.named side place r g held, inl held)))) (λ fs done k. k)
+      quiet_then (λ done. SaysAll taken permitted done.0) Says [] (check_write_asks own s.writer) _ (quiet_check taken permitted [] own s.writer (subst (Agree taken permitted) e (h place r g (named.named side place r g held, inl held)).0)) (λ fs done k. k)
 
   says_at : (place : ℕ) (o : Option TcpRecord) → tcp2_at m.store.records place ≡ o → Writes (writer_of_record o) → Quiet Says [] (stream_at m.store place (writer_asks (check_write_asks own)) o)
   says_at place None g w = absurd w
@@ -79,7 +79,7 @@ module _ (side : OpId) (taken permitted : List ℕ) (m : Machine) (own : OpId) (
   check_replies : WritesTo m output side → Quiet Replies [] (bind (check_asks m own output) (λ done. Give (permit_reply done.0, done.1)))
   check_replies w = quiet_then Tells Replies [] (check_asks m own output) _ (tells_by (plain_output_at m output) refl w) (λ fs done k. replies done k)
 
-module _ (contexts : List WasiSocketsCtx) (side : OpId) (taken permitted : List ℕ) (line : ℕ) (m : Machine) (ctx output n : ℕ) (h : (i : ℕ) (r : TcpRecord) → tcp2_at m.store.records i ≡ Some r → Lives side r → Agree taken permitted r.streams) (shaped : Shaped (Over m)) (named : Named line (Starts m Unused)) (w : WritesTo m output side) (some : 0 < n) where
+module _ (contexts : List WasiSocketsCtx) (side : OpId) (taken permitted : List ℕ) (line : ℕ) (m : Machine) (ctx output n : ℕ) (h : (i : ℕ) (r : TcpRecord) → tcp2_at m.store.records i ≡ Some r → Lives side r → AgreeIn taken permitted r) (shaped : Shaped (Over m)) (named : Named line (Starts m Unused)) (w : WritesTo m output side) (some : 0 < n) where
   abbrev IsBusy : List Entry → Reply × Machine → Type 0
   IsBusy es done = done.0 ≡ reply.Busy
 

@@ -1,4 +1,8 @@
 -- The law that what a network socket takes is a prefix of what it is let write.
+use Rattle.wasi_walks.proofs.walks.Moves.{AddsSlot, OfReceive, OfSend, TakesEnd}
+use Rattle.wasi_walks.proofs.PipeLists.{slot_push_same}
+use Rattle.wasi_records.specs.Ends.{ends_of}
+use Rattle.wasi_steps.specs.declared.guest_call.GuestCall.{GuestCall}
 use Rattle.wasi_world.specs.declared.call.Call.TheVariants as call
 use Rattle.wasi_world.specs.declared.call.Told.TheVariants as told
 use Rattle.wasi_tcp.specs.declared.halves.TcpSendStream.{TcpSendStream}
@@ -14,6 +18,7 @@ use Rattle.wasi_udp.specs.Create.{new_create}
 use Rattle.wasi_udp.specs.Receive.{wanted_in}
 use Rattle.wasi_records.specs.declared.udp.UdpRecord.{UdpRecord}
 use Rattle.wasi_records.specs.Udp.{udp_create_left, udp_side}
+use Rattle.wasi_walks.proofs.walks.Moves.{JoinsFault, JoinsPlain, faulted, joined_plain}
 use Rattle.wasi_walks.proofs.claims.Polls.{send_plain, receive_plain, udp_connect_plain}
 use Rattle.wasi_walks.proofs.fits.DatagramPolls.{wanted_left}
 use Rattle.wasi_walks.proofs.fits.Records.{FitConnecting, FitUdpProgress, ReceiveOn, SendOn, UdpBindOn, UdpConnectOn}
@@ -21,14 +26,14 @@ use Rattle.wasi_walks.proofs.fits.UdpFits.{receives_on, sends_on}
 use Rattle.wasi_walks.proofs.walks.Moves.{CancelsBind, EndsConnect, RecallsConnect, RecallsStreams, CancelsUdpBind, CancelsUdpConnect, Names, put_udp, with_records, Finds, FoundUdp, UdpChanges, BeginsUdpBind, BeginsUdpConnect, Counts, SpendsNames, BeginsSend, BeginsReceive, UdpCreates, UdpBindsOn, UdpConnectsOn, UdpReconnectsOn, SendsOn, ReceivesOn}
 use Rattle.wasi_walks.specs.Waiting.{IsLeftOfBind}
 use Rattle.wasi_walks.specs.Waiting as binding
-use Rattle.wasi_laws.proofs.Words.{Allows, ArePlain, Asks, Awaits, Begins, BeginsAccept, BeginsBind, BeginsConnect, BeginsListen, BeginsWrite, BindsOn, Bool, Call, Changes, ClosesReader, Connects, Done, End, Entry, Fit, FitListening, FitProgress, Forgets, Found, Held, Here, HoldsAccept, HoldsConnect, IsAcceptOn, IsConnect, IsFrontOf, IsGone, IsLeftOfConnect, IsLeftOfListen, IsListen, Item, Job, Joins, List, Listens, Move, Named, NoWrite, None, Not, OpId, Opens, Operation, Option, Own, Quiet, Reconnects, Refused, SocketAddressFamily, Some, Spends, Step, Streams, TcpRecord, TcpState, ToConnect, ToWrite, Told, Unlistens, Unused, Used, Waits, WasiSocketsCtx, WriteState, Writes, [], accept_ended, accept_name, accept_plain, accepting_now, allows_keep, allows_weaker, ap, append-nil, append_assoc, bytes_left, closed_record, connect_ended, entry, false, fresh, if◌then◌else◌, inl, inr, is_same, job_after, joined, name_in, new_accept, new_job, new_record, new_socket, none_taken, opened_by, own_of, part_of, poll_asks, put, refl, rules, side_in, side_of, subst, sym, taken_fresh, taken_in, true, with_inner, with_listening, with_reader, with_state, with_writer, ℕ, ⊤, ◌+◌, ◌++◌, ◌∙◌, ◌∷◌, ◌≡◌, Ok, length}
+use Rattle.wasi_laws.proofs.Words.{Allows, ArePlain, Asks, Awaits, Begins, BeginsAccept, BeginsBind, BeginsConnect, BeginsListen, BeginsWrite, BindsOn, Bool, Call, Changes, ClosesReader, Connects, Done, End, Entry, Fit, FitListening, FitProgress, Forgets, Found, Held, Here, HoldsAccept, HoldsConnect, IsAcceptOn, IsConnect, IsFrontOf, IsGone, IsLeftOfConnect, IsLeftOfListen, IsListen, Item, Job, Joins, List, Listens, Move, Named, NoWrite, None, Not, OpId, Opens, Operation, Option, Own, Quiet, Reconnects, Refused, SocketAddressFamily, Some, Spends, Step, Streams, TcpRecord, TcpState, ToConnect, ToWrite, Told, Unlistens, Unused, Used, Waits, WasiSocketsCtx, WriteState, Writes, [], accept_ended, accept_name, accept_plain, accepting_now, allows_keep, allows_weaker, ap, append-nil, append_assoc, bytes_left, closed_record, connect_ended, entry, false, fresh, if◌then◌else◌, inl, inr, is_same, job_after, joined, name_in, new_accept, new_job, new_record, new_socket, no_some, none_taken, opened_by, own_of, part_of, poll_asks, put, refl, rules, side_in, side_of, subst, sym, taken_fresh, taken_in, true, with_inner, with_listening, with_reader, with_state, with_writer, ℕ, ⊤, ◌+◌, ◌++◌, ◌∙◌, ◌∷◌, ◌≡◌, Ok, length}
 use Rattle.wasi_laws.proofs.asks.Fronts.{unwritten, polls_by}
 use Rattle.wasi_laws.proofs.asks.Single.{Single, Grounds, Closing, ClosesSocket, ClosesListen, ClosesArrived}
 use Rattle.wasi_walks.proofs.walks.OfState.{creating}
 use Rattle.wasi_laws.proofs.asks.Trees.{GoesOn, InWriting, InClosing}
-use Rattle.wasi_laws.proofs.shapes.Shape.{same_side, not_same, some_same, WriterIs, HasStreams, StreamsShape, IsBegun, Lives, Follows, follows_plain, follows_same, follows_state, follows_quiet, follows_begun, follows_gone, gone_lacks, SocketsStay, sockets_stay}
-use Rattle.wasi_laws.proofs.shapes.Law.{job_of}
-use Rattle.wasi_laws.proofs.permits.Agreeing.{JobAgrees, Agrees, Agree, Agreeing, agrees_put, agrees_moved, agrees_push, writer_agrees, agrees_beside, agrees_fewer, agrees_over}
+use Rattle.wasi_laws.proofs.shapes.Shape.{same_side, not_same, some_same, WriterIs, IsUsed, HasStreams, StreamsShape, IsBegun, Lives, Follows, follows_plain, follows_same, follows_state, follows_quiet, follows_begun, follows_gone, gone_lacks, SocketsStay, sockets_stay}
+use Rattle.wasi_laws.proofs.shapes.Law.{goes_used, job_of}
+use Rattle.wasi_laws.proofs.permits.Agreeing.{JobAgrees, Agrees, Agree, IsFree, AgreeIn, Agreeing, agrees_put, agrees_moved, agrees_push, writer_agrees, agrees_beside, agrees_fewer, agrees_over}
 use Rattle.wasi_laws.proofs.permits.Spent.{IsSpent, moves_spent, polls_spent, spent_by, spent_fewer, spent_own, spent_push, spent_put}
 use Rattle.wasi_walks.proofs.claims.Polls.{GivesOwn, own_poll}
 use Rattle.wasi_walks.proofs.walks.Here.{older_used, own_not_given}
@@ -86,6 +91,31 @@ agrees_now : (w : WriteState) (job : Job) (now : Job → WriteState) → GoesOn 
 agrees_now _ _ _ (InWriting job e) taken bytes ended k = k
 agrees_now _ _ _ (InClosing job e) taken bytes ended k = k
 
+-- a half to write by, or a write, is of a half that was taken
+not_free : (t : TcpState) (s : Streams) → IsUsed s.writer → IsFree t → HasStreams t s → ⊥
+not_free t s u free o = absurd (let of : IsFree (state.Connected o.connection) = subst IsFree o.is free in let z : true ≡ false = sym (o.taken u) ∙ of in cc)
+
+still_free : (c now : Connection) → (c.send_taken ≡ true → now.send_taken ≡ true) → now.send_taken ≡ false → c.send_taken ≡ false
+still_free c now keeps free = by_taken c.send_taken refl
+  where
+    by_taken : (b : Bool) → c.send_taken ≡ b → c.send_taken ≡ false
+    by_taken true e = absurd (let z : true ≡ false = sym (keeps e) ∙ free in cc)
+    by_taken false e = e
+
+free_sideless : (t : TcpState) → side_in t ≡ None → IsFree t
+free_sideless (state.Connected c) e = absurd (cc)
+free_sideless _ e = tt
+
+-- what was there is, where a half is taken as an end of 0.3
+ends_agree : (taken held : List ℕ) (o : Option Streams) → Agree taken held o → Agrees taken held (ends_of o).writer
+ends_agree taken held None a = tt
+ends_agree taken held (Some s) a = a
+
+-- a step that isn't a write of 0.3: what that is let write is known once it is answered
+abbrev pub NotOffer : Step → Type 0
+NotOffer (Step.Call ctx (GuestCall.P3Write end bytes)) = ⊥
+NotOffer _ = ⊤
+
 module _ (side : OpId) (given : List ℕ) where
   -- so much was let write before, by what the line's own operation is let write still
   abbrev pub Owes : Own → List ℕ → Type 0
@@ -111,11 +141,6 @@ module _ (side : OpId) (given : List ℕ) where
   front_by taken held (ToConnect place) e f = subst (IsFrontOf taken) e f
   front_by taken held (ToWrite at bytes) e f = front_on taken held _ f e
 
-  -- where the streams are made nothing was taken
-  opens_agree : (es : List Entry) (held : List ℕ) (c : Connection) (o : Option Streams) → c.send_taken ≡ false → StreamsShape (state.Connected c) o → Agree (taken_in side es) held o → taken_in side es ≡ held
-  opens_agree es held c None f s a = a.0 ∙ sym a.1
-  opens_agree es held c (Some x) f s a = absurd (let q : c ≡ s.connection = cc in let z : false ≡ true = sym f ∙ (ap (λ (y : Connection). y.send_taken) q ∙ s.taken) in cc)
-
   module _ (over : Type 0) where
     front : (es : List Entry) (h : Here) → KeptBy over es h → IsFrontOf (taken_in side es) given
     front es h k = front_by (taken_in side es) k.held h.own k.owes k.stands.front
@@ -128,16 +153,20 @@ module _ (side : OpId) (given : List ℕ) where
     asked es h op c told n k = took es (es ++ entry op c told ∷ []) h (taken_push side es (entry op c told) (none_taken side c told n)) k
 
     -- a record changes, and agrees where its network socket is alive
-    put_kept : (es : List Entry) (h : Here) (place : ℕ) (r now : TcpRecord) → Found h place r → Follows r now → ((held : List ℕ) → Lives side now → Agree (taken_in side es) held r.streams → Agree (taken_in side es) held now.streams) → KeptBy over es h → KeptBy over es (put h place now)
-    put_kept es h place r now g f a k = record { held = k.held; stands = agrees_put side h.machine.store.records place r now g f.side (taken_in side es) k.held (λ v. a k.held v (k.stands.lives place r g (f.lives side v))) k.stands; owes = k.owes }
+    put_kept : (es : List Entry) (h : Here) (place : ℕ) (r now : TcpRecord) → Found h place r → Follows r now → (IsFree now.inner.state → IsFree r.inner.state) → ((held : List ℕ) → Lives side now → AgreeIn (taken_in side es) held r → Agree (taken_in side es) held now.streams) → KeptBy over es h → KeptBy over es (put h place now)
+    put_kept es h place r now g f free a k = record {
+      held = k.held;
+      stands = agrees_put side h.machine.store.records place r now g f.side (taken_in side es) k.held (λ v. (let was = k.stands.lives place r g (f.lives side v) in (a k.held v was, λ o. was.1 (free o)))) k.stands;
+      owes = k.owes;
+    }
 
     -- and its streams are as they were
-    put_same : (es : List Entry) (h : Here) (place : ℕ) (r now : TcpRecord) → Found h place r → Follows r now → now.streams ≡ r.streams → KeptBy over es h → KeptBy over es (put h place now)
-    put_same es h place r now g f s k = put_kept es h place r now g f (λ held v a. subst (Agree (taken_in side es) held) (sym s) a) k
+    put_same : (es : List Entry) (h : Here) (place : ℕ) (r now : TcpRecord) → Found h place r → Follows r now → now.streams ≡ r.streams → (IsFree now.inner.state → IsFree r.inner.state) → KeptBy over es h → KeptBy over es (put h place now)
+    put_same es h place r now g f s free k = put_kept es h place r now g f free (λ held v a. subst (Agree (taken_in side es) held) (sym s) a.0) k
 
     -- it has no network socket any more
     put_gone : (es : List Entry) (h : Here) (place : ℕ) (r now : TcpRecord) → Found h place r → now.side ≡ r.side → side_of now.inner ≡ None → (IsBegun now.listening → ⊥) → KeptBy over es h → KeptBy over es (put h place now)
-    put_gone es h place r now g s d n k = put_kept es h place r now g (follows_gone r now s d n) (λ held v a. absurd (gone_lacks now d n side v)) k
+    put_gone es h place r now g s d n k = record { held = k.held; stands = agrees_put side h.machine.store.records place r now g s (taken_in side es) k.held (λ v. absurd (gone_lacks now d n side v)) k.stands; owes = k.owes }
 
     -- a UDP socket changes, or there is one more
     put_udp_kept : (es : List Entry) (h : Here) (place : ℕ) (u now : UdpRecord) → FoundUdp h place u → KeptBy over es h → KeptBy over es (put_udp h place now)
@@ -163,24 +192,24 @@ module _ (side : OpId) (given : List ℕ) where
 
     module _ (line : ℕ) where
       -- a write begins: its network socket is the connection's
-      module _ (es : List Entry) (h : Here) (place number : ℕ) (r : TcpRecord) (s : Streams) (half : TcpSendStream) (permit : ℕ) (bytes : List ℕ) (g : Found h place r) (e : r.streams ≡ Some s) (w : s.writer ≡ writing.Ready half permit) (o : HasStreams r.inner.state s) (n : Named line h) (k : KeptBy over es h) where
+      module _ (es : List Entry) (h : Here) (place number : ℕ) (r : TcpRecord) (s : Streams) (half : TcpSendStream) (permit : ℕ) (bytes : List ℕ) (g : Found h place r) (e : r.streams ≡ Some s) (w : s.writer ≡ writing.Ready half permit) (o_shape : HasStreams r.inner.state s) (n : Named line h) (k : KeptBy over es h) where
         abbrev begun : TcpRecord
         begun = with_writer r s (writing.Writing (new_job (own_of number) half.side bytes))
 
         its_side : side_of r.inner ≡ Some half.side
-        its_side = let same : half.side ≡ o.connection.side = subst (WriterIs o.connection.side) w o.writer in ap side_in o.is ∙ ap (λ (x : OpId). Some x) (sym same)
+        its_side = let same : half.side ≡ o_shape.connection.side = subst (WriterIs o_shape.connection.side) w o_shape.writer in ap side_in o_shape.is ∙ ap (λ (x : OpId). Some x) (sym same)
 
         its_made : r.side ≡ Some half.side
         its_made = n.named half.side place r g its_side
 
         all_taken : half.side ≡ side → taken_in side es ≡ k.held
-        all_taken ours = let o = ap (λ (x : OpId). Some x) ours in subst (Agrees (taken_in side es) k.held) w (subst (Agree (taken_in side es) k.held) e (k.stands.lives place r g (its_made ∙ o, inl (its_side ∙ o))))
+        all_taken ours = let o = ap (λ (x : OpId). Some x) ours in subst (Agrees (taken_in side es) k.held) w (subst (Agree (taken_in side es) k.held) e (k.stands.lives place r g (its_made ∙ o, inl (its_side ∙ o))).0)
 
         begins : (b : Bool) → is_same half.side side ≡ b → (let more : List ℕ = if b then bytes else [] in given ≡ k.held ++ more) → Agreeing side over (taken_in side es) given (tcp2_put h.machine.store.records place begun)
         begins true b o =
             let is = same_side half.side side b in let m : r.side ≡ Some side = its_made ∙ ap (λ (x : OpId). Some x) is in
             agrees_moved side h.machine.store.records place r begun g refl (taken_in side es) k.held (taken_in side es) given m (λ i q e v. n.one side i place q r e g (inl v) (inl m)) (front_on (taken_in side es) k.held bytes k.stands.front o)
-            (ap (λ (t : List ℕ). t ++ bytes) (all_taken is) ∙ sym o) k.stands
+            (ap (λ (t : List ℕ). t ++ bytes) (all_taken is) ∙ sym o, λ free. absurd (not_free r.inner.state s (subst IsUsed (sym w) tt) free o_shape)) k.stands
         begins false b o =
             subst (λ (q : List ℕ). Agreeing side over (taken_in side es) q (tcp2_put h.machine.store.records place begun)) (sym (append-nil k.held) ∙ sym o)
             (agrees_put side h.machine.store.records place r begun g refl (taken_in side es) k.held (λ v. absurd (not_same half.side side (some_same half.side side (sym its_made ∙ v.0)) b)) k.stands)
@@ -193,28 +222,50 @@ module _ (side : OpId) (given : List ℕ) where
         moves es _ _ (RecallsStreams h ids place handle e own) says makes b k = owns es _ h.own Unused (ToConnect place) own (λ held o. o) k
         moves es _ _ (Counts h e) says makes b k = owns es _ h.own Unused (Names 1) e (λ held o. o) k
         moves es _ _ (SpendsNames h part e) says makes b k = owns es _ h.own (Names part) Used e (λ held o. o) k
-        moves es _ _ (Changes h place r now g p) says makes b k = put_same es h place r now g (follows_plain r now p) p.streams k
-        moves es _ _ (ClosesReader h place r s g e) says makes b k = put_kept es h place r (with_reader r s reading.Closed) g (record { side = refl; lives = λ x v. v }) (λ held v a. subst (Agree (taken_in side es) held) e a) k
-        moves es _ _ (Writes h place r s w g e m) says makes b k = put_kept es h place r (with_writer r s w) g (record { side = refl; lives = λ x v. v }) (λ held v a. writer_agrees (taken_in side es) held s.writer w m (subst (Agree (taken_in side es) held) e a)) k
+        moves es _ _ (Changes h place r now g p) says makes b k = put_same es h place r now g (follows_plain r now p) p.streams (λ o. subst IsFree p.does o) k
+        moves es _ _ (ClosesReader h place r s g e) says makes b k = put_kept es h place r (with_reader r s reading.Closed) g (record { side = refl; lives = λ x v. v }) (λ o. o) (λ held v a. subst (Agree (taken_in side es) held) e a.0) k
+        moves es _ _ (Writes h place r s w g e m) says makes b k = put_kept es h place r (with_writer r s w) g (record { side = refl; lives = λ x v. v }) (λ o. o) (λ held v a. writer_agrees (taken_in side es) held s.writer w m (subst (Agree (taken_in side es) held) e a.0)) k
         moves es _ _ (IsGone h place r q g e) says makes b k = put_gone es h place r _ g refl e (λ b. b) k
-        moves es _ _ (Reconnects h place r c now g e s t u) says makes b k = put_same es h place r _ g (follows_state r (with_inner r (with_state r.inner (state.Connected now))) refl refl (λ x p. ap side_in e ∙ (ap (λ (y : OpId). Some y) (sym s) ∙ p))) refl k
+        moves es _ _ (Reconnects h place r c now g e s t u) says makes b k = put_same es h place r _ g (follows_state r (with_inner r (with_state r.inner (state.Connected now))) refl refl (λ x p. ap side_in e ∙ (ap (λ (y : OpId). Some y) (sym s) ∙ p))) refl (λ o. subst IsFree (sym e) (still_free c now t o)) k
         moves es _ _ (Opens h place r c d g e f) says makes b k =
             put_kept es h place r (opened_by r c) g (follows_state r (opened_by r c) refl refl (λ x p. ap side_in e ∙ p))
-            (λ held v a. opens_agree es held c r.streams f (subst (λ (t : TcpState). StreamsShape t r.streams) e (b.1 place r g).0) a) k
-        moves es _ _ (BeginsConnect h place r x a bound at g d to known idle o) says makes b k = spends es _ h.own o (put_same es h place r _ g (follows_state r _ refl refl (λ x p. ap side_in d ∙ p)) refl k)
-        moves es _ _ (BeginsBind h place r x a at g d to o) says makes b k = spends es _ h.own o (put_same es h place r _ g (record { side = refl; lives = λ x v. v }) refl k)
+            (λ o. absurd (let z : true ≡ false = o in cc)) (λ held v a. a.1 (subst IsFree (sym e) f)) k
+        moves es _ _ (TakesEnd h handle place r _ t g (OfReceive c e free)) says makes b k =
+            put_kept es h place r _ g (follows_state r _ refl refl (λ x p. ap side_in e ∙ p)) (λ o. subst IsFree (sym e) o) (λ held v a. ends_agree (taken_in side es) held r.streams a.0) k
+        moves es _ _ (TakesEnd h handle place r _ t g (OfSend c e free)) says makes b k =
+            put_kept es h place r _ g (follows_state r _ refl refl (λ x p. ap side_in e ∙ p)) (λ o. absurd (let z : true ≡ false = o in cc)) (λ held v a. a.1 (subst IsFree (sym e) free)) k
+        moves es _ _ (AddsSlot h s) says makes b k = looked es h _ (sockets_stay (slot_push_same {new = λ op. ⊥} h.machine.store.records s)) k
+        moves es _ _ (BeginsConnect h place r x a bound at g d to known idle o) says makes b k = spends es _ h.own o (put_same es h place r _ g (follows_state r _ refl refl (λ x p. ap side_in d ∙ p)) refl (λ o. subst IsFree (sym d) tt) k)
+        moves es _ _ (BeginsBind h place r x a at g d to o) says makes b k = spends es _ h.own o (put_same es h place r _ g (record { side = refl; lives = λ x v. v }) refl (λ o. o) k)
         moves es _ _ (BeginsWrite h place number r s half permit bytes at g e w within o) says makes b k =
             record { held = given; stands = begins es h place number r s half permit bytes g e w (subst (StreamsShape r.inner.state) e (b.1 place r g).0) b.0.1 k (is_same half.side side) refl (subst (λ (x : Own). Owes x k.held) o k.owes); owes = refl }
-        moves es _ _ (BeginsListen h place r x p g d bound none to idle o) says makes b k = spends es _ h.own o (put_same es h place r _ g (follows_begun line h place r x g d b.0.1) refl k)
-        moves es _ _ (BeginsAccept h place part r l p g e a o) says makes b k = owns es _ h.own (Names part) (Names (part + 1)) o (λ held q. q) (put_same es h place r _ g (follows_quiet r (accepting_now r l (new_accept (part_of line part) l)) refl refl (λ b. b)) refl k)
-        moves es _ _ (Unlistens h place r op q g e c o) says makes b k = put_same es h place r _ g (follows_quiet r _ refl refl (λ b. b)) refl k
-        moves es _ _ (Forgets h place r l c g e a) says makes b k = put_same es h place r _ g (follows_quiet r (accepting_now r l accepting.Idle) refl refl (λ b. b)) refl k
+        moves es _ _ (BeginsListen h place r x bound p g d known free none to idle o) says makes b k = spends es _ h.own o (put_same es h place r _ g (follows_begun line h place r x bound g d b.0.1) refl (λ o. subst IsFree (sym d) tt) k)
+        moves es _ _ (BeginsAccept h place part r l p g e a o) says makes b k = owns es _ h.own (Names part) (Names (part + 1)) o (λ held q. q) (put_same es h place r _ g (follows_quiet r (accepting_now r l (new_accept (part_of line part) l)) refl refl (λ b. b)) refl (λ o. o) k)
+        moves es _ _ (Unlistens h place r op q g e c o) says makes b k = put_same es h place r _ g (follows_quiet r _ refl refl (λ b. b)) refl (λ o. o) k
+        moves es _ _ (Forgets h place r l c g e a) says makes b k = put_same es h place r _ g (follows_quiet r (accepting_now r l accepting.Idle) refl refl (λ b. b)) refl (λ o. o) k
         moves es _ _ (Joins h c handle place r l new peer is of u g e a) says makes b k =
             let idle = accepting_now r l accepting.Idle in
-            let i = put_same es h place r idle g (follows_quiet r idle refl refl (λ b. b)) refl k in
+            let i = put_same es h place r idle g (follows_quiet r idle refl refl (λ b. b)) refl (λ o. o) k in
             record {
               held = i.held;
-              stands = agrees_push side (taken_in side es) i.held (tcp2_put h.machine.store.records place idle) (joined l new peer) (λ q j x d v. taken_fresh contexts line origin h place r idle new g (ap accept_name e ∙ ap name_in a) refl refl b.0.1 j x d (inl (v ∙ sym q))) (λ q o. (says o).none (length (tcp2_put h.machine.store.records place idle)) (joined l new peer) (push_finds tcp_sort (tcp2_put h.machine.store.records place idle) (joined l new peer)) (inl q)) (λ t. t.0 ∙ sym t.1) i.stands;
+              stands = agrees_push side (taken_in side es) i.held (tcp2_put h.machine.store.records place idle) (joined l new peer) (λ q j x d v. taken_fresh contexts line origin h place r idle new g (ap accept_name e ∙ ap name_in a) refl refl b.0.1 j x d (inl (v ∙ sym q))) (λ q o. (says o).none (length (tcp2_put h.machine.store.records place idle)) (joined l new peer) (push_finds tcp_sort (tcp2_put h.machine.store.records place idle) (joined l new peer)) (inl q)) (λ t. (t.0 ∙ sym t.1, λ o. t.0 ∙ sym t.1)) i.stands;
+              owes = i.owes;
+            }
+        moves es _ _ (JoinsPlain h c listener remaining place r l new peer is of u g e a) says makes b k =
+            let idle = accepting_now r l accepting.Idle in
+            let i = put_same es h place r idle g (follows_quiet r idle refl refl (λ b. b)) refl (λ o. o) k in
+            record {
+              held = i.held;
+              stands = agrees_push side (taken_in side es) i.held (tcp2_put h.machine.store.records place idle) (joined_plain l new peer) (λ q j x d v. taken_fresh contexts line origin h place r idle new g (ap accept_name e ∙ ap name_in a) refl refl b.0.1 j x d (inl (v ∙ sym q))) (λ q o. (says o).none (length (tcp2_put h.machine.store.records place idle)) (joined_plain l new peer) (push_finds tcp_sort (tcp2_put h.machine.store.records place idle) (joined_plain l new peer)) (inl q)) (λ t. (t, λ o. t.0 ∙ sym t.1)) i.stands;
+              owes = i.owes;
+            }
+        -- the socket of a fault has no network socket
+        moves es _ _ (JoinsFault h place r l c u g e a) says makes b k =
+            let idle = accepting_now r l accepting.Idle in
+            let i = put_same es h place r idle g (follows_quiet r idle refl refl (λ b. b)) refl (λ o. o) k in
+            record {
+              held = i.held;
+              stands = agrees_push side (taken_in side es) i.held (tcp2_put h.machine.store.records place idle) (faulted l c) (λ q j x d v. no_some side q) (λ q o. no_some side q) (λ t. (t, λ o. t.0 ∙ sym t.1)) i.stands;
               owes = i.owes;
             }
         moves es _ _ (UdpChanges h place o now g p keeps) says makes b k = put_udp_kept es h place (UdpRecord.Open o) (UdpRecord.Open now) g k
@@ -222,7 +273,7 @@ module _ (side : OpId) (given : List ℕ) where
         moves es _ _ (BeginsUdpConnect h place o a bound at g to known none own) says makes b k = owns es _ h.own Unused (ToConnect place) own (λ held p. p) (put_udp_kept es h place (UdpRecord.Open o) (UdpRecord.Open _) g k)
         moves es _ _ (BeginsSend h place part o out d bound at g e is known own) says makes b k = owns es _ h.own (Names part) (Names (part + 1)) own (λ held p. p) (put_udp_kept es h place (UdpRecord.Open o) (UdpRecord.Open _) g k)
         moves es _ _ (BeginsReceive h place part o inc bound at g e is own) says makes b k = owns es _ h.own (Names part) (Names (part + 1)) own (λ held p. p) (put_udp_kept es h place (UdpRecord.Open o) (UdpRecord.Open _) g k)
-        moves es _ _ (CancelsBind h place r op q g e) says makes b k = put_same es h place r _ g (record { side = refl; lives = λ x v. v }) refl k
+        moves es _ _ (CancelsBind h place r op q g e) says makes b k = put_same es h place r _ g (record { side = refl; lives = λ x v. v }) refl (λ o. o) k
         moves es _ _ (CancelsUdpBind h place o op q g e) says makes b k = put_udp_kept es h place (UdpRecord.Open o) (UdpRecord.Open _) g k
         moves es _ _ (CancelsUdpConnect h place o q g) says makes b k = put_udp_kept es h place (UdpRecord.Open o) (UdpRecord.Open _) g k
         moves es _ _ (Finds h records s) says makes b k = looked es h records (sockets_stay s) k
@@ -237,12 +288,12 @@ module _ (side : OpId) (given : List ℕ) where
 
         -- what becomes of what is polled
         ended_kept : (es : List Entry) (h : Here) (op : Operation) (after : End × List Item → Here) (ended : End × List Item) → Held h op after → Named line h → KeptBy over es h → KeptBy over es (after ended)
-        ended_kept es h _ _ ended (BindsOn place r op q g e) n k = put_same es h place r _ g (record { side = refl; lives = λ x v. v }) refl k
-        ended_kept es h _ _ ended (Connects place r op g e) n k = put_same es h place r _ g (follows_state r (with_inner r (with_state r.inner (connect_ended op.who ended).1)) refl refl (λ x p. ap side_in e ∙ ended_side op ended x p)) refl k
-        ended_kept es h _ _ (Waits, items) (Listens place r op q g e c) n k = put_same es h place r _ g (listen_follows r _ op e refl) refl k
-        ended_kept es h _ _ (Done given, items) (Listens place r op q g e c) n k = put_same es h place r _ g (listen_follows r _ op e refl) refl k
-        ended_kept es h _ _ (Refused c given, items) (Listens place r op q g e _) n k = put_same es h place r _ g (listen_follows r _ op e refl) refl k
-        ended_kept es h _ _ ended (Awaits place r l op g e a) n k = put_same es h place r _ g (follows_quiet r (accepting_now r l (accept_ended op.who ended)) refl refl (λ b. b)) refl k
+        ended_kept es h _ _ ended (BindsOn place r op q g e) n k = put_same es h place r _ g (record { side = refl; lives = λ x v. v }) refl (λ o. o) k
+        ended_kept es h _ _ ended (Connects place r op g e) n k = put_same es h place r _ g (follows_state r (with_inner r (with_state r.inner (connect_ended op.who ended).1)) refl refl (λ x p. ap side_in e ∙ ended_side op ended x p)) refl (λ o. subst IsFree (sym e) tt) k
+        ended_kept es h _ _ (Waits, items) (Listens place r op q g e c) n k = put_same es h place r _ g (listen_follows r _ op e refl) refl (λ o. free_sideless r.inner.state c) k
+        ended_kept es h _ _ (Done given, items) (Listens place r op q g e c) n k = put_same es h place r _ g (listen_follows r _ op e refl) refl (λ o. free_sideless r.inner.state c) k
+        ended_kept es h _ _ (Refused c given, items) (Listens place r op q g e quiet) n k = put_same es h place r _ g (listen_follows r _ op e refl) refl (λ o. free_sideless r.inner.state quiet) k
+        ended_kept es h _ _ ended (Awaits place r l op g e a) n k = put_same es h place r _ g (follows_quiet r (accepting_now r l (accept_ended op.who ended)) refl refl (λ b. b)) refl (λ o. o) k
         ended_kept es h _ _ ended (UdpCreates place create q g) n k = put_udp_kept es h place (UdpRecord.Creating create) (udp_create_left create ended) g k
         ended_kept es h _ _ ended (UdpBindsOn place o op q g e) n k = put_udp_kept es h place (UdpRecord.Open o) (UdpRecord.Open _) g k
         ended_kept es h _ _ ended (UdpConnectsOn place o op q g e) n k = put_udp_kept es h place (UdpRecord.Open o) (UdpRecord.Open _) g k
@@ -253,13 +304,13 @@ module _ (side : OpId) (given : List ℕ) where
         -- a write is in progress
         turns : (es : List Entry) (h : Here) (place : ℕ) (r : TcpRecord) (s : Streams) (w : WriteState) (job : Job) (now : Job → WriteState) → Found h place r → r.streams ≡ Some s → HasStreams r.inner.state s → s.writer ≡ w → GoesOn w job now → Named line h → KeptBy over es h
             → Allows (Fronts side given) (λ fs ended. KeptBy over fs (put h place (with_writer r s (now (job_after job.write.who ended))))) es (poll_asks job.write)
-        turns es h place r s w job now g e o d on n k =
-            let j = (job_of w job now on (subst (WriterIs o.connection.side) d o.writer)).0 in
+        turns es h place r s w job now g e o d_writer on n k =
+            let j = (job_of w job now on (subst (WriterIs o.connection.side) d_writer o.writer)).0 in
             let held_there : side_of r.inner ≡ Some job.write.who.side = ap side_in o.is ∙ ap (λ (x : OpId). Some x) (sym j.side) in
             let its = n.named job.write.who.side place r g held_there in
             let begun : Accounts side k.held job.write.who.side (taken_in side es) (λ all. all ++ bytes_left job.write.left ≡ k.held) (taken_in side es) = (record {
               front = k.stands.front;
-              ours = λ x. owes_still w job now on (taken_in side es) k.held (subst (Agrees (taken_in side es) k.held) d (subst (Agree (taken_in side es) k.held) e (k.stands.lives place r g (its ∙ ap (λ (y : OpId). Some y) x, inl (held_there ∙ ap (λ (y : OpId). Some y) x)))));
+              ours = λ x. owes_still w job now on (taken_in side es) k.held (subst (Agrees (taken_in side es) k.held) d_writer (subst (Agree (taken_in side es) k.held) e (k.stands.lives place r g (its ∙ ap (λ (y : OpId). Some y) x, inl (held_there ∙ ap (λ (y : OpId). Some y) x))).0));
               theirs = λ x. refl;
             }) in
             allows_weaker (Fronts side given) (λ fs ended. ⊤ × After side k.held (taken_in side es) job.write.who fs ended) (λ fs ended. KeptBy over fs (put h place (with_writer r s (now (job_after job.write.who ended)))))
@@ -270,7 +321,7 @@ module _ (side : OpId) (given : List ℕ) where
             turned : (fs : List Entry) (ended : End × List Item) (ours : Bool) → is_same job.write.who.side side ≡ ours → r.side ≡ Some job.write.who.side → After side k.held (taken_in side es) job.write.who fs ended → Agreeing side over (taken_in side fs) k.held (tcp2_put h.machine.store.records place (with_writer r s (now (job_after job.write.who ended))))
             turned fs ended true b its x =
                 let is = same_side job.write.who.side side b in let m : r.side ≡ Some side = its ∙ ap (λ (y : OpId). Some y) is in
-                agrees_moved side h.machine.store.records place r _ g refl (taken_in side es) k.held (taken_in side fs) k.held m (λ j q d v. n.one side j place q r d g (inl v) (inl m)) x.front (agrees_now w job now on (taken_in side fs) k.held ended (x.ours is)) k.stands
+                agrees_moved side h.machine.store.records place r _ g refl (taken_in side es) k.held (taken_in side fs) k.held m (λ j q d v. n.one side j place q r d g (inl v) (inl m)) x.front (agrees_now w job now on (taken_in side fs) k.held ended (x.ours is), λ free. absurd (not_free r.inner.state s (subst IsUsed (sym d_writer) (goes_used w job now on)) free o)) k.stands
             turned fs ended false b its x =
                 subst (λ (t : List ℕ). Agreeing side over t k.held (tcp2_put h.machine.store.records place (with_writer r s (now (job_after job.write.who ended))))) (sym (x.theirs b))
                 (agrees_put side h.machine.store.records place r _ g refl (taken_in side es) k.held (λ v. absurd (not_same job.write.who.side side (some_same job.write.who.side side (sym its ∙ v.0)) b)) k.stands)
@@ -281,14 +332,14 @@ module _ (side : OpId) (given : List ℕ) where
             let k = asked es h (own_of line) (call.TcpCreate ctx.name family) told.Done tt i in
             spends _ _ h.own u (record {
               held = k.held;
-              stands = agrees_push side _ k.held h.machine.store.records (new_record (new_socket (own_of line) ctx.name family)) (λ q p x d v. fresh contexts line origin h u n side (ap (λ (x : OpId). x.step) (sym (some_same (own_of line) side q))) p x d (inl v)) (λ q o. (let new = new_record (new_socket (own_of line) ctx.name family) in (is o).none (length h.machine.store.records) new (push_finds tcp_sort h.machine.store.records new) (inl q))) (λ t. t) k.stands;
+              stands = agrees_push side _ k.held h.machine.store.records (new_record (new_socket (own_of line) ctx.name family)) (λ q p x d v. fresh contexts line origin h u n side (ap (λ (x : OpId). x.step) (sym (some_same (own_of line) side q))) p x d (inl v)) (λ q o. (let new = new_record (new_socket (own_of line) ctx.name family) in (is o).none (length h.machine.store.records) new (push_finds tcp_sort h.machine.store.records new) (inl q))) (λ t. (t, λ o. t.0 ∙ sym t.1)) k.stands;
               owes = k.owes;
             })
 
         closed_kept : (es : List Entry) (h : Here) (place : ℕ) (r now : TcpRecord) (x : OpId) → Found h place r → Closing r now x → KeptBy over es h → KeptBy over es (put h place now)
         closed_kept es h place r _ x g (ClosesSocket _ e) k = put_gone es h place r (closed_record r) g refl refl (λ b. b) k
-        closed_kept es h place r _ x g (ClosesListen op e) k = put_same es h place r (with_listening r Not) g (follows_quiet r (with_listening r Not) refl refl (λ b. b)) refl k
-        closed_kept es h place r _ x g (ClosesArrived l _ peer e a) k = put_same es h place r (with_listening r Not) g (follows_quiet r (with_listening r Not) refl refl (λ b. b)) refl k
+        closed_kept es h place r _ x g (ClosesListen op e) k = put_same es h place r (with_listening r Not) g (follows_quiet r (with_listening r Not) refl refl (λ b. b)) refl (λ o. o) k
+        closed_kept es h place r _ x g (ClosesArrived l _ peer e a) k = put_same es h place r (with_listening r Not) g (follows_quiet r (with_listening r Not) refl refl (λ b. b)) refl (λ o. o) k
 
   -- where it is over says another fact
   over_so : (over now : Type 0) (es : List Entry) (records : List Record) (own : Own) → (over → now) → Permitted over es records own → Permitted now es records own
@@ -323,12 +374,13 @@ module _ (side : OpId) (given : List ℕ) where
       closing_spent h place r _ x g (ClosesListen op e) i = bare_spent h place r _ g refl refl i
       closing_spent h place r _ x g (ClosesArrived l _ peer e a) i = bare_spent h place r _ g refl refl i
 
-      pub permits : Single contexts line origin (Fronts side given) Kept
-      permits = record {
+      pub permits : NotOffer origin → Single contexts line origin (Fronts side given) Kept
+      permits no_offer = record {
+        offers = λ es h ctx handle place bytes r s half permit is g e w own b k. absurd (subst NotOffer is no_offer);
         moves = λ es h now m b k. moves (IsSpent side line now) line contexts origin es h now m (λ o. o) (λ o. o) b (on es h now (moves_spent side line contexts origin h now m) k);
-        same = λ es h place r now g s k. put_same (IsSpent side line (put h place now)) es h place r now g (follows_same r now s) s.streams (on es h (put h place now) (same_spent h place r now g s.side s.listening) k);
+        same = λ es h place r now g s k. put_same (IsSpent side line (put h place now)) es h place r now g (follows_same r now s) s.streams (λ o. subst IsFree s.does o) (on es h (put h place now) (same_spent h place r now g s.side s.listening) k);
         tables = λ es h t m k. k;
-        stops = λ es h place r g k. put_same (IsSpent side line (put h place (with_listening r Not))) es h place r (with_listening r Not) g (follows_quiet r (with_listening r Not) refl refl (λ b. b)) refl (on es h (put h place (with_listening r Not)) (bare_spent h place r (with_listening r Not) g refl refl) k);
+        stops = λ es h place r g k. put_same (IsSpent side line (put h place (with_listening r Not))) es h place r (with_listening r Not) g (follows_quiet r (with_listening r Not) refl refl (λ b. b)) refl (λ o. o) (on es h (put h place (with_listening r Not)) (bare_spent h place r (with_listening r Not) g refl refl) k);
         asks = λ es h op c calm at k. (front (IsSpent side line h) es h k, λ told. asked (IsSpent side line h) es h op c told (unwritten c calm) k);
         creates = λ es h ctx family u b k. (let now = creating h (own_of line) ctx family in created (IsSpent side line now) line contexts origin es h ctx family (λ o. o) u b.0.1 (on es h now (made_spent h ctx family u) k));
         closes = λ es h place r now op x g c b k. (front (IsSpent side line h) es h k, λ told. asked (IsSpent side line (put h place now)) es (put h place now) op (call.Close x) told tt (closed_kept (IsSpent side line (put h place now)) line contexts origin es h place r now x g c (on es h (put h place now) (closing_spent h place r now x g c) k)));
@@ -343,6 +395,7 @@ module _ (side : OpId) (given : List ℕ) where
             let now = put_udp h place (UdpRecord.Closed (udp_side u)) in
             (front (IsSpent side line h) es h k, λ told. asked (IsSpent side line now) es now op (call.Close (udp_side u)) told tt (put_udp_kept (IsSpent side line now) es h place u (UdpRecord.Closed (udp_side u)) g (on es h now (udp_spent h place (UdpRecord.Closed (udp_side u))) k)));
         lookups = λ es h records s k. looked (IsSpent side line (with_records h records)) es h records s (on es h (with_records h records) (λ i. spent_by side line h.own _ _ (λ n r e. sym (s.tcp n) ∙ e) i) k);
+        beside = λ es h calls i. i;
         polls = λ es h op after x b k. allows_weaker (Fronts side given) (λ fs ended. Kept fs h × (ArePlain ended.1 × GivesOwn op.who.id ended.0)) (λ fs ended. Kept fs (after ended))
             (λ fs ended y. ended_kept (IsSpent side line (after ended)) line contexts origin fs h op after ended x b.0.1 (on fs h (after ended) (polls_spent side line contexts origin h op after x ended y.1.1) y.0)) es (poll_asks op)
             (quiet_kept (IsSpent side line h) line contexts origin (λ ended. ArePlain ended.1 × GivesOwn op.who.id ended.0) es h (poll_asks op) k (own_poll op es (held_plain h op after x b.0.0)));

@@ -11,7 +11,7 @@ use Rattle.wasi_walks.proofs.claims.Polls.{GivesOwn, ended_name}
 use Rattle.wasi_walks.proofs.walks.Here.{Grows, IsOlder, IsToCome, grows_to, next_grows, next_to_come, not_given, older_unused, older_used}
 use Rattle.wasi_walks.proofs.walks.Moves as walk
 use Rattle.wasi_walks.proofs.walks.Moves.{Held, Move, Own, accepting_now, joined, listen_after, new_accept, part_of}
-use Rattle.wasi_walks.proofs.Places.{push_new, put_found, put_was, tcp_sort, udp_sort}
+use Rattle.wasi_walks.proofs.Places.{push_new, push_was, put_found, put_was, slot_sort, tcp_sort, udp_sort}
 
 module _ (side : OpId) (line : ℕ) where
   pub record Spent (own : Own) (records : List Record) : Type 0 where
@@ -71,10 +71,13 @@ module _ (side : OpId) (line : ℕ) where
     moves_spent _ _ (walk.IsGone h place r q g e) i = put_bare h place r _ g refl refl i
     moves_spent _ _ (walk.Reconnects h place r c now g e s t u) i = put_same h place r _ g refl refl i
     moves_spent _ _ (walk.Opens h place r c d g e n) i = put_same h place r _ g refl refl i
+    moves_spent _ _ (walk.TakesEnd h handle place r _ t g (walk.OfReceive c e free)) i = put_same h place r _ g refl refl i
+    moves_spent _ _ (walk.TakesEnd h handle place r _ t g (walk.OfSend c e free)) i = put_same h place r _ g refl refl i
+    moves_spent _ _ (walk.AddsSlot h s) i = spent_by h.own _ _ (push_was slot_sort tcp_sort (λ t. refl) h.machine.store.records s) i
     moves_spent _ _ (walk.BeginsConnect h place r x a bound at g d to known idle own) i = put_used h place r _ g refl refl i
     moves_spent _ _ (walk.BeginsBind h place r x a at g d to own) i = put_used h place r _ g refl refl i
     moves_spent _ _ (walk.BeginsWrite h place n r s half permit bytes at g e w within own) i = put_used h place r _ g refl refl i
-    moves_spent _ _ (walk.BeginsListen h place r x at g d bound none to idle own) i = spent_own h.own Own.Used _ (older_used line h.own) (put_bare h place r _ g refl refl i)
+    moves_spent _ _ (walk.BeginsListen h place r x bound at g d known free none to idle own) i = spent_own h.own Own.Used _ (older_used line h.own) (put_bare h place r _ g refl refl i)
     moves_spent _ _ (walk.BeginsAccept h place n r l at g e a own) i =
         spent_own h.own (Own.Names (n + 1)) _ (next_grows line n h.own own)
         (spent_put h.own h.machine.store.records place r (accepting_now r l (new_accept (part_of line n) l)) g refl (λ q. absurd (not_given line h.own side i.older (let its : part_of line n ≡ side = cc in subst (IsToCome line h.own) its (next_to_come line n h.own own)))) i)
@@ -84,6 +87,12 @@ module _ (side : OpId) (line : ℕ) where
     moves_spent _ _ (walk.Joins h c handle place r l new peer is of u g e a) i =
         let idle = accepting_now r l accepting.Idle in
         spent_push h.own (tcp2_put h.machine.store.records place idle) (joined l new peer) (λ c. elim c [ inl q ↦ i.none place r g (inr (ap accept_name e ∙ (ap name_in a ∙ q))) | inr q ↦ absurd (cc) ]) (put_bare h place r idle g refl refl i)
+    moves_spent _ _ (walk.JoinsPlain h c listener remaining place r l new peer is of u g e a) i =
+        let idle = accepting_now r l accepting.Idle in
+        spent_push h.own (tcp2_put h.machine.store.records place idle) (walk.joined_plain l new peer) (λ c. elim c [ inl q ↦ i.none place r g (inr (ap accept_name e ∙ (ap name_in a ∙ q))) | inr q ↦ absurd (cc) ]) (put_bare h place r idle g refl refl i)
+    moves_spent _ _ (walk.JoinsFault h place r l c u g e a) i =
+        let idle = accepting_now r l accepting.Idle in
+        spent_push h.own (tcp2_put h.machine.store.records place idle) (walk.faulted l c) (λ x. elim x [ inl q ↦ absurd (cc) | inr q ↦ absurd (cc) ]) (put_bare h place r idle g refl refl i)
     moves_spent _ _ (walk.UdpChanges h place o now g p keeps) i = spent_by h.own _ _ (put_was udp_sort tcp_sort (λ t. refl) h.machine.store.records place _) i
     moves_spent _ _ (walk.BeginsUdpBind h place o a at g to own) i = spent_own h.own Own.Used _ (older_used line h.own) (spent_by h.own _ _ (put_was udp_sort tcp_sort (λ t. refl) h.machine.store.records place _) i)
     moves_spent _ _ (walk.BeginsUdpConnect h place o a bound at g to known none own) i = spent_own h.own (Own.ToConnect place) _ (grows_to line h.own Own.Unused (Own.ToConnect place) own (older_unused line (Own.ToConnect place))) (spent_by h.own _ _ (put_was udp_sort tcp_sort (λ t. refl) h.machine.store.records place _) i)

@@ -1,4 +1,5 @@
 -- The law that an operation receives on one network socket.
+use Rattle.std.specs.Prelude.{length, take}
 use Rattle.wasi_world.specs.declared.call.Call.TheVariants as call
 use Rattle.wasi_world.specs.declared.call.Told.TheVariants as told
 use Rattle.wasi_addr.specs.declared.code.ErrorCode.{ErrorCode}
@@ -26,6 +27,7 @@ use Rattle.wasi_walks.proofs.walks.Later.{GivesLater}
 use Rattle.wasi_walks.proofs.walks.Moves as walk
 use Rattle.wasi_walks.proofs.walks.Moves.{FoundUdp, Names, put_udp, receive_op, receiving_in, sending_in, send_op}
 use Rattle.wasi_laws.specs.Receivers.{AsksToReceive, ReceivesOnOne}
+use Rattle.wasi_walks.proofs.PipeLists.{slot_push_same}
 use Rattle.wasi_laws.proofs.Words.{Allows, Asks, Ask, AskWrite, Call, CloseLast, Done, End, Entry, FitListening, FitProgress, Give, Given, Held, Here, HoldsAccept, Has, HoldsConnect}
 use Rattle.wasi_laws.proofs.Words.{InCall, IsAcceptOn, Item, LastAsk, Left, List, Machine, Move, None, NothingLast, OpId, Operation, Option, Over, Own, Refused, Reply, ShutdownLast}
 use Rattle.wasi_laws.proofs.Words.{Some, Starts, Step, TcpRecord, ToConnect, Told, Unused, Used, Waits, WasiSocketsCtx, Who, [], allows_keep, allows_weaker, ap, append_assoc, arith}
@@ -107,16 +109,24 @@ module _ (line : ℕ) where
     moves es _ _ (walk.IsGone h place r q g e) i = tcp es h place _ i
     moves es _ _ (walk.Reconnects h place r c now g e s t u) i = tcp es h place _ i
     moves es _ _ (walk.Opens h place r c d g e k) i = tcp es h place _ i
+    moves es _ _ (walk.TakesEnd h handle place r now t g half) i = tcp es h place now i
+    moves es _ _ (walk.AddsSlot h s) i = going_on line h.own es h.machine.store.records _ (λ w g. of_same h.machine.store.records w _ (sockets_stay (slot_push_same {new = λ op. ⊥} h.machine.store.records s)) g) i
     moves es _ _ (walk.BeginsConnect h place r x a bound at g d to known idle own) i = used es (put h place _) (tcp es h place _ i)
     moves es _ _ (walk.BeginsBind h place r x a at g d to own) i = used es (put h place _) (tcp es h place _ i)
     moves es _ _ (walk.BeginsWrite h place n r s half permit bytes at g e w within own) i = used es (put h place _) (tcp es h place _ i)
-    moves es _ _ (walk.BeginsListen h place r x at g d bound none to idle own) i = used es (put h place _) (tcp es h place _ i)
+    moves es _ _ (walk.BeginsListen h place r x bound at g d known free none to idle own) i = used es (put h place _) (tcp es h place _ i)
     moves es _ _ (walk.BeginsAccept h place n r l at g e a own) i = counts es (put h place _) n own (tcp es h place _ i)
     moves es _ _ (walk.Unlistens h place r op q g e c o) i = tcp es h place _ i
     moves es _ _ (walk.Forgets h place r l c g e a) i = tcp es h place _ i
     moves es _ _ (walk.Joins h c handle place r l new peer is of u g e a) i =
         let k = tcp es h place (walk.accepting_now r l _) i in
         going_on line h.own es _ _ (λ w g. of_more_tcp _ w (walk.joined l new peer) g) k
+    moves es _ _ (walk.JoinsPlain h c listener remaining place r l new peer is of u g e a) i =
+        let k = tcp es h place (walk.accepting_now r l _) i in
+        going_on line h.own es _ _ (λ w g. of_more_tcp _ w (walk.joined_plain l new peer) g) k
+    moves es _ _ (walk.JoinsFault h place r l c u g e a) i =
+        let k = tcp es h place (walk.accepting_now r l _) i in
+        going_on line h.own es _ _ (λ w g. of_more_tcp _ w (walk.faulted l c) g) k
     moves es _ _ (walk.UdpChanges h place o now g p keeps) i = udp es h place (UdpRecord.Open o) (UdpRecord.Open now) g (goes_or_ends (receiving_in o.incoming) (receiving_in now.incoming) p.receives) i
     moves es _ _ (walk.BeginsUdpBind h place o a at g to own) i = used es (put_udp h place _) (udp es h place (UdpRecord.Open o) (UdpRecord.Open _) g (inl refl) i)
     moves es _ _ (walk.BeginsUdpConnect h place o a bound at g to known none own) i = connects es (put_udp h place _) place (udp es h place (UdpRecord.Open o) (UdpRecord.Open _) g (inl refl) i)
@@ -264,11 +274,13 @@ module _ (line : ℕ) where
       udp_creates = λ es h ctx family u b i. joins es h (call.UdpCreate ctx.name family) _ tt (λ w g. of_more_udp h.machine.store.records w (UdpRecord.Creating (new_create (own_of line) ctx.name family)) refl g) i;
       udp_closes = λ es h place u op g l b i. (tt, λ t. udp _ h place u (UdpRecord.Closed (udp_side u)) g (inr refl) ((calmly es h op (call.Close (udp_side u)) tt i).1 t));
       lookups = λ es h records s i. going_on line h.own es h.machine.store.records records (λ w g. of_same h.machine.store.records w records s g) i;
+      beside = λ es h calls i. i;
       polls = polls;
       turns = λ es h place r s job now g e on b i.
           let o : HasStreams r.inner.state s = subst (StreamsShape r.inner.state) e (b.1 place r g).0 in
           let k = (job_of s.writer job now on o.writer).0 in
           tcp_polled es h place job.write _ (λ side. write_silent side job.write.who job.write.left k.left) i;
+      offers = λ es h ctx handle place given r s half permit is g e w own b i. (may_quietly es (own_of line) (call.Write half.side (length (take 4294967295 given))) tt, λ t. used _ h ((calmly es h (own_of line) (call.Write half.side (length (take 4294967295 given))) tt i).1 t));
     }
 
     write_kept : KeepsWrites contexts line origin Kept

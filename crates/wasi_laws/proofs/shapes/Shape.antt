@@ -115,11 +115,26 @@ module _ (at x : OpId) where
   of_writer (writing.Closed e) i w = absurd (cc)
 
 -- == a record
--- The streams are of the socket's connection, whose sending half was taken.
+-- it has a half to write by, or a write that is in progress
+abbrev pub IsUsed : WriteState → Type 0
+IsUsed (writing.Closed e) = ⊥
+IsUsed _ = ⊤
+
+pub moves_used : (w now : WriteState) → WriterMoves w now → IsUsed now → IsUsed w
+moves_used _ _ (Collects (writing.Ready half permit)) u = tt
+moves_used _ _ (Collects (writing.Writing job)) u = tt
+moves_used _ _ (Collects (writing.Closing job)) u = tt
+moves_used _ _ (Collects (writing.Closed e)) u = u
+moves_used _ _ (Permits half old) u = tt
+moves_used _ _ (Lasts job) u = tt
+moves_used _ _ (LastsAfter job) u = tt
+moves_used w _ _ u = absurd u
+
+-- The streams are of the socket's connection, whose sending half was taken where they have it.
 pub record HasStreams (t : TcpState) (s : Streams) : Type 0 where
   pub connection : Connection
   pub is : t ≡ state.Connected connection
-  pub taken : connection.send_taken ≡ true
+  pub taken : IsUsed s.writer → connection.send_taken ≡ true
   pub reader : (half : TcpReceiveStream) → s.reader ≡ reading.Open half → half.side ≡ connection.side
   pub writer : WriterIs connection.side s.writer
 
@@ -185,7 +200,7 @@ pub record Follows (r now : TcpRecord) : Type 0 where
 pub follows_state : (r now : TcpRecord) → now.side ≡ r.side → now.listening ≡ r.listening → ((x : OpId) → side_of now.inner ≡ Some x → side_of r.inner ≡ Some x) → Follows r now
 follows_state r now s l f = record { side = s; lives = λ x v. (sym s ∙ v.0, elim v.1 [ inl p ↦ inl (f x p) | inr p ↦ inr (subst IsBegun l p) ]) }
 
-pub follows_plain : (r now : TcpRecord) → Plain r now → Follows r now
+pub follows_plain : {goes begins : Type 0} (r now : TcpRecord) → Plain goes begins r now → Follows r now
 follows_plain r now p = follows_state r now p.side p.listening (λ x e. sym (ap side_in p.does) ∙ e)
 
 pub follows_same : (r now : TcpRecord) → Same r now → Follows r now
@@ -203,8 +218,8 @@ pub follows_gone : (r now : TcpRecord) → now.side ≡ r.side → side_of now.i
 follows_gone r now s d n = record { side = s; lives = λ x v. absurd (gone_lacks now d n x v) }
 
 -- the listen that begins has the network socket that its socket had
-pub follows_begun : (line : ℕ) (h : Here) (place : ℕ) (r : TcpRecord) (side : OpId) → Found h place r → r.inner.state ≡ state.Default side → Named line h → Follows r (beginning_listen (own_of line) side r)
-follows_begun line h place r side g d n = record { side = refl; lives = λ x v. (v.0, inl (ap side_in d ∙ (sym (n.named side place r g (ap side_in d)) ∙ v.0))) }
+pub follows_begun : (line : ℕ) (h : Here) (place : ℕ) (r : TcpRecord) (side : OpId) (bound : Bool) → Found h place r → r.inner.state ≡ state.Default side → Named line h → Follows r (beginning_listen (own_of line) side r bound)
+follows_begun line h place r side bound g d n = record { side = refl; lives = λ x v. (v.0, inl (ap side_in d ∙ (sym (n.named side place r g (ap side_in d)) ∙ v.0))) }
 
 -- == where a lookup changes
 -- The sockets among the records are as they were.

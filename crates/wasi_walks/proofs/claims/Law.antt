@@ -1,6 +1,9 @@
 -- The base law: numbers and network sockets are claimed once, and are of older lines. A network socket is claimed by the record
 -- that was made with it, and the name of an accept by the record of its listener.
-use Rattle.wasi_walks.proofs.Words.{Machine, Accepting, Accepts, Allows, Asks, Begins, Done, End, Entry, Err, ErrorCode}
+use Rattle.wasi_walks.proofs.walks.Moves.{AddsSlot, OfReceive, OfSend, TakesEnd}
+use Rattle.wasi_records.specs.Slots.{slot_pushed}
+use Rattle.wasi_walks.proofs.PipeLists.{slot_push_same}
+use Rattle.wasi_walks.proofs.Words.{Bool, Machine, Accepting, Accepts, Allows, Asks, Begins, Done, End, Entry, Err, ErrorCode}
 use Rattle.wasi_walks.proofs.Words.{HoldsAccept, IsAcceptOn, IsLeftOfAccept, Item, List, Listener, Listening, None, Not, Ok, OpId, Operation}
 use Rattle.wasi_walks.proofs.Words.{Refused, Result, SocketAddressFamily, Some, Step, TcpRecord, Waits, WasiSocketsCtx}
 use Rattle.wasi_walks.proofs.Words.{accept_ended, allows_weaker, ap, arith, bind_progress}
@@ -16,7 +19,7 @@ use Rattle.wasi_walks.proofs.fits.Records.{FitListening}
 use Rattle.wasi_walks.proofs.claims.Polls.{AllAskBut, ArePlain, GivesOwn, any_quiet, ended_name, ended_sides, none_of, own_poll}
 use Rattle.wasi_walks.proofs.GoneLists.{was_there}
 use Rattle.wasi_walks.proofs.owners.Law.{Owns, owners, owners_begin}
-use Rattle.wasi_walks.proofs.walks.Moves.{closed_record, Own, Used, Unused, Here, put, Found, joined, part_of, new_accept, accepting_now, listen_after, beginning_listen, Held, BindsOn, Connects, Listens, Awaits, Move, Spends, Changes, ClosesReader, Writes, IsGone, Reconnects, Opens, BeginsConnect, BeginsBind, BeginsWrite, CancelsBind, CancelsUdpBind, CancelsUdpConnect, BeginsListen, BeginsAccept, Unlistens, Forgets, Joins}
+use Rattle.wasi_walks.proofs.walks.Moves.{closed_record, Own, Used, Unused, Here, put, Found, joined, part_of, new_accept, accepting_now, listen_after, beginning_listen, Held, BindsOn, Connects, Listens, Awaits, Move, Spends, Changes, ClosesReader, Writes, IsGone, Reconnects, Opens, BeginsConnect, BeginsBind, BeginsWrite, CancelsBind, CancelsUdpBind, CancelsUdpConnect, BeginsListen, BeginsAccept, Unlistens, Forgets, Joins, JoinsFault, JoinsPlain, faulted, joined_plain}
 use Rattle.wasi_walks.proofs.walks.Law.{BeginsWrites, InCall, Law, Rests, Walks}
 use Rattle.wasi_walks.proofs.Words.{new_socket}
 use Rattle.wasi_walks.proofs.fits.Law.{Fit, begins_fit, told_same, whatever, fits}
@@ -308,12 +311,12 @@ module _ (contexts : List WasiSocketsCtx) (line : ℕ) (origin : Step) where
   moves_named _ _ (BeginsConnect h place r side a bound at g d to known idle own) n = put_spent h place r _ g refl refl (λ x p. ap side_in d ∙ p) n
   moves_named _ _ (BeginsBind h place r side a at g d to own) n = put_spent h place r _ g refl refl (λ x p. p) n
   moves_named _ _ (BeginsWrite h place number r s half permit bytes at g e w within own) n = put_spent h place r _ g refl refl (λ x p. p) n
-  moves_named _ _ (BeginsListen h place r side at g d bound none to idle own) n =
-      let now = beginning_listen (own_of line) side r in
-      spends_named (put h place now) (put_named line h place r now g (record { side = refl; accepts = λ x e. absurd (cc); named = λ x e. absurd (cc); held = λ op e. (let s = n.named side place r g (ap side_in d) in let p : Begins _ ≡ Begins op = e in (its side op r e s, refl)) }) n)
+  moves_named _ _ (BeginsListen h place r side bound at g d known un none to idle own) n =
+      let now = beginning_listen (own_of line) side r bound in
+      spends_named (put h place now) (put_named line h place r now g (record { side = refl; accepts = λ x e. absurd (cc); named = λ x e. absurd (cc); held = λ op e. (let s = n.named side place r g (ap side_in d) in let p : Begins _ ≡ Begins op = e in (its side bound op r e s, refl)) }) n)
     where
-      its : (side : OpId) (op : Operation) (r : TcpRecord) → (beginning_listen (own_of line) side r).listening ≡ Begins op → r.side ≡ Some side → r.side ≡ Some op.who.side
-      its side op r e s = s ∙ ap (λ (o : Operation). Some o.who.side) (same_begun _ op e)
+      its : (side : OpId) (bound : Bool) (op : Operation) (r : TcpRecord) → (beginning_listen (own_of line) side r bound).listening ≡ Begins op → r.side ≡ Some side → r.side ≡ Some op.who.side
+      its side bound op r e s = s ∙ ap (λ (o : Operation). Some o.who.side) (same_begun _ op e)
   moves_named _ _ (BeginsAccept h place part r l at g e a own) n =
       let name : OpId = part_of line part in
       let new : IsOlder line h.own name → ⊥ = λ o. not_given line h.own name o (next_to_come line part h.own own) in
@@ -331,6 +334,17 @@ module _ (contexts : List WasiSocketsCtx) (line : ℕ) (origin : Step) where
       let name : accept_name r.listening ≡ Some new = ap accept_name e ∙ ap name_in a in
       let j = push_named line mid (joined l new peer) h.own refl (λ x p. (let s : new ≡ x = cc in subst (λ (y : OpId). IsOlder line h.own y × Fresh mid y × FreshUdp mid y) s (n.older new place r g (inr name), taken_fresh h place r (accepting_now r l Accepting.Idle) new g name refl refl n, λ i v f q. n.udps.apart new place i r v g (put_was tcp_sort udp_sort (λ t. refl) h.machine.store.records place (accepting_now r l Accepting.Idle) i v f) (inr name) q))) (λ x p. p) (λ op p. absurd (cc)) (λ x o. o) k in
       record { one = j.one; apart = j.apart; older = j.older; named = j.named; held = j.held; udps = record { one = j.udps.one; apart = j.udps.apart; older = j.udps.older } }
+  moves_named _ _ (JoinsPlain h c listener remaining place r l new peer is of u g e a) n =
+      let mid = put h place (accepting_now r l Accepting.Idle) in
+      let k = put_named line h place r (accepting_now r l Accepting.Idle) g (listening_names h place r _ g (λ x p. absurd (cc)) (λ op p. absurd (cc)) n) n in
+      let name : accept_name r.listening ≡ Some new = ap accept_name e ∙ ap name_in a in
+      let j = push_named line mid (joined_plain l new peer) h.own refl (λ x p. (let s : new ≡ x = cc in subst (λ (y : OpId). IsOlder line h.own y × Fresh mid y × FreshUdp mid y) s (n.older new place r g (inr name), taken_fresh h place r (accepting_now r l Accepting.Idle) new g name refl refl n, λ i v f q. n.udps.apart new place i r v g (put_was tcp_sort udp_sort (λ t. refl) h.machine.store.records place (accepting_now r l Accepting.Idle) i v f) (inr name) q))) (λ x p. p) (λ op p. absurd (cc)) (λ x o. o) k in
+      record { one = j.one; apart = j.apart; older = j.older; named = j.named; held = j.held; udps = record { one = j.udps.one; apart = j.udps.apart; older = j.udps.older } }
+  moves_named _ _ (JoinsFault h place r l c u g e a) n =
+      let mid = put h place (accepting_now r l Accepting.Idle) in
+      let k = put_named line h place r (accepting_now r l Accepting.Idle) g (listening_names h place r _ g (λ x p. absurd (cc)) (λ op p. absurd (cc)) n) n in
+      let j = push_named line mid (faulted l c) h.own refl (λ x p. absurd (cc)) (λ x p. p) (λ op p. absurd (cc)) (λ x o. o) k in
+      record { one = j.one; apart = j.apart; older = j.older; named = j.named; held = j.held; udps = record { one = j.udps.one; apart = j.udps.apart; older = j.udps.older } }
   moves_named _ _ (UdpChanges h place o now g p keeps) n = put_udp_named line h place (UdpRecord.Open o) (UdpRecord.Open now) g p.side n
   moves_named _ _ (BeginsUdpBind h place o a at g to own) n = put_udp_by line h place (UdpRecord.Open o) (UdpRecord.Open _) g refl n Used (older_used line h.own)
   moves_named _ _ (RecallsConnect h ids place e own) n = let k = owns_named h (ToConnect place) n (older_used line h.own) in record { one = k.one; apart = k.apart; older = k.older; named = k.named; held = k.held; udps = record { one = k.udps.one; apart = k.udps.apart; older = k.udps.older } }
@@ -340,6 +354,9 @@ module _ (contexts : List WasiSocketsCtx) (line : ℕ) (origin : Step) where
   moves_named _ _ (CancelsBind h place r op q g e) n = put_inner h place r _ g refl refl (λ x p. p) n
   moves_named _ _ (CancelsUdpBind h place o op q g e) n = put_udp_named line h place (UdpRecord.Open o) (UdpRecord.Open _) g refl n
   moves_named _ _ (CancelsUdpConnect h place o q g) n = put_udp_named line h place (UdpRecord.Open o) (UdpRecord.Open _) g refl n
+  moves_named _ _ (TakesEnd h handle place r _ of g (OfReceive c e free)) n = put_inner h place r _ g refl refl (λ x p. ap side_in e ∙ p) n
+  moves_named _ _ (TakesEnd h handle place r _ of g (OfSend c e free)) n = put_inner h place r _ g refl refl (λ x p. ap side_in e ∙ p) n
+  moves_named _ _ (AddsSlot h s) n = let k = records_named line h (slot_pushed h.machine.store.records s) (slot_push_same {new = λ op. ⊥} h.machine.store.records s) n in record { one = k.one; apart = k.apart; older = k.older; named = k.named; held = k.held; udps = record { one = k.udps.one; apart = k.udps.apart; older = k.udps.older } }
   moves_named _ _ (Finds h records s) n = records_named line h records s n
   moves_named _ _ (GivesBack h place idle left) n = fewer_named line h place n
   moves_named _ _ _ n = record { one = n.one; apart = n.apart; older = n.older; named = n.named; held = n.held; udps = record { one = n.udps.one; apart = n.udps.apart; older = n.udps.older } }
@@ -407,7 +424,7 @@ module _ (contexts : List WasiSocketsCtx) (line : ℕ) (origin : Step) where
         named = λ x p. absurd (cc);
         held = λ op p. absurd (cc);
       }) n
-  becomes_named h _ (GivenUp place r q g) n =
+  becomes_named h _ (GivenUp place r q goes g) n =
       put_named line h place r (with_listening r Not) g
       (listening_names h place r Not g (λ x p. absurd (cc)) (λ op p. absurd (cc)) n) n
   becomes_named h _ (UdpLearnt place o socket g e) n =

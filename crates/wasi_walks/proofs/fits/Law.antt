@@ -1,6 +1,9 @@
 -- The law that what a socket is bound by is a bind, what it connects by a connect, what a listener accepts by an accept, and
 -- that a bind is in progress where one stands.
-use Rattle.wasi_walks.proofs.Words.{Accepting, Allows, Ask, AskWrite, Asks, Bool, End, Entry, Err, ErrorCode, Give, HoldsAccept}
+use Rattle.wasi_walks.proofs.walks.Moves.{AddsSlot, OfReceive, OfSend, TakesEnd}
+use Rattle.wasi_records.specs.Slots.{slot_pushed}
+use Rattle.wasi_walks.proofs.PipeLists.{slot_push_same}
+use Rattle.wasi_walks.proofs.Words.{Accepting, Accepts, Listener, listen_first, Allows, Ask, AskWrite, Asks, Bool, End, Entry, Err, ErrorCode, Give, HoldsAccept}
 use Rattle.wasi_walks.proofs.Words.{HoldsConnect, InProgress, IpSocketAddress, IsAcceptOn, IsConnect, IsLeftOfBind, IsLeftOfConnect, IsLeftOfListen}
 use Rattle.wasi_walks.proofs.Words.{Item, List, None, Ok, OpId, Operation, Result, Socket, SocketAddressFamily, Some}
 use Rattle.wasi_walks.proofs.Words.{Standing, StandingCall, Step, Streams, TcpRecord, TcpState, WasiSocketsCtx, WriteState, accept_ended}
@@ -10,8 +13,8 @@ use Rattle.wasi_walks.proofs.Words.{is_nothing, is_wildcard, new_job, new_record
 use Rattle.wasi_walks.proofs.Words.{standing_as, subst, sym, told_addr, true, wildcard, with_inner}
 use Rattle.wasi_walks.proofs.Words.{with_progress, with_state, with_writer, ℕ, ⊤, ◌+◌, ◌∙◌, ◌≡◌, ◌⊎◌}
 use Rattle.wasi_world.specs.declared.ids.Ids.{Ids}
-use Rattle.wasi_tcp.specs.Listen.{IsListen}
-use Rattle.wasi_walks.proofs.walks.Moves.{Names, Own, NoStart, NoStartIn, NoStartStands, IsSettled, KeepsBinding, HasBinding, HasListen, GoesOn, begun_bind, closed_record, Held, BindsOn, Connects, Used, Here, put, Move, Changes, ClosesReader, Writes, IsGone, Reconnects, Opens, BeginsConnect, BeginsBind, BeginsWrite, Stands, StandsBlocking, CancelsBind, CancelsUdpBind, CancelsUdpConnect, BeginsListen, BeginsAccept, Unlistens, Forgets, Joins, Unstands, Listens, Awaits, listen_after, accepting_now, beginning_listen, new_accept, joined, Found}
+use Rattle.wasi_tcp.specs.Listen.{IsListen, listen_left as left_of_listen}
+use Rattle.wasi_walks.proofs.walks.Moves.{Names, Own, NoStart, NoStartIn, NoStartStands, IsSettled, KeepsBinding, HasBinding, HasListen, GoesOn, begun_bind, closed_record, Held, BindsOn, Connects, Used, Here, put, Move, Changes, ClosesReader, Writes, IsGone, Reconnects, Opens, BeginsConnect, BeginsBind, BeginsWrite, Stands, StandsBlocking, CancelsBind, CancelsUdpBind, CancelsUdpConnect, BeginsListen, BeginsAccept, Unlistens, Forgets, Joins, JoinsFault, JoinsPlain, Made, StandsListen, faulted, joined_plain, joins_as, Unstands, Listens, Awaits, listen_after, accepting_now, beginning_listen, new_accept, joined, Found}
 use Rattle.wasi_walks.proofs.fits.Records.{FitListening, FitProgress, FitRecord, FitCall, FitUdp, FitUdpProgress, FitConnecting, UdpBindOn, UdpConnectOn, SendOn, ReceiveOn}
 use Rattle.wasi_walks.proofs.fits.Polls.{Anything, bind_left, udp_bind_left, connect_left, listen_left, accept_left, AcceptLeaves}
 use Rattle.wasi_walks.proofs.walks.Law.{BeginsWrites, InCall, Law, Walks}
@@ -65,7 +68,7 @@ module _ (h : Here) (place : ℕ) (r now : TcpRecord) (g : Found h place r) (k :
 
       goes : tcp2_at h.machine.store.records place ≡ Some b.was → HasBinding now.in_progress
       goes at = let same : b.was ≡ r = cc in elim k [ inl quiet ↦ absurd (none quiet) | inr f ↦ f.0 (subst (λ (x : TcpRecord). HasBinding x.in_progress) same b.goes) ]
-  call_put c e (StandingCall.Listen n) q b = elim (put_stays tcp_sort h.machine.store.records place now n b.was b.at) [
+  call_put c e (StandingCall.Listen n marks) q b = elim (put_stays tcp_sort h.machine.store.records place now n b.was b.at) [
     | inl p ↦ record { was = b.was; at = p; goes = b.goes }
     | inr p ↦ record { was = now; at = p.1; goes = goes (ap (tcp2_at h.machine.store.records) (sym p.0) ∙ b.at) }
   ]
@@ -93,7 +96,7 @@ module _ (h : Here) (place : ℕ) (r now : TcpRecord) (g : Found h place r) (k :
 -- the sockets that were there are there
 call_kept : (records now : List Record) → ((k : ℕ) (r : TcpRecord) → tcp2_at records k ≡ Some r → tcp2_at now k ≡ Some r) → ((k : ℕ) (u : UdpRecord) → udp2_at records k ≡ Some u → udp2_at now k ≡ Some u) → (call : StandingCall) → FitCall records call → FitCall now call
 call_kept records now t u (StandingCall.Bind n face) b = record { was = b.was; at = t n b.was b.at; goes = b.goes }
-call_kept records now t u (StandingCall.Listen n) b = record { was = b.was; at = t n b.was b.at; goes = b.goes }
+call_kept records now t u (StandingCall.Listen n marks) b = record { was = b.was; at = t n b.was b.at; goes = b.goes }
 call_kept records now t u (StandingCall.DropOutput n) b = tt
 call_kept records now t u (StandingCall.UdpCreate n face) b = record { was = b.was; at = u n (UdpRecord.Creating b.was) b.at }
 call_kept records now t u (StandingCall.UdpBind n face) b = record { was = b.was; at = u n (UdpRecord.Open b.was) b.at; op = b.op; goes = b.goes }
@@ -124,7 +127,7 @@ fewer_fit h place idle i = record {
 
 call_stands : (records : List Record) (call : StandingCall) (r : TcpRecord) → tcp2_at records (call_place call) ≡ Some r → GoesOn call r → FitCall records call
 call_stands records (StandingCall.Bind n face) r g k = record { was = r; at = g; goes = k }
-call_stands records (StandingCall.Listen n) r g k = record { was = r; at = g; goes = k }
+call_stands records (StandingCall.Listen n marks) r g k = absurd k
 call_stands records (StandingCall.DropOutput n) r g k = tt
 call_stands records (StandingCall.UdpCreate n face) r g k = absurd k
 call_stands records (StandingCall.UdpBind n face) r g k = absurd k
@@ -144,7 +147,7 @@ module _ (h : Here) (place : ℕ) (u now : UdpRecord) (g : FoundUdp h place u) (
 
   udp_call_put : (c : Standing) → h.machine.store.standing ≡ Some c → (call : StandingCall) → c.call ≡ call → FitCall h.machine.store.records call → FitCall (udp2_put h.machine.store.records place now) call
   udp_call_put c e (StandingCall.Bind n face) q b = record { was = b.was; at = put_still udp_sort tcp_sort (λ t. refl) h.machine.store.records place u now n b.was g b.at; goes = b.goes }
-  udp_call_put c e (StandingCall.Listen n) q b = record { was = b.was; at = put_still udp_sort tcp_sort (λ t. refl) h.machine.store.records place u now n b.was g b.at; goes = b.goes }
+  udp_call_put c e (StandingCall.Listen n marks) q b = record { was = b.was; at = put_still udp_sort tcp_sort (λ t. refl) h.machine.store.records place u now n b.was g b.at; goes = b.goes }
   udp_call_put c e (StandingCall.DropOutput n) q b = tt
   udp_call_put c e (StandingCall.UdpCreate n face) q b = elim (put_stays udp_sort h.machine.store.records place now n (UdpRecord.Creating b.was) b.at) [
     | inl p ↦ record { was = b.was; at = p }
@@ -264,6 +267,23 @@ module _ (contexts : List WasiSocketsCtx) (line : ℕ) (origin : Step) where
   pub write_fit : (h : Here) (place : ℕ) (r : TcpRecord) (s : Streams) (w : WriteState) (own : Own) → Found h place r → Fit h → Fit (record (put h place (with_writer r s w)) { own = own })
   write_fit h place r s w own g i = owned_fit (put h place (with_writer r s w)) own (put_fit h place r (with_writer r s w) g (inr (λ b. b, λ l. l)) (i.records place r g) i)
 
+  -- what an accept took joins the records
+  taken_fit : (h : Here) (place : ℕ) (r : TcpRecord) (l : Listener) → Found h place r → r.listening ≡ Accepts l → (new : TcpRecord) (made : Made) → FitRecord new → Fit h → Fit (joins_as h (tcp2_put h.machine.store.records place (accepting_now r l Accepting.Idle)) new made)
+  taken_fit h place r l g e new made its i =
+      let f = i.records place r g in
+      let idle : TcpRecord = accepting_now r l Accepting.Idle in
+      let k = put_fit h place r idle g (inr (λ b. b, λ k. absurd (subst HasListen e k))) (f.0, tt, f.2) i in
+      record {
+        records = λ p q d. elim (push_new tcp_sort (tcp2_put h.machine.store.records place idle) new p q d) [ inl x ↦ k.records p q x | inr x ↦ subst FitRecord x its ];
+        udps = λ p u d. k.udps p u (push_was tcp_sort udp_sort (λ t. refl) (tcp2_put h.machine.store.records place idle) new p u d);
+        stands = λ c e. call_push (tcp2_put h.machine.store.records place idle) new c.call (k.stands c e);
+      }
+
+  -- a listen begins with the question where the socket is bound, or with the check of a bind
+  first_listen : (wild : IpSocketAddress) (backlog : ℕ) (bound : Bool) → IsLeftOfListen (left_of_listen wild backlog (listen_first bound))
+  first_listen wild backlog true = listen.BoundBefore backlog
+  first_listen wild backlog false = listen.Unbound wild backlog
+
   pub moves_fit : (h now : Here) → Move line origin h now → Fit h → Fit now
   moves_fit _ _ (Changes h place r now g p) i =
       let f = i.records place r g in
@@ -280,22 +300,17 @@ module _ (contexts : List WasiSocketsCtx) (line : ℕ) (origin : Step) where
       let f = i.records place r g in
       let k = put_fit h place r (with_progress r (InProgress.Binding (begun_bind (own_of line) side r a))) g (inr (λ b. tt, λ l. l)) (f.0, f.1, (d, record { last = refl; left = binding.Unchecked a })) i in record { records = k.records; udps = k.udps; stands = k.stands }
   moves_fit _ _ (BeginsWrite h place n r s half permit bytes at g e w within own) i = write_fit h place r s (WriteState.Writing (new_job (own_of n) half.side bytes)) Used g i
-  moves_fit _ _ (BeginsListen h place r side at g d bound none to idle own) i =
-      let k = put_fit h place r (beginning_listen (own_of line) side r) g (inr (λ b. b, λ l. absurd (subst HasListen none l))) (tt, record { last = refl; left = listen.BoundBefore r.inner.backlog }, idle_binding r.in_progress idle _) i in record { records = k.records; udps = k.udps; stands = k.stands }
+  moves_fit _ _ (BeginsListen h place r side bound at g d known un none to idle own) i =
+      let k = put_fit h place r (beginning_listen (own_of line) side r bound) g (inr (λ b. b, λ l. absurd (subst HasListen none l))) (tt, record { last = refl; left = first_listen (wildcard r.inner.family) r.inner.backlog bound }, idle_binding r.in_progress idle _) i in record { records = k.records; udps = k.udps; stands = k.stands }
   moves_fit _ _ (BeginsAccept h place part r l at g e a own) i =
       let f = i.records place r g in
       let k = put_fit h place r (accepting_now r l (new_accept (part_of line part) l)) g (inr (λ b. b, λ k. absurd (subst HasListen e k))) (f.0, record { accept = record { last = refl; left = accept.Unarrived }; of_side = refl; of_maker = refl; going = refl }, f.2) i in record { records = k.records; udps = k.udps; stands = k.stands }
   moves_fit _ _ (Unlistens h place r op q g e c o) i = let f = i.records place r g in put_fit h place r _ g (inl q) (f.0, tt, f.2) i
   moves_fit _ _ (Forgets h place r l c g e a) i = let f = i.records place r g in put_fit h place r _ g (inr (λ b. b, λ k. absurd (subst HasListen e k))) (f.0, tt, f.2) i
-  moves_fit _ _ (Joins h c handle place r l new peer is of u g e a) i =
-      let f = i.records place r g in
-      let idle : TcpRecord = accepting_now r l Accepting.Idle in
-      let k = put_fit h place r idle g (inr (λ b. b, λ k. absurd (subst HasListen e k))) (f.0, tt, f.2) i in
-      record {
-        records = λ p q d. elim (push_new tcp_sort (tcp2_put h.machine.store.records place idle) (joined l new peer) p q d) [ inl x ↦ k.records p q x | inr x ↦ subst FitRecord x (joined_fits l new peer) ];
-        udps = λ p u d. k.udps p u (push_was tcp_sort udp_sort (λ t. refl) (tcp2_put h.machine.store.records place idle) (joined l new peer) p u d);
-        stands = λ c e. call_push (tcp2_put h.machine.store.records place idle) (joined l new peer) c.call (k.stands c e);
-      }
+  moves_fit _ _ (Joins h c handle place r l new peer is of u g e a) i = taken_fit h place r l g e (joined l new peer) _ (joined_fits l new peer) i
+  moves_fit _ _ (JoinsPlain h c listener remaining place r l new peer is of u g e a) i = taken_fit h place r l g e (joined_plain l new peer) _ (tt, tt, tt) i
+  moves_fit _ _ (JoinsFault h place r l c u g e a) i = taken_fit h place r l g e (faulted l c) _ (tt, tt, tt) i
+  moves_fit _ _ (StandsListen h ids place marks r quiet at made g goes) i = stood_fit h ids (StandingCall.Listen place marks) (record { was = r; at = g; goes = goes }) i
   moves_fit _ _ (Stands h ids call r quiet at g b) i = stood_fit h ids call (call_stands h.machine.store.records call r g b) i
   moves_fit _ _ (Unstands h over) i = record { records = i.records; udps = i.udps; stands = λ c p. absurd (cc) }
   moves_fit _ _ (UdpChanges h place o now g p keeps) i = put_udp_fit h place (UdpRecord.Open o) (UdpRecord.Open now) g (inr (plain_open o now p)) (plain_fits o now p (i.udps place (UdpRecord.Open o) g)) i
@@ -325,6 +340,9 @@ module _ (contexts : List WasiSocketsCtx) (line : ℕ) (origin : Step) where
   moves_fit _ _ (CancelsBind h place r op q g e) i = let f = i.records place r g in put_fit h place r _ g (inl q) (f.0, f.1, tt) i
   moves_fit _ _ (CancelsUdpBind h place o op q g e) i = let f = i.udps place (UdpRecord.Open o) g in put_udp_fit h place (UdpRecord.Open o) _ g (inl q) (tt, f.1, f.2, f.3) i
   moves_fit _ _ (CancelsUdpConnect h place o q g) i = let f = i.udps place (UdpRecord.Open o) g in put_udp_fit h place (UdpRecord.Open o) _ g (inl q) (f.0, tt, f.2, f.3) i
+  moves_fit _ _ (TakesEnd h handle place r _ of g (OfReceive c e free)) i = let f = i.records place r g in put_fit h place r _ g (inr (λ b. b, λ l. l)) (tt, f.1, not_binding r.in_progress e (λ side d. absurd (cc)) f.2 _) i
+  moves_fit _ _ (TakesEnd h handle place r _ of g (OfSend c e free)) i = let f = i.records place r g in put_fit h place r _ g (inr (λ b. b, λ l. l)) (tt, f.1, not_binding r.in_progress e (λ side d. absurd (cc)) f.2 _) i
+  moves_fit _ _ (AddsSlot h s) i = let k = records_fit h (slot_pushed h.machine.store.records s) (slot_push_same {new = λ op. ⊥} h.machine.store.records s) i in record { records = k.records; udps = k.udps; stands = k.stands }
   moves_fit _ _ (Finds h records s) i = records_fit h records s i
   moves_fit _ _ (GivesBack h place idle left) i = fewer_fit h place idle i
   moves_fit _ _ _ i = record { records = i.records; udps = i.udps; stands = i.stands }
@@ -394,7 +412,7 @@ module _ (contexts : List WasiSocketsCtx) (line : ℕ) (origin : Step) where
       let f = i.records place r g in
       put_fit h place r _ g (inr (λ b. b, λ l. l)) (subst HoldsConnect (sym (told_same r.inner (told_addr told))) f.0, f.1, same_progress r.in_progress (told_same r.inner (told_addr told)) f.2) i
   becomes_fit h _ (IsClosed place r side q g e) i = put_fit h place r (closed_record r) g (inl q.0) (tt, tt, tt) i
-  becomes_fit h _ (GivenUp place r q g) i =
+  becomes_fit h _ (GivenUp place r q goes g) i =
       let f = i.records place r g in put_fit h place r _ g (inl q) (f.0, tt, f.2) i
   becomes_fit h _ (UdpLearnt place o socket g e) i = udp_inner_fit h place o socket g e i
   becomes_fit h _ (UdpIsClosed place o q g) i = put_udp_fit h place (UdpRecord.Open o) (UdpRecord.Closed o.inner.side) g (inl q.0) tt i

@@ -113,7 +113,7 @@ FitUdp _ = ⊤
 -- where a bind, a listen, a create or a connect is pending, it is in progress
 abbrev pub FitCall : List Record → StandingCall → Type 0
 FitCall records (StandingCall.Bind place face) = BindGoesOn records place
-FitCall records (StandingCall.Listen place) = ListenGoesOn records place
+FitCall records (StandingCall.Listen place marks) = ListenGoesOn records place
 FitCall records (StandingCall.DropOutput place) = ⊤
 FitCall records (StandingCall.UdpCreate place face) = UdpCreateGoesOn records place
 FitCall records (StandingCall.UdpBind place face) = UdpBindGoesOn records place

@@ -1,6 +1,6 @@
 -- An accept: each of its asks is allowed, and what it leaves may be polled on, or was handed over.
 use Rattle.wasi_walks.proofs.Words.{Accept, Allows, Call, CheckArrival, Done, End, Entry, ErrorCode, FrontKeeps, Given, HandedNone, IpSocketAddress}
-use Rattle.wasi_walks.proofs.Words.{IsAdmitted, IsArrival, IsVerdict, Item, LastAsk, List, MarksNoSocket, MayAsk, Nothing, NothingLast, OpId, Some}
+use Rattle.wasi_walks.proofs.Words.{IsAdmitted, IsArrival, IsVerdict, Item, LastAsk, List, MarksNoSocket, Nothing, NothingLast, OpId, Some}
 use Rattle.wasi_walks.proofs.Words.{Step, TcpAccept, Told, Waits, WasiSocketsCtx, Who, [], accept_ended, accept_front, admitted_front, allows_polls}
 use Rattle.wasi_walks.proofs.Words.{ap, append_assoc, arrival_front, bind, entry, front, hand_front, inl, inr, last_ask, marked_by, poll_asks, refl}
 use Rattle.wasi_walks.proofs.Words.{refuse_front, subst, sym, told_arrival, told_verdict, ◌++◌, ◌∙◌, ◌∷◌, ◌≡◌}
@@ -8,6 +8,7 @@ use Rattle.wasi_world.specs.Operation.{Connection}
 use Rattle.wasi_walks.proofs.Lists.{has_last, has_split}
 use Rattle.wasi_walks.proofs.licence.State.{LastAccept, IsHanded, AcceptLeft, Unarrived, ToCheck, AcceptingStands, name_in, WorksOn, AcceptingIsFine}
 use Rattle.wasi_walks.proofs.licence.Frames.{last_more, handed_unless, unmarked_unless, stay, works_more, maker_more}
+use Rattle.wasi_walks.proofs.licence.Unbound.{MayAskSo}
 
 -- what is left in the middle of a poll: asks, with nothing handed over, or nothing, once the arrival was
 pub data PollLeft (es : List Entry) (op side : OpId) : Given → List Item → Type 0 where
@@ -21,7 +22,7 @@ told_last es op side peer = record { front = es; back = []; cut = refl; last = �
 module _ (contexts : List WasiSocketsCtx) (steps : List Step) where
   -- an ask by this name that may come, and is no mark
   abbrev pub MayAs : OpId → List Entry → OpId → Call → Type 0
-  MayAs x es op c = MayAsk contexts steps es op c × (op ≡ x) × (marked_by c ≡ 0)
+  MayAs x es op c = MayAskSo contexts steps es op c × (op ≡ x) × (marked_by c ≡ 0)
 
   -- == a poll
   module _ (who : Who) where

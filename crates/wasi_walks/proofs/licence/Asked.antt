@@ -1,5 +1,5 @@
 -- What a line asks by its own operation is licensed, and what it is answered fits.
-use Rattle.wasi_walks.proofs.Words.{Allows, Asks, Begins, Call, Done, End, Entry, IsAddr, List, MarksNoSocket, MayAsk, OpId, Operation, Refused, Some, Step}
+use Rattle.wasi_walks.proofs.Words.{Allows, Asks, Begins, Call, Done, End, Entry, IsAddr, List, MarksNoSocket, OpId, Operation, Refused, Some, Step}
 use Rattle.wasi_walks.proofs.Words.{TcpRecord, TcpState, Told, Waits, WasiSocketsCtx, WriteState, [], after_local, ap, closing_side, entry, inl}
 use Rattle.wasi_walks.proofs.Words.{marked_by, own_of, refl, side_in, side_of, step_at, subst, sym, told_addr, with_inner, writer_side}
 use Rattle.wasi_walks.proofs.Words.{allows_keep, writing_side, ℕ, ◌++◌, ◌∙◌, ◌∷◌, ◌≡◌}
@@ -8,7 +8,7 @@ use Rattle.wasi_walks.proofs.licence.Fresh.{made_more}
 use Rattle.wasi_walks.proofs.licence.ListenAsks.{listen_unless}
 use Rattle.wasi_walks.proofs.claims.Law.{Named, no_some}
 use Rattle.wasi_walks.proofs.walks.Moves.{Here, put, Found, IsQuestionOf, IsOn, OfSocket, OfReader, OfWriter}
-use Rattle.wasi_walks.proofs.walks.Here.{IsToCome}
+use Rattle.wasi_walks.proofs.walks.Here.{Interface, IsToCome}
 use Rattle.wasi_walks.proofs.Lists.{has_last, has_front}
 use Rattle.wasi_walks.proofs.licence.State.{ReadsOn, Names, WritesOn, RecordIsFine}
 use Rattle.wasi_walks.proofs.licence.Frames.{Touches, Spared, same_listening, unmarked_unless, handed_more, stay, NoMark, same_record, names_on, record_kept, maker_more, side_more, no_touch}
@@ -18,6 +18,7 @@ use Rattle.wasi_walks.proofs.licence.Line.{some_same, local_side, ListenGoesOn, 
 use Rattle.wasi_walks.proofs.licence.Moves.{held_side, same_listen}
 use Rattle.wasi_records.specs.Records.{tcp2_at}
 use Rattle.wasi_records.specs.Udp.{udp_side}
+use Rattle.wasi_walks.proofs.licence.Unbound.{MayAskSo}
 
 module _ (contexts : List WasiSocketsCtx) (steps : List Step) (line : ℕ) (origin : Step) (is_line : step_at steps line ≡ Some origin) where
   -- == asks
@@ -31,8 +32,8 @@ module _ (contexts : List WasiSocketsCtx) (steps : List Step) (line : ℕ) (orig
   pub listens_on : (es : List Entry) (h : Here) (op : OpId) (c : Call) (told : Told) → Spares h c → Licensed contexts steps line origin es h → (k : ℕ) (q : TcpRecord) (o : Operation) → Found h k q → q.listening ≡ Begins o → ListenGoesOn steps (es ++ entry op c told ∷ []) q o
   listens_on es h op c told n i k q o g e = let l = i.listens k q o g e in record { fine = listen_unless steps es op c told o (n k q o g e) l.fine; asks = l.asks; made = maker_more es _ q.inner.maker q.inner.family o.who.side l.made; tcp = l.tcp }
 
-  pub joined_on : (es : List Entry) (h : Here) (e : Entry) (p : ℕ) (j : JoinedIsFine origin es h p) → MarksNoSocket (es ++ e ∷ []) j.new → JoinedIsFine origin (es ++ e ∷ []) h p
-  joined_on es h e p j f = record { new = j.new; on = j.on; peer = j.peer; context = j.context; listener = j.listener; by = j.by; side = j.side; of_listener = side_more es _ j.listener j.on j.of_listener; handed = record { told = j.handed.told; hand = has_front es _ _ j.handed.hand }; fresh = f }
+  pub joined_on : (es : List Entry) (h : Here) (e : Entry) (face : Interface) (p : ℕ) (j : JoinedIsFine origin es h face p) → MarksNoSocket (es ++ e ∷ []) j.new → JoinedIsFine origin (es ++ e ∷ []) h face p
+  joined_on es h e face p j f = record { new = j.new; on = j.on; peer = j.peer; listener = j.listener; by = j.by; side = j.side; of_listener = side_more es _ j.listener j.on j.of_listener; handed = record { told = j.handed.told; hand = has_front es _ _ j.handed.hand }; fresh = f }
 
   -- a call that is no mark
   pub asked_by : (es : List Entry) (h : Here) (op : OpId) (c : Call) (told : Told) → marked_by c ≡ 0 → Spared h.machine.store.records op c → ((x : OpId) → IsToCome line h.own x → Touches op c x → ⊥) → Spares h c → Licensed contexts steps line origin es h → Licensed contexts steps line origin (es ++ entry op c told ∷ []) h
@@ -42,8 +43,9 @@ module _ (contexts : List WasiSocketsCtx) (steps : List Step) (line : ℕ) (orig
     udp_names = λ k j u a g. names_on (stay steps) es _ (own_of j) (udp_side u) (i.udp_names k j u a g);
     listens = listens_on es h op c told n i;
     new = λ x t. (handed_more es op c told x (i.new x t).0 (u x t), unmarked_unless es op c told x (i.new x t).1 z);
-    unmade = λ e a s is. made_more es op (own_of line) c told z (i.unmade e a s is);
-    joined = λ p e. (let j = i.joined p e in joined_on es h (entry op c told) p j (unmarked_unless es op c told j.new j.fresh z));
+    unmade = λ e is. made_more es op (own_of line) c told z (i.unmade e is);
+    joined = λ face p e. (let j = i.joined face p e in joined_on es h (entry op c told) face p j (unmarked_unless es op c told j.new j.fresh z));
+    faulted = i.faulted;
     marked = λ handle p e r g. (let k = i.marked handle p e r g in record { above = k.above; told = k.told; mark = has_front es _ _ k.mark });
     making = i.making;
   }
@@ -96,7 +98,7 @@ module _ (contexts : List WasiSocketsCtx) (steps : List Step) (line : ℕ) (orig
   pub own_line : (n : ℕ) (Is : Step → Type 0) → n ≡ line → Is origin → BeganBy steps (own_of n) Is
   own_line n Is own is = record { origin = origin; at = subst (λ (k : ℕ). step_at steps k ≡ Some origin) (sym own) is_line; holds = is }
 
-  pub question_may : (n : ℕ) (es : List Entry) (side : OpId) (c : Call) → IsQuestionOf line origin n side c → Names steps es (own_of n) side → MayAsk contexts steps es (own_of n) c × NoMark c
+  pub question_may : (n : ℕ) (es : List Entry) (side : OpId) (c : Call) → IsQuestionOf line origin n side c → Names steps es (own_of n) side → MayAskSo contexts steps es (own_of n) c × NoMark c
   question_may n es side (Call.Local s) q k = (inl (subst (Names steps es (own_of n)) (sym q) k), tt)
   question_may n es side (Call.Peer s) q k = (inl (subst (Names steps es (own_of n)) (sym q) k), tt)
   question_may n es side (Call.GetOption s o) q k = ((inl (subst (Names steps es (own_of n)) (sym q.0) k), own_line n (IsGetOf o) q.1 q.2), tt)
@@ -118,5 +120,5 @@ module _ (contexts : List WasiSocketsCtx) (steps : List Step) (line : ℕ) (orig
       put_fine fs h place r now g refl (same_listening r.listening) (same_listen contexts steps line origin is_line r now refl l.keeps.maker l.keeps.family) (record_kept steps fs r now (record { keeps = l.keeps; side = refl; streams = refl; listening = refl; binds = inl refl }) l.fine x) j
 
   -- what asks quietly
-  pub kept : {A : Type 0} (h : Here) (Q : List Entry → A → Type 0) (es : List Entry) (asks : Asks A) → Licensed contexts steps line origin es h → Allows (MayQuietly contexts steps) Q es asks → Allows (MayAsk contexts steps) (λ fs a. Licensed contexts steps line origin fs h × Q fs a) es asks
-  kept h Q es asks i a = allows_keep (MayQuietly contexts steps) (MayAsk contexts steps) (λ fs. Licensed contexts steps line origin fs h) Q (λ fs op c t fits k m. asked_fine fs h op c t m.0.1 (spares h c m.1) k) (λ fs op c m. m.0.0) es asks i a
+  pub kept : {A : Type 0} (h : Here) (Q : List Entry → A → Type 0) (es : List Entry) (asks : Asks A) → Licensed contexts steps line origin es h → Allows (MayQuietly contexts steps) Q es asks → Allows (MayAskSo contexts steps) (λ fs a. Licensed contexts steps line origin fs h × Q fs a) es asks
+  kept h Q es asks i a = allows_keep (MayQuietly contexts steps) (MayAskSo contexts steps) (λ fs. Licensed contexts steps line origin fs h) Q (λ fs op c t fits k m. asked_fine fs h op c t m.0.1 (spares h c m.1) k) (λ fs op c m. m.0.0) es asks i a

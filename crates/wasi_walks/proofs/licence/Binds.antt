@@ -1,6 +1,6 @@
 -- Whether a socket is bound, and a bind: what is asked is allowed, what is learned is in the log, and what a bind leaves may be polled on.
 use Rattle.wasi_walks.proofs.Words.{AccessDenied, Allows, BeganBy, Bind, Bool, Call, Check, End, Entry, ErrorCode, FrontKeeps, Given, Has}
-use Rattle.wasi_walks.proofs.Words.{IpSocketAddress, IsAddr, IsBindTo, IsBoundSide, Item, LastAsk, List, MayAsk, Nothing, NothingLast, OpId}
+use Rattle.wasi_walks.proofs.Words.{IpSocketAddress, IsAddr, IsBindTo, IsBoundSide, Item, LastAsk, List, Nothing, NothingLast, OpId}
 use Rattle.wasi_walks.proofs.Words.{Operation, Socket, Step, TcpBind, TcpState, Told, WasiSocketsCtx, Who, [], after_local, allows_polls, ap, bind}
 use Rattle.wasi_walks.proofs.Words.{done_front, entry, false, front, if◌then◌else◌, inl, is_wildcard, last_ask, left_of, poll_asks, refl, side_in}
 use Rattle.wasi_walks.proofs.Words.{subst, sym, told_addr, told_done, told_verdict, true, verdict_front, ⊤, ◌++◌, ◌∷◌, ◌≡◌}
@@ -9,6 +9,7 @@ use Rattle.wasi_walks.proofs.Lists.{has_last}
 use Rattle.wasi_walks.proofs.licence.State.{BindLeft, Whole, Checked, Over, WorksOn, BindIsFine, SocketIsFine}
 use Rattle.wasi_walks.proofs.licence.Frames.{stay, works_more, NoMark, KeepsSide, keeps_side}
 use Rattle.wasi_walks.proofs.claims.Polls.{IsPlainCall}
+use Rattle.wasi_walks.proofs.licence.Unbound.{MayAskSo}
 
 -- any call but `local`
 abbrev pub NoLocal : Call → Type 0
@@ -22,7 +23,7 @@ no_local _ h = tt
 module _ (contexts : List WasiSocketsCtx) (steps : List Step) where
   -- an ask that may come, and is no mark
   abbrev pub May : List Entry → OpId → Call → Type 0
-  May es op c = MayAsk contexts steps es op c × NoMark c
+  May es op c = MayAskSo contexts steps es op c × NoMark c
 
   -- and doesn't ask for a local address either
   abbrev pub MayQuietly : List Entry → OpId → Call → Type 0
@@ -105,7 +106,7 @@ module _ (contexts : List WasiSocketsCtx) (steps : List Step) where
       unfolding bind
       fine_front es _ _ w Whole = ((tt, tt), λ t fits. checked es t w)
       fine_front es _ _ w (Checked y) = (
-        ((inl w.named, to, record { ctx = who.context; family = w.family; maker = w.made; checked = y }, tcp), tt),
+        ((inl w.named, inl to, record { ctx = who.context; family = w.family; maker = w.made; checked = y }, tcp), tt),
         λ t fits. bound es t w,
       )
 

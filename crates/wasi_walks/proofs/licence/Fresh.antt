@@ -96,6 +96,11 @@ module _ (contexts : List WasiSocketsCtx) (steps : List Step) where
         let e : m.accept ≡ x = (let q = m.side in cc) in
         subst (λ (o : OpId). o.step ≤ length steps) e (handed_below m.accept m.on m.peer m.told (front_in c _ k m.handed))
     marked_below its is op parent x c k (Step.Call ctx (GuestCall.TcpAccept socket)) b (inr m) = absurd (elim m.stream [ inl e ↦ no_tcp its _ is e (λ q. cc) (λ q. cc) | inr e ↦ no_tcp its _ is e (λ q. cc) (λ q. cc) ])
+    marked_below its is op parent x c k (Step.Call ctx (GuestCall.P3TcpListen socket)) b m = absurd (no_tcp its _ is m.0 (λ e. cc) (λ e. cc))
+    marked_below its is op parent x c k (Step.Call ctx (GuestCall.P3Accept listener remaining)) b (inl m) =
+        let e : m.accept ≡ x = (let q = m.side in cc) in
+        subst (λ (o : OpId). o.step ≤ length steps) e (handed_below m.accept m.on m.peer m.told (front_in c _ k m.handed))
+    marked_below its is op parent x c k (Step.Call ctx (GuestCall.P3Accept listener remaining)) b (inr m) = absurd (let q = m.2 in cc)
     marked_below its is op parent x c k (Step.Call ctx (GuestCall.TcpFinishConnect socket)) b m = absurd (elim m.0 [ inl e ↦ no_tcp its _ is e (λ q. cc) (λ q. cc) | inr e ↦ no_tcp its _ is e (λ q. cc) (λ q. cc) ])
     marked_below its is op parent x c k (Step.Call ctx (GuestCall.PipeIn bytes)) b m = absurd (no_tcp its _ is m.0 (λ e. cc) (λ e. cc))
     marked_below its is op parent x c k (Step.Call ctx (GuestCall.PipeOut capacity)) b m = absurd (no_tcp its _ is m.0 (λ e. cc) (λ e. cc))
@@ -117,6 +122,8 @@ module _ (contexts : List WasiSocketsCtx) (steps : List Step) where
     marked_below its is op parent x c k (Step.Call ctx (GuestCall.BlockingSplice output input len)) b m = absurd (elim m [ inl e ↦ no_tcp its _ is e.0 (λ q. cc) (λ q. cc) | inr e ↦ no_tcp its _ is e.0 (λ q. cc) (λ q. cc) ])
     marked_below its is op parent x c k (Step.Call ctx (GuestCall.Resolve network host)) b m = absurd (no_tcp its _ is m.0 (λ e. cc) (λ e. cc))
     marked_below its is op parent x c k (Step.Call ctx (GuestCall.Subscribe handle)) b m = absurd (no_tcp its _ is m.0 (λ e. cc) (λ e. cc))
+    marked_below its is op parent x c k (Step.Call ctx (GuestCall.P3TcpSend socket)) b m = absurd (elim m.0 [ inl e ↦ no_tcp its _ is e (λ q. cc) (λ q. cc) | inr e ↦ no_tcp its _ is e (λ q. cc) (λ q. cc) ])
+    marked_below its is op parent x c k (Step.Call ctx (GuestCall.P3TcpReceive socket)) b m = absurd (elim m.0 [ inl e ↦ no_tcp its _ is e (λ q. cc) (λ q. cc) | inr e ↦ no_tcp its _ is e (λ q. cc) (λ q. cc) ])
     marked_below its is op parent x c k (Step.Call ctx (GuestCall.UdpStream socket remote)) b m = absurd (elim m.0 [ inl e ↦ no_tcp its _ is e (λ q. cc) (λ q. cc) | inr e ↦ no_tcp its _ is e (λ q. cc) (λ q. cc) ])
     marked_below its is op parent x c k _ b m = absurd m
 

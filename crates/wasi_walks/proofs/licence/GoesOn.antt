@@ -1,7 +1,7 @@
 -- What is in progress is licensed: a bind, a connect, a listen, an accept, a write; and what is released.
 use Rattle.wasi_walks.proofs.Words.{Accepting, Accepts, Allows, BeganBy, Begins, Bool, Call, Done, End, Entry, Give, HoldsAccept, HoldsConnect}
 use Rattle.wasi_walks.proofs.Words.{InProgress, IpSocketAddress, IsAcceptOn, IsConnect, IsLeftOfBind, IsLeftOfConnect, IsLeftOfListen, IsMaker, Item}
-use Rattle.wasi_walks.proofs.Words.{List, Listener, Listening, MayAsk, None, Not, OpId, Operation, Option, Refused, Some, Step, Streams, TcpRecord}
+use Rattle.wasi_walks.proofs.Words.{List, Listener, Listening, None, Not, OpId, Operation, Option, Refused, Some, Step, Streams, TcpRecord}
 use Rattle.wasi_walks.proofs.Words.{TcpState, Unclosed, Waits, WasiSocketsCtx, Who, WriteState, accept_ended, allows_keep, allows_then, allows_weaker}
 use Rattle.wasi_walks.proofs.Words.{ap, arith, ask_close, bind_progress, connect_ended, false, give_up_asks, give_up_in, if◌then◌else◌, in_hand, inl}
 use Rattle.wasi_walks.proofs.Words.{inr, is_over, job_asks, left_of, marked_by, poll_asks, refl, refuse_in, side_of, step_at}
@@ -33,6 +33,7 @@ use Rattle.wasi_tcp.specs.Connect as connecting
 use Rattle.wasi_walks.specs.Waiting as binding
 use Rattle.wasi_records.specs.Records.{tcp2_at, tcp2_put}
 use Rattle.wasi_walks.proofs.Places.{put_finds, put_found, tcp_sort}
+use Rattle.wasi_walks.proofs.licence.Unbound.{MayAskSo}
 
 module _ (contexts : List WasiSocketsCtx) (steps : List Step) (line : ℕ) (origin : Step) (is_line : step_at steps line ≡ Some origin) where
   -- == what is in progress
@@ -40,12 +41,12 @@ module _ (contexts : List WasiSocketsCtx) (steps : List Step) (line : ℕ) (orig
   quietly : (Q : List Entry → End × List Item → Type 0) (es : List Entry) (op : Operation) → AllAskBut ⊥ op.left → Allows (May contexts steps) Q es (poll_asks op) → Allows (MayQuietly contexts steps) Q es (poll_asks op)
   quietly Q es op k a = also (May contexts steps) (λ fs o c. NoLocal c) Q _ es (poll_asks op) a (poll_plainly NoLocal no_local op.who op.left es k)
 
-  bind_quiet : (items : List Item) → IsLeftOfBind items → AllAskBut ⊥ items
+  pub bind_quiet : (items : List Item) → IsLeftOfBind items → AllAskBut ⊥ items
   bind_quiet _ (binding.Unchecked a) = (tt, (tt, tt))
   bind_quiet _ (binding.Checked a) = (tt, tt)
   bind_quiet _ binding.Ended = tt
 
-  connect_quiet : (items : List Item) → IsLeftOfConnect items → AllAskBut ⊥ items
+  pub connect_quiet : (items : List Item) → IsLeftOfConnect items → AllAskBut ⊥ items
   connect_quiet _ (connecting.Unbound w a) = (tt, (tt, (tt, tt)))
   connect_quiet _ (connecting.Unchecked a) = (tt, (tt, tt))
   connect_quiet _ (connecting.Checked a) = (tt, tt)
@@ -53,16 +54,16 @@ module _ (contexts : List WasiSocketsCtx) (steps : List Step) (line : ℕ) (orig
   connect_quiet _ connecting.Ended = tt
 
   -- the local address of its own network socket alone
-  abbrev Its : OpId → Call → Type 0
+  abbrev pub Its : OpId → Call → Type 0
   Its side c = (x : OpId) → c ≡ Call.Local x → side ≡ x
 
-  its_quiet : (side : OpId) (c : Call) → IsPlainCall c → Its side c
+  pub its_quiet : (side : OpId) (c : Call) → IsPlainCall c → Its side c
   its_quiet side c n x e = absurd (subst IsPlainCall e n)
 
   its_own : (side : OpId) → Its side (Call.Local side)
   its_own side x e = local_side side x e
 
-  listen_quiet : (who : Who) (items : List Item) → IsLeftOfListen items → AllAskBut (Its who.side (Call.Local who.side)) items
+  pub listen_quiet : (who : Who) (items : List Item) → IsLeftOfListen items → AllAskBut (Its who.side (Call.Local who.side)) items
   listen_quiet who _ (listen.BoundBefore b) = (its_own who.side, (tt, tt))
   listen_quiet who _ (listen.AddressTold a b) = (tt, (tt, tt))
   listen_quiet who _ (listen.Unbound w b) = (tt, (tt, (tt, (tt, tt))))
@@ -78,20 +79,20 @@ module _ (contexts : List WasiSocketsCtx) (steps : List Step) (line : ℕ) (orig
   bound_after fs op (Refused c given, items) k = tt
 
   bound_on : (es : List Entry) (h : Here) (place : ℕ) (r : TcpRecord) (op : Operation) → Found h place r → r.in_progress ≡ InProgress.Binding op → Fit h → Licensed contexts steps line origin es h
-      → Allows (MayAsk contexts steps) (λ fs ended. Licensed contexts steps line origin fs (put h place (with_progress r (bind_progress op ended)))) es (poll_asks op)
+      → Allows (MayAskSo contexts steps) (λ fs ended. Licensed contexts steps line origin fs (put h place (with_progress r (bind_progress op ended)))) es (poll_asks op)
   bound_on es h place r op g e b i =
       let its = subst (FitProgress r.inner.state) e (b.records place r g).2 in
       let f : BindIsFine steps es op = subst (ProgressIsFine steps es) e (i.fine.records place r g).progress in
-      allows_weaker (MayAsk contexts steps) (λ fs ended. Licensed contexts steps line origin fs h × BindIsFine steps fs (left_of op ended.1)) (λ fs ended. Licensed contexts steps line origin fs (put h place (with_progress r (bind_progress op ended))))
+      allows_weaker (MayAskSo contexts steps) (λ fs ended. Licensed contexts steps line origin fs h × BindIsFine steps fs (left_of op ended.1)) (λ fs ended. Licensed contexts steps line origin fs (put h place (with_progress r (bind_progress op ended))))
       (λ fs ended k. let x = k.0.fine.records place r g in let now = with_progress r (bind_progress op ended) in
       put_fine fs h place r now g refl (same_listening r.listening) (same_listen contexts steps line origin is_line r now refl refl refl) (record { socket = x.socket; named = x.named; streams = x.streams; listening = x.listening; progress = bound_after fs op ended k.1 }) k.0) es (poll_asks op)
       (kept contexts steps line origin is_line h (λ fs ended. BindIsFine steps fs (left_of op ended.1)) es (poll_asks op) i (quietly (λ fs ended. BindIsFine steps fs (left_of op ended.1)) es op (bind_quiet op.left its.1.left) (fine_poll contexts steps op es f)))
 
   connected_on : (es : List Entry) (h : Here) (place : ℕ) (r : TcpRecord) (op : Operation) → Found h place r → r.inner.state ≡ TcpState.Connecting op → Fit h → Licensed contexts steps line origin es h
-      → Allows (MayAsk contexts steps) (λ fs ended. Licensed contexts steps line origin fs (put h place (with_inner r (with_state r.inner (connect_ended op.who ended).1)))) es (poll_asks op)
+      → Allows (MayAskSo contexts steps) (λ fs ended. Licensed contexts steps line origin fs (put h place (with_inner r (with_state r.inner (connect_ended op.who ended).1)))) es (poll_asks op)
   connected_on es h place r op g e b i =
       let its : IsConnect op = subst HoldsConnect e (b.records place r g).0 in
-      allows_weaker (MayAsk contexts steps) (λ fs ended. Licensed contexts steps line origin fs h × ConnectIsFine steps fs (left_of op ended.1)) (λ fs ended. Licensed contexts steps line origin fs (put h place (with_inner r (with_state r.inner (connect_ended op.who ended).1))))
+      allows_weaker (MayAskSo contexts steps) (λ fs ended. Licensed contexts steps line origin fs h × ConnectIsFine steps fs (left_of op ended.1)) (λ fs ended. Licensed contexts steps line origin fs (put h place (with_inner r (with_state r.inner (connect_ended op.who ended).1))))
       (λ fs end k. let x = k.0.fine.records place r g in let d = ended contexts steps fs r.inner op end e x.socket k.1 in let now = with_inner r (with_state r.inner (connect_ended op.who end).1) in
       put_fine fs h place r now g refl (same_listening r.listening) (same_listen contexts steps line origin is_line r now refl refl refl) (record_kept steps fs r now (record { keeps = d.keeps; side = refl; streams = refl; listening = refl; binds = inl refl }) d.fine x) k.0) es (poll_asks op)
       (kept contexts steps line origin is_line h (λ fs ended. ConnectIsFine steps fs (left_of op ended.1)) es (poll_asks op) i (quietly (λ fs ended. ConnectIsFine steps fs (left_of op ended.1)) es op (connect_quiet op.left its.left) (fine_poll_connect contexts steps op es ((i.fine.records place r g).socket.connect op e))))
@@ -109,7 +110,7 @@ module _ (contexts : List WasiSocketsCtx) (steps : List Step) (line : ℕ) (orig
   still_goes fs r op _ a m t k o e = absurd (cc)
 
   listened_on : (es : List Entry) (h : Here) (place : ℕ) (r : TcpRecord) (op : Operation) → Found h place r → r.listening ≡ Begins op → side_of r.inner ≡ None → Fit h → Named line h → Licensed contexts steps line origin es h
-      → Allows (MayAsk contexts steps) (λ fs ended. Licensed contexts steps line origin fs (put h place (listen_after op r ended))) es (poll_asks op)
+      → Allows (MayAskSo contexts steps) (λ fs ended. Licensed contexts steps line origin fs (put h place (listen_after op r ended))) es (poll_asks op)
   listened_on es h place r op g e closed b n i =
       let l = i.listens place r op g e in
       let its : IsListen op = subst FitListening e (b.records place r g).1 in
@@ -117,9 +118,9 @@ module _ (contexts : List WasiSocketsCtx) (steps : List Step) (line : ℕ) (orig
       let out = put h place (with_listening r Not) in
       let M : List Entry → Type 0 = λ fs. Licensed contexts steps line origin fs out × IsMaker fs r.inner.maker r.inner.family op.who.side in
       let Q : List Entry → End × List Item → Type 0 = λ fs end. ListenEnds steps fs op.who end.0 end.1 in
-      allows_weaker (MayAsk contexts steps) (λ fs end. M fs × Q fs end) (λ fs end. Licensed contexts steps line origin fs (put h place (listen_after op r end)))
+      allows_weaker (MayAskSo contexts steps) (λ fs end. M fs × Q fs end) (λ fs end. Licensed contexts steps line origin fs (put h place (listen_after op r end)))
       (λ fs end k. put_after fs end k.0.0 k.0.1 k.1 l.asks d.0 l.tcp) es (poll_asks op)
-      (allows_keep (λ fs o c. May contexts steps fs o c × Its op.who.side c) (MayAsk contexts steps) M Q
+      (allows_keep (λ fs o c. May contexts steps fs o c × Its op.who.side c) (MayAskSo contexts steps) M Q
       (λ fs o c t fits k m. (asked_fine contexts steps line origin is_line fs out o c t m.0.1 (others c m.1 d.0) k.0, maker_more fs _ r.inner.maker r.inner.family op.who.side k.1)) (λ fs o c m. m.0.0) es (poll_asks op)
       (taken_out es h place r g i, l.made)
       (also (May contexts steps) (λ fs o c. Its op.who.side c) Q _ es (poll_asks op) (fine_poll_listen contexts steps op es l.fine) (poll_plainly (Its op.who.side) (its_quiet op.who.side) op.who op.left es (listen_quiet op.who op.left its.left))))
@@ -153,7 +154,7 @@ module _ (contexts : List WasiSocketsCtx) (steps : List Step) (line : ℕ) (orig
   touch_as op x _ z t = absurd t
 
   awaited_on : (es : List Entry) (h : Here) (place : ℕ) (r : TcpRecord) (l : Listener) (op : Operation) → Found h place r → r.listening ≡ Accepts l → l.accept ≡ Accepting.Asking op → Fit h → Named line h → Licensed contexts steps line origin es h
-      → Allows (MayAsk contexts steps) (λ fs ended. Licensed contexts steps line origin fs (put h place (accepting_now r l (accept_ended op.who ended)))) es (poll_asks op)
+      → Allows (MayAskSo contexts steps) (λ fs ended. Licensed contexts steps line origin fs (put h place (accepting_now r l (accept_ended op.who ended)))) es (poll_asks op)
   awaited_on es h place r l op g e a b n i =
       let x = i.fine.records place r g in let lf = listener_fine contexts steps line origin is_line es r l e x in
       let f : AcceptIsFine steps es l.side l.maker op = subst (AcceptingIsFine steps es l.side l.maker) a lf.accept in
@@ -164,9 +165,9 @@ module _ (contexts : List WasiSocketsCtx) (steps : List Step) (line : ℕ) (orig
       let free = taken_fresh contexts line origin h place r (with_listening r Not) op.who.id g name refl refl n in
       let M : List Entry → Type 0 = λ fs. Licensed contexts steps line origin fs out × IsMaker fs l.maker l.family l.side in
       let Q : List Entry → End × List Item → Type 0 = λ fs end. StandsAfter contexts steps op.who fs end in
-      allows_weaker (MayAsk contexts steps) (λ fs end. M fs × Q fs end) (λ fs end. Licensed contexts steps line origin fs (put h place (accepting_now r l (accept_ended op.who end))))
+      allows_weaker (MayAskSo contexts steps) (λ fs end. M fs × Q fs end) (λ fs end. Licensed contexts steps line origin fs (put h place (accepting_now r l (accept_ended op.who end))))
       (λ fs end k. put_after fs end k.0.0 k.0.1 k.1 f.on f.asks lf.side free) es (poll_asks op)
-      (allows_keep (λ fs o c. MayAs contexts steps op.who.id fs o c × NoLocal c) (MayAsk contexts steps) M Q
+      (allows_keep (λ fs o c. MayAs contexts steps op.who.id fs o c × NoLocal c) (MayAskSo contexts steps) M Q
       (λ fs o c t fits k m. (asked_by contexts steps line origin is_line fs out o c t m.0.2 (spared_as out.machine.store.records o op.who.id c m.0.1 m.0.2 (λ p q y z. free p q y (inr z))) (λ x u t. fresh_to_come contexts line origin h n x u place r g (inr (name ∙ ap (λ (y : OpId). Some y) (sym m.0.1 ∙ touch_as o x c m.0.2 t)))) (spares contexts steps line origin is_line out c m.1) k.0, maker_more fs _ l.maker l.family l.side k.1)) (λ fs o c m. m.0.0) es (poll_asks op)
       (taken_out es h place r g i, lf.maker)
       (also (MayAs contexts steps op.who.id) (λ fs o c. NoLocal c) Q _ es (poll_asks op)
@@ -186,7 +187,7 @@ module _ (contexts : List WasiSocketsCtx) (steps : List Step) (line : ℕ) (orig
           (state_renewed contexts steps fs out.machine place (with_listening r Not) now (there h place r (with_listening r Not) g) refl (record { socket = f.socket; named = f.named; streams = f.streams; listening = record { side = s; maker = m; accept = its }; progress = f.progress }) stands
           (λ y z p v w u. absurd (free p v w (inr (u ∙ ap (λ (o : OpId). Some o) (q.name y z))))) k.fine) (λ o p. absurd (cc)))
 
-  turn_on : (es : List Entry) (side : OpId) (w : WriteState) → WritesOn steps es side w → Allows (MayQuietly contexts steps) (λ fs done. WritesOn steps fs side done.1) es (turn_asks w)
+  pub turn_on : (es : List Entry) (side : OpId) (w : WriteState) → WritesOn steps es side w → Allows (MayQuietly contexts steps) (λ fs done. WritesOn steps fs side done.1) es (turn_asks w)
   turn_on es side (WriteState.Writing job) on = allows_then (MayQuietly contexts steps) (λ fs j. JobIsFine steps fs side j) (λ fs done. WritesOn steps fs side done.1) es (job_asks job) _ (fine_job contexts steps es side job on) (λ fs j k. k)
   turn_on es side (WriteState.Closing job) on = allows_then (MayQuietly contexts steps) (λ fs j. JobIsFine steps fs side j) (λ fs done. WritesOn steps fs side done.1) es (job_asks job) _ (fine_job contexts steps es side job on) (λ fs j k. k)
   turn_on es side _ on = on
@@ -195,11 +196,11 @@ module _ (contexts : List WasiSocketsCtx) (steps : List Step) (line : ℕ) (orig
   one_side : (fs es : List Entry) (r : TcpRecord) (s : Streams) (f : StreamsAreFine steps es r.inner s) (x : StreamsAreFine steps fs r.inner s) → f.side ≡ x.side
   one_side fs es r s f x = some_same f.side x.side (sym (held_side contexts steps line origin is_line fs r s x) ∙ held_side contexts steps line origin is_line es r s f)
 
-  pub turned_fine : (es : List Entry) (h : Here) (place : ℕ) (r : TcpRecord) (s : Streams) → Found h place r → r.streams ≡ Some s → Licensed contexts steps line origin es h → Allows (MayAsk contexts steps) (λ fs done. Licensed contexts steps line origin fs (put h place (with_writer r s done.1))) es (turn_asks s.writer)
+  pub turned_fine : (es : List Entry) (h : Here) (place : ℕ) (r : TcpRecord) (s : Streams) → Found h place r → r.streams ≡ Some s → Licensed contexts steps line origin es h → Allows (MayAskSo contexts steps) (λ fs done. Licensed contexts steps line origin fs (put h place (with_writer r s done.1))) es (turn_asks s.writer)
   turned_fine es h place r s g e i =
       let f = (i.fine.records place r g).streams s e in
       let Q : List Entry → Unit {0} × WriteState → Type 0 = λ fs done. WritesOn steps fs f.side done.1 in
-      allows_weaker (MayAsk contexts steps) (λ fs done. Licensed contexts steps line origin fs h × Q fs done) (λ fs done. Licensed contexts steps line origin fs (put h place (with_writer r s done.1)))
+      allows_weaker (MayAskSo contexts steps) (λ fs done. Licensed contexts steps line origin fs h × Q fs done) (λ fs done. Licensed contexts steps line origin fs (put h place (with_writer r s done.1)))
       (λ fs done k. streams_fine contexts steps line origin is_line fs h place r s (record s { writer = done.1 }) g e (λ x. (x.reads, subst (λ (o : OpId). WritesOn steps fs o done.1) (one_side fs es r s f x) k.1)) k.0) es (turn_asks s.writer)
       (kept contexts steps line origin is_line h Q es (turn_asks s.writer) i (turn_on es f.side s.writer f.writes))
 
@@ -223,7 +224,7 @@ module _ (contexts : List WasiSocketsCtx) (steps : List Step) (line : ℕ) (orig
       by_accept (Accepting.Failed c) k = tt
   given_up es made (Unclosed side) f = (((tt, tt), tt), λ t fits. tt)
 
-  pub polls_fine : (es : List Entry) (h : Here) (op : Operation) (after : End × List Item → Here) → Held h op after → Base contexts line origin h × Keeps es h.machine.store.records → Licensed contexts steps line origin es h → Allows (MayAsk contexts steps) (λ fs ended. Licensed contexts steps line origin fs (after ended)) es (poll_asks op)
+  pub polls_fine : (es : List Entry) (h : Here) (op : Operation) (after : End × List Item → Here) → Held h op after → Base contexts line origin h × Keeps es h.machine.store.records → Licensed contexts steps line origin es h → Allows (MayAskSo contexts steps) (λ fs ended. Licensed contexts steps line origin fs (after ended)) es (poll_asks op)
   polls_fine es h _ _ (BindsOn place r op q g e) b i = bound_on es h place r op g e b.0.0 i
   polls_fine es h _ _ (Connects place r op g e) b i = connected_on es h place r op g e b.0.0 i
   polls_fine es h _ _ (Listens place r op q g e c) b i = listened_on es h place r op g e c b.0.0 b.0.1 i

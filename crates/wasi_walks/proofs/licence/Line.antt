@@ -5,10 +5,10 @@ use Rattle.wasi_walks.proofs.Words.{OpId, Operation, Option, SocketAddressFamily
 use Rattle.wasi_walks.proofs.Words.{own_of, refl, side_in, subst, sym, with_socket, ℕ, ⊤, ◌∙◌, ◌≡◌, ◌⊎◌}
 use Rattle.wasi_walks.proofs.licence.ListenAsks.{ListenIsFine}
 use Rattle.wasi_walks.proofs.licence.Fresh.{NoMadeBy}
-use Rattle.wasi_walks.proofs.walks.Moves.{Own, Used, Unused, ToSend, ToStream, Calls, Past, Here, put, put_udp, Found, FoundUdp, record_of, udp_record_of, Plain, Made, Unmade, Joined, Marked, part_of}
+use Rattle.wasi_walks.proofs.walks.Moves.{Faulted, Freed, Interface, P2, P3, ToListen, Own, Used, Unused, ToResult, ToSend, ToStream, Calls, Past, Here, put, put_udp, Found, FoundUdp, record_of, udp_record_of, Plain, Made, Unmade, Joined, Marked, part_of}
 use Rattle.wasi_walks.proofs.walks.Here.{IsToCome, Shrinks}
 use Rattle.wasi_walks.specs.Licence.{MakesTcp}
-use Rattle.wasi_walks.proofs.licence.State.{NamesIf, NamesRecord, NamesUdp, NamesUdpIf, HandleIsFine, Names, RecordIsFine, UdpIsFine, StateIsFine, IsHanded, MakesStreams, MakesCalls}
+use Rattle.wasi_walks.proofs.licence.State.{NamesIf, NamesRecord, NamesUdp, NamesUdpIf, HandleIsFine, Names, RecordIsFine, UdpIsFine, StateIsFine, IsHanded, MakesListener, MakesStreams, MakesCalls}
 use Rattle.wasi_walks.proofs.licence.Frames.{KeepsListening, KeepsRecord, same_record}
 use Rattle.wasi_walks.proofs.licence.States.{state_put, state_put_udp}
 use Rattle.wasi_world.specs.declared.call.HandleKind.TheVariants as name
@@ -29,7 +29,7 @@ names_udp es records handle place (Some kind) e h = subst (NamesUdpIf es records
 pub some_same : (a b : OpId) → Some b ≡ Some a → a ≡ b
 some_same a b e = cc
 
-pub keeps_plain : (r now : TcpRecord) → Plain r now → KeepsRecord r now
+pub keeps_plain : {goes begins : Type 0} (r now : TcpRecord) → Plain goes begins r now → KeepsRecord r now
 keeps_plain r now p = record {
   keeps = record { maker = p.maker; family = p.family; side = λ side e. sym (ap side_in p.does) ∙ e; connected = λ c e. record { connection = c; state = p.does ∙ e; same = refl } };
   side = p.side;
@@ -38,8 +38,14 @@ keeps_plain r now p = record {
   binds = p.binds;
 }
 
-pub seam : (xs : List Record) (now : TcpRecord) (p : ℕ) (q : TcpRecord) → Joined (length xs) ≡ Joined p → tcp2_at (tcp2_pushed xs now) p ≡ Some q → now ≡ q
-seam xs now p q e d = let at : length xs ≡ p = cc in same_record now q (sym (push_finds tcp_sort xs now) ∙ (ap (tcp2_at (tcp2_pushed xs now)) at ∙ d))
+pub seam : (its face : Interface) (xs : List Record) (now : TcpRecord) (p : ℕ) (q : TcpRecord) → Joined its (length xs) ≡ Joined face p → tcp2_at (tcp2_pushed xs now) p ≡ Some q → now ≡ q
+seam its face xs now p q e d = let at : length xs ≡ p = cc in same_record now q (sym (push_finds tcp_sort xs now) ∙ (ap (tcp2_at (tcp2_pushed xs now)) at ∙ d))
+
+pub fault_seam : (xs : List Record) (now : TcpRecord) (p : ℕ) (q : TcpRecord) → Faulted (length xs) ≡ Faulted p → tcp2_at (tcp2_pushed xs now) p ≡ Some q → now ≡ q
+fault_seam xs now p q e d = let at : length xs ≡ p = cc in same_record now q (sym (push_finds tcp_sort xs now) ∙ (ap (tcp2_at (tcp2_pushed xs now)) at ∙ d))
+
+pub same_face : (a b : Interface) (n p : ℕ) → Joined a n ≡ Joined b p → a ≡ b
+same_face a b n p e = cc
 
 abbrev SamePair : ℕ → ℕ → ℕ → ℕ → Type 0
 SamePair a b c d = let x : Option (ℕ × ℕ) = Some (a, b) in let y : Option (ℕ × ℕ) = Some (c, d) in x ≡ y
@@ -72,7 +78,8 @@ pub record ListenGoesOn (steps : List Step) (es : List Entry) (r : TcpRecord) (o
 -- the line has made no mark of a socket
 abbrev pub NotMarked : Made → Type 0
 NotMarked Unmade = ⊤
-NotMarked (Joined place) = ⊤
+NotMarked (Joined face place) = ⊤
+NotMarked (Faulted place) = ⊤
 NotMarked _ = ⊥
 
 -- it is nothing of an accept
@@ -81,21 +88,26 @@ NoAccept (ToStream line handle place) = ⊤
 NoAccept (ToSend line handle place) = ⊤
 NoAccept (Calls kind line handles) = ⊤
 NoAccept Past = ⊤
+NoAccept (ToListen line marks place) = ⊤
 NoAccept (Emptied kind) = ⊤
+NoAccept (Freed place) = ⊤
 NoAccept (Awaited face side place) = ⊤
 NoAccept (Numbered place next) = ⊤
+NoAccept (ToResult slot) = ⊤
 NoAccept _ = ⊥
 
 no_mark : (made : Made) → NoAccept made → NotMarked made → ⊥
 no_mark Unmade q u = q
-no_mark (Joined place) q u = q
+no_mark (Joined face place) q u = q
+no_mark (Faulted place) q u = q
 no_mark _ q u = u
 
--- where streams are made, or called, for a line, its step says so; and where a create is polled for an interface, the step that made
+-- where streams are made, or called, or a socket listens for a line, its step says so; and where a create is polled for an interface, the step that made
 -- its network socket is a create of it
 abbrev pub MakingStands : List Step → Made → Type 0
 MakingStands steps (ToStream line handle place) = MakesStreams steps line handle
 MakingStands steps (ToSend line handle place) = MakesStreams steps line handle
+MakingStands steps (ToListen line marks place) = MakesListener steps line marks
 MakingStands steps (Calls kind line handles) = MakesCalls steps kind line handles
 MakingStands steps (Awaited face side place) = BeganBy steps side (MakesUdpFor face)
 MakingStands steps _ = ⊤
@@ -111,14 +123,24 @@ NamesTcpHere steps es h = (place n : ℕ) (r : TcpRecord) → h.at ≡ Some (pla
 abbrev pub NamesUdpHere : List Step → List Entry → Here → Type 0
 NamesUdpHere steps es h = (place n : ℕ) (u : UdpRecord) → h.at ≡ Some (place, n) → FoundUdp h place u → Names steps es (own_of n) (udp_side u)
 
+-- a step that accepts, and one of the interface on this listener
+abbrev pub IsAccept : Step → Type 0
+IsAccept (Step.Call c (GuestCall.TcpAccept listener)) = ⊤
+IsAccept (Step.Call c (GuestCall.P3Accept listener remaining)) = ⊤
+IsAccept _ = ⊥
+
+abbrev pub AcceptsFor : Interface → ℕ → Step → Type 0
+AcceptsFor P2 listener (Step.Call c (GuestCall.TcpAccept s)) = s ≡ listener
+AcceptsFor P3 listener (Step.Call c (GuestCall.P3Accept s remaining)) = s ≡ listener
+AcceptsFor face listener _ = ⊥
+
 -- A record was taken from the listener that the line names, and has no mark yet.
-pub record JoinedIsFine (origin : Step) (es : List Entry) (h : Here) (place : ℕ) : Type 0 where
+pub record JoinedIsFine (origin : Step) (es : List Entry) (h : Here) (face : Interface) (place : ℕ) : Type 0 where
   pub new : OpId
   pub on : OpId
   pub peer : IpSocketAddress
-  pub context : ℕ
   pub listener : ℕ
-  pub by : origin ≡ Step.Call context (GuestCall.TcpAccept listener)
+  pub by : AcceptsFor face listener origin
   pub side : (r : TcpRecord) → Found h place r → r.side ≡ Some new
   pub of_listener : IsSide es listener on
   pub handed : IsHanded es new on peer
@@ -137,8 +159,9 @@ pub record Licensed (contexts : List WasiSocketsCtx) (steps : List Step) (line :
   pub udp_names : NamesUdpHere steps es h
   pub listens : (place : ℕ) (r : TcpRecord) (op : Operation) → Found h place r → r.listening ≡ Begins op → ListenGoesOn steps es r op
   pub new : (x : OpId) → IsToCome line h.own x → HandedNone es x × MarksNoSocket es x
-  pub unmade : (h.own ≡ Unused) ⊎ NotMarked h.made → (c s : ℕ) → origin ≡ Step.Call c (GuestCall.TcpAccept s) → NoMadeBy es (own_of line)
-  pub joined : (place : ℕ) → h.made ≡ Joined place → JoinedIsFine origin es h place
+  pub unmade : (h.own ≡ Unused) ⊎ NotMarked h.made → IsAccept origin → NoMadeBy es (own_of line)
+  pub joined : (face : Interface) (place : ℕ) → h.made ≡ Joined face place → JoinedIsFine origin es h face place
+  pub faulted : (place : ℕ) → h.made ≡ Faulted place → (r : TcpRecord) → Found h place r → r.side ≡ None
   pub marked : (handle place : ℕ) → h.made ≡ Marked handle place → (r : TcpRecord) → Found h place r → MadeSocket line es handle r.side
   pub making : MakingStands steps h.made
 
@@ -162,8 +185,8 @@ module _ {steps : List Step} where
 module _ {contexts : List WasiSocketsCtx} {steps : List Step} {line : ℕ} {origin : Step} where
   -- a record changes
   module _ (es : List Entry) (h : Here) (place : ℕ) (r now : TcpRecord) (g : Found h place r) (s : now.side ≡ r.side) (i : Licensed contexts steps line origin es h) where
-    joined_put : (p : ℕ) → JoinedIsFine origin es h p → JoinedIsFine origin es (put h place now) p
-    joined_put p j = record { new = j.new; on = j.on; peer = j.peer; context = j.context; listener = j.listener; by = j.by; side = by_side (λ (o : Option OpId). o ≡ Some j.new) h place r now g s p j.side; of_listener = j.of_listener; handed = j.handed; fresh = j.fresh }
+    joined_put : (face : Interface) (p : ℕ) → JoinedIsFine origin es h face p → JoinedIsFine origin es (put h place now) face p
+    joined_put face p j = record { new = j.new; on = j.on; peer = j.peer; listener = j.listener; by = j.by; side = by_side (λ (o : Option OpId). o ≡ Some j.new) h place r now g s p j.side; of_listener = j.of_listener; handed = j.handed; fresh = j.fresh }
 
     pub put_with : StateIsFine contexts steps es (record h.machine { store = with_socket h.machine.store place now }) → ((op : Operation) → now.listening ≡ Begins op → ListenGoesOn steps es now op) → Licensed contexts steps line origin es (put h place now)
     put_with f l = record {
@@ -173,7 +196,8 @@ module _ {contexts : List WasiSocketsCtx} {steps : List Step} {line : ℕ} {orig
       listens = λ k q op e b. elim (put_found tcp_sort h.machine.store.records place now k q e) [ inl p ↦ subst (λ (x : TcpRecord). ListenGoesOn steps es x op) p.1 (l op (ap (λ (x : TcpRecord). x.listening) p.1 ∙ b)) | inr p ↦ i.listens k q op p b ];
       new = i.new;
       unmade = i.unmade;
-      joined = λ p e. joined_put p (i.joined p e);
+      joined = λ face p e. joined_put face p (i.joined face p e);
+      faulted = λ p e q d. by_side (λ (o : Option OpId). o ≡ None) h place r now g s p (λ x u. i.faulted p e x u) q d;
       marked = λ handle p e q d. by_side (λ (o : Option OpId). MadeSocket line es handle o) h place r now g s p (λ x u. i.marked handle p e x u) q d;
       making = i.making;
     }
@@ -195,7 +219,8 @@ module _ {contexts : List WasiSocketsCtx} {steps : List Step} {line : ℕ} {orig
         listens = λ k r op e b. i.listens k r op (old k r e) b;
         new = i.new;
         unmade = i.unmade;
-        joined = λ p e. (let j = i.joined p e in record { new = j.new; on = j.on; peer = j.peer; context = j.context; listener = j.listener; by = j.by; side = λ r d. j.side r (old p r d); of_listener = j.of_listener; handed = j.handed; fresh = j.fresh });
+        joined = λ face p e. (let j = i.joined face p e in record { new = j.new; on = j.on; peer = j.peer; listener = j.listener; by = j.by; side = λ r d. j.side r (old p r d); of_listener = j.of_listener; handed = j.handed; fresh = j.fresh });
+        faulted = λ p e r d. i.faulted p e r (old p r d);
         marked = λ handle p e r d. i.marked handle p e r (old p r d);
         making = i.making;
       }
@@ -208,8 +233,9 @@ module _ {contexts : List WasiSocketsCtx} {steps : List Step} {line : ℕ} {orig
     udp_names = i.udp_names;
     listens = i.listens;
     new = λ x t. i.new x (less x t);
-    unmade = λ e c s is. i.unmade (elim e [ inl u ↦ absurd (used u) | inr u ↦ inr u ]) c s is;
-    joined = λ p e. (let j = i.joined p e in record { new = j.new; on = j.on; peer = j.peer; context = j.context; listener = j.listener; by = j.by; side = j.side; of_listener = j.of_listener; handed = j.handed; fresh = j.fresh });
+    unmade = λ e is. i.unmade (elim e [ inl u ↦ absurd (used u) | inr u ↦ inr u ]) is;
+    joined = λ face p e. (let j = i.joined face p e in record { new = j.new; on = j.on; peer = j.peer; listener = j.listener; by = j.by; side = j.side; of_listener = j.of_listener; handed = j.handed; fresh = j.fresh });
+    faulted = i.faulted;
     marked = i.marked;
     making = i.making;
   }
@@ -225,8 +251,9 @@ module _ {contexts : List WasiSocketsCtx} {steps : List Step} {line : ℕ} {orig
     udp_names = i.udp_names;
     listens = i.listens;
     new = i.new;
-    unmade = λ e c s is. i.unmade (elim e [ inl u ↦ inl u | inr u ↦ absurd (no_mark made q u) ]) c s is;
-    joined = λ p e. absurd (subst NoAccept e q);
+    unmade = λ e is. i.unmade (elim e [ inl u ↦ inl u | inr u ↦ absurd (no_mark made q u) ]) is;
+    joined = λ face p e. absurd (subst NoAccept e q);
+    faulted = λ p e. absurd (subst NoAccept e q);
     marked = λ a p e. absurd (subst NoAccept e q);
     making = k;
   }
@@ -239,8 +266,9 @@ module _ {contexts : List WasiSocketsCtx} {steps : List Step} {line : ℕ} {orig
     udp_names = u;
     listens = λ k r op g e. i.listens k r op (there h now s k r g) e;
     new = λ x t. i.new x (subst (λ (own : Own). IsToCome line own x) o t);
-    unmade = λ e c t is. i.unmade (elim e [ inl x ↦ inl (sym o ∙ x) | inr x ↦ inr (subst NotMarked m x) ]) c t is;
-    joined = λ p e. (let j = i.joined p (sym m ∙ e) in record { new = j.new; on = j.on; peer = j.peer; context = j.context; listener = j.listener; by = j.by; side = λ r g. j.side r (there h now s p r g); of_listener = j.of_listener; handed = j.handed; fresh = j.fresh });
+    unmade = λ e is. i.unmade (elim e [ inl x ↦ inl (sym o ∙ x) | inr x ↦ inr (subst NotMarked m x) ]) is;
+    joined = λ face p e. (let j = i.joined face p (sym m ∙ e) in record { new = j.new; on = j.on; peer = j.peer; listener = j.listener; by = j.by; side = λ r g. j.side r (there h now s p r g); of_listener = j.of_listener; handed = j.handed; fresh = j.fresh });
+    faulted = λ p e r g. i.faulted p (sym m ∙ e) r (there h now s p r g);
     marked = λ handle p e r g. i.marked handle p (sym m ∙ e) r (there h now s p r g);
     making = subst (MakingStands steps) (sym m) i.making;
   }

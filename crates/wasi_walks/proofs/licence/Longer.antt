@@ -1,13 +1,18 @@
 -- Of a licensed log: it is one where each entry may come after those before it; its prefixes are licensed, and so it is with
 -- fewer replies, and by a longer script.
-use Rattle.wasi_walks.proofs.Words.{BeganBy, Call, Entry, IsLicensed, List, Machine, MayAsk, NamesSide, OpId, Operation, ReachesSide, Reply, Some, Step}
+use Rattle.wasi_walks.proofs.Words.{Item, SocketAddressFamily, BeganBy, Call, Entry, IsLicensed, List, Machine, MayAsk, NamesSide, OpId, Operation, ReachesSide, Reply, Some, Step}
 use Rattle.wasi_walks.proofs.Words.{WasiSocketsCtx, [], ap, append-nil, append_assoc, inl, inr, step_at, subst, suc}
 use Rattle.wasi_walks.proofs.Words.{zero, ℕ, ⊤, ◌++◌, ◌∙◌, ◌∷◌, ◌≡◌}
 use Rattle.wasi_walks.proofs.Lists.{get_front}
 use Rattle.wasi_walks.specs.Licence.{EachMayReply, MakesTcp}
+use Rattle.wasi_records.specs.Names.{own_of}
+use Rattle.wasi_host.specs.declared.beside.Beside.{Beside}
+use Rattle.wasi_host.specs.declared.beside.BesideCall.{BesideCall}
+use Rattle.wasi_host.specs.declared.beside.BesideCall.TheVariants.{Connect, Resolve}
+use Rattle.wasi_walks.proofs.licence.Besides.{BesidesAreFine, CallIsFine}
 use Rattle.wasi_walks.proofs.licence.Replies.{replies_fewer, replies_longer}
 use Rattle.wasi_walks.proofs.licence.State.{WorksOn, RecordIsFine, UdpIsFine, StandingIsFine, StateIsFine}
-use Rattle.wasi_walks.proofs.licence.ListenAsks.{ListenIsFine}
+use Rattle.wasi_walks.proofs.licence.ListenAsks.{Allowed, BindAllowed, BothAllowed, BoundNow, Over, Untold, Whole, WholeUnbound, ListenLeft, IsFree, ListenIsFine}
 use Rattle.wasi_walks.proofs.licence.Frames.{Goes, began_more, works_more, record_more}
 use Rattle.wasi_walks.proofs.licence.UdpFrames.{standing_more, udp_more}
 
@@ -29,7 +34,7 @@ module _ (steps more : List Step) where
   may_more contexts before op (Call.Lookup host) h = began_more on op _ h
   may_more contexts before op (Call.TcpCreate ctx family) h = began_more on op _ h
   may_more contexts before op (Call.UdpCreate ctx family) h = began_more on op _ h
-  may_more contexts before op (Call.Bind sock addr) h = (reach_more before op sock h.0, began_more on op _ h.1, h.2, began_more on sock _ h.3)
+  may_more contexts before op (Call.Bind sock addr) h = (reach_more before op sock h.0, elim h.1 [ inl by_bind ↦ inl (began_more on op _ by_bind) | inr by_listen ↦ inr (began_more on op _ by_listen.0, by_listen.1) ], h.2, began_more on sock _ h.3)
   may_more contexts before op (Call.UdpBind sock addr) h = (reach_more before op sock h.0, began_more on op _ h.1, h.2, began_more on sock _ h.3)
   may_more contexts before op (Call.UdpConnect sock addr) h = (reach_more before op sock h.0, began_more on op _ h.1, h.2, h.3, h.4, began_more on sock _ h.5)
   may_more contexts before op (Call.Listen sock backlog) h = (reach_more before op sock h.0, began_more on op _ h.1, h.2, began_more on sock _ h.3)
@@ -46,6 +51,14 @@ module _ (steps more : List Step) where
   may_more contexts before op _ h = reach_more before op _ h
 
   -- == the state
+  call_more : (contexts : List WasiSocketsCtx) (line : ℕ) (call : BesideCall) → CallIsFine contexts steps line call → CallIsFine contexts (steps ++ more) line call
+  call_more contexts line (Connect place) h = tt
+  call_more contexts line (Resolve host) h = began_more on (own_of line) _ h
+
+  besides_more : (contexts : List WasiSocketsCtx) (beside : List Beside) → BesidesAreFine contexts steps beside → BesidesAreFine contexts (steps ++ more) beside
+  besides_more contexts [] h = tt
+  besides_more contexts (b ∷ bs) h = (call_more contexts b.line b.call h.0, besides_more contexts bs h.1)
+
   pub state_more : (contexts : List WasiSocketsCtx) (es : List Entry) (m : Machine) → StateIsFine contexts steps es m → StateIsFine contexts (steps ++ more) es m
   state_more contexts es m h = record {
     count = h.count;
@@ -53,6 +66,7 @@ module _ (steps more : List Step) where
     records = λ place r e. subst (λ (fs : List Entry). RecordIsFine (steps ++ more) fs r) (append-nil es) (record_more on es [] r (h.records place r e));
     udp = λ place u e. subst (λ (fs : List Entry). UdpIsFine (steps ++ more) fs u) (append-nil es) (udp_more on es [] u (h.udp place u e));
     lookups = λ place op e. began_more on op.id _ (h.lookups place op e);
+    besides = besides_more contexts m.store.beside h.besides;
     standing = λ s e. subst (λ (fs : List Entry). StandingIsFine (steps ++ more) fs m.store.records s) (append-nil es) (standing_more on es [] m.store.records s (h.standing s e));
     accepts = h.accepts;
     one = h.one;
@@ -61,14 +75,26 @@ module _ (steps more : List Step) where
   pub tcp_more : (side : OpId) → BeganBy steps side MakesTcp → BeganBy (steps ++ more) side MakesTcp
   tcp_more side h = began_more on side MakesTcp h
 
+  free_longer : (es : List Entry) (op side : OpId) (maker : ℕ) (family : SocketAddressFamily) → IsFree steps es op side maker family → IsFree (steps ++ more) es op side maker family
+  free_longer es op side maker family f = record { anywhere = began_more on op _ f.anywhere; maker_is = f.maker_is; wild = f.wild }
+
+  left_longer : (es : List Entry) (op side : OpId) (maker : ℕ) (items : List Item) → ListenLeft steps es op side maker items → ListenLeft (steps ++ more) es op side maker items
+  left_longer es op side maker _ (Whole backlog b) = Whole backlog b
+  left_longer es op side maker _ (Untold a backlog b h) = Untold a backlog b h
+  left_longer es op side maker _ (Allowed a backlog b h y) = Allowed a backlog b h y
+  left_longer es op side maker _ (WholeUnbound family backlog f) = WholeUnbound family backlog (free_longer es op side maker family f)
+  left_longer es op side maker _ (BindAllowed family backlog f y) = BindAllowed family backlog (free_longer es op side maker family f) y
+  left_longer es op side maker _ (BothAllowed family backlog f y z) = BothAllowed family backlog (free_longer es op side maker family f) y z
+  left_longer es op side maker _ (BoundNow family backlog f y z) = BoundNow family backlog (free_longer es op side maker family f) y z
+  left_longer es op side maker _ (Over h) = Over h
+
   pub listen_more : (es : List Entry) (op : Operation) → ListenIsFine steps es op → ListenIsFine (steps ++ more) es op
   listen_more es op h = record {
     to = began_more on op.who.id _ h.to;
     tcp = tcp_more op.who.side h.tcp;
     works = subst (λ (fs : List Entry). WorksOn (steps ++ more) fs op.who.id op.who.side op.who.context) (append-nil es) (works_more on es [] op.who.id op.who.side op.who.context h.works);
-    bound = h.bound;
     last = h.last;
-    so_far = h.so_far;
+    so_far = left_longer es op.who.id op.who.side op.who.context op.left h.so_far;
   }
 
 module _ (contexts : List WasiSocketsCtx) (steps : List Step) where

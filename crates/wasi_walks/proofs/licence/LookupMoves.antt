@@ -1,4 +1,5 @@
 -- Where lookups change, the sockets among the records are the same, and the state still fits the log.
+use Rattle.wasi_walks.proofs.walks.Here.{end_place}
 use Rattle.wasi_walks.proofs.Words.{Entry, HandleTable, Kind, List, Machine, None, Option, Some, Step, TcpRecord, WasiSocketsCtx, ap, kind_at, refl, sym, ℕ, ◌∙◌, ◌≡◌}
 use Rattle.wasi_walks.proofs.GoneLists.{stays_there, was_there}
 use Rattle.wasi_walks.proofs.owners.Owned.{NoneOf, Owned, named_by, none_named, tcp_names, udp_names}
@@ -8,17 +9,21 @@ use Rattle.wasi_records.specs.Records.{lookup_of, tcp2_at, tcp2_of, udp2_of}
 use Rattle.wasi_records.specs.declared.name_lookup.Lookup.{Lookup}
 use Rattle.wasi_walks.proofs.walks.Moves.{Found, Here, SameSockets, record_of, udp_record_of, with_records, without_record}
 use Rattle.wasi_walks.proofs.licence.Lookups.{LookupIsFine, lookups_same}
-use Rattle.wasi_walks.proofs.licence.State.{HandleIsFine, NamesIf, NamesUdpIf, StateIsFine}
+use Rattle.wasi_walks.proofs.licence.State.{NamesEndIf, HandleIsFine, NamesIf, NamesUdpIf, StateIsFine}
 use Rattle.wasi_walks.proofs.licence.UdpFrames.{KeepsSides, handle_kept, standing_kept}
 use Rattle.wasi_walks.proofs.licence.Line.{Licensed}
 use Rattle.wasi_records.specs.declared.name_lookup.LookupOp.{LookupOp}
 use Rattle.wasi_records.specs.declared.records.Record.{Record}
+use Rattle.wasi_records.specs.declared.records.Record.TheVariants.{Gone}
+use Rattle.wasi_walks.proofs.Places.{there_put}
 
 -- each socket is still there
 sides_same : {new : LookupOp → Type 0} (old now : List Record) → SameSockets new old now → KeepsSides old now
 sides_same old now s = record {
   tcp = λ place r e. record { found = r; at = s.tcp place ∙ e; same = refl };
   udp = λ place u e. record { found = u; at = s.udp place ∙ e; same = refl };
+  there = s.there;
+  was = λ place r h e. record { found = r; at = sym (s.tcp place) ∙ e; same = refl };
 }
 
 module _ {contexts : List WasiSocketsCtx} {steps : List Step} (new : LookupOp → Type 0) (fine : (op : LookupOp) → new op → LookupIsFine contexts steps op) where
@@ -32,6 +37,7 @@ module _ {contexts : List WasiSocketsCtx} {steps : List Step} (new : LookupOp �
         records = λ place r e. h.records place r (sym (s.tcp place) ∙ e);
         udp = λ place u e. h.udp place u (sym (s.udp place) ∙ e);
         lookups = lookups_same contexts steps new m.store.records records s fine h.lookups;
+        besides = h.besides;
         standing = λ c e. standing_kept es m.store.records records k c (h.standing c e);
         accepts = λ place r e. h.accepts place r (sym (s.tcp place) ∙ e);
         one = λ i j r q x a b. h.one i j r q x (sym (s.tcp i) ∙ a) (sym (s.tcp j) ∙ b);
@@ -48,7 +54,8 @@ module _ {contexts : List WasiSocketsCtx} {steps : List Step} (new : LookupOp �
         listens = λ k r op e b. i.listens k r op (tcp k r e) b;
         new = i.new;
         unmade = i.unmade;
-        joined = λ p e. (let j = i.joined p e in record { new = j.new; on = j.on; peer = j.peer; context = j.context; listener = j.listener; by = j.by; side = λ r d. j.side r (tcp p r d); of_listener = j.of_listener; handed = j.handed; fresh = j.fresh });
+        joined = λ face p e. (let j = i.joined face p e in record { new = j.new; on = j.on; peer = j.peer; listener = j.listener; by = j.by; side = λ r d. j.side r (tcp p r d); of_listener = j.of_listener; handed = j.handed; fresh = j.fresh });
+        faulted = λ p e r d. i.faulted p e r (tcp p r d);
         marked = λ handle p e r d. i.marked handle p e r (tcp p r d);
         making = i.making;
       }
@@ -67,8 +74,12 @@ module _ (es : List Entry) (t : HandleTable) (old : List Record) (place : ℕ) (
   udp_left (Some k) q h = record { found = h.found; at = stays_there udp2_of old place k h.found (another k (udp_names kind k q)) h.at; marked = h.marked }
   udp_left None q h = tt
 
+  end_left : (o : Option ℕ) → NamesEndIf es old handle o → NamesEndIf es (record_gone old place) handle o
+  end_left (Some k) h = record { there = there_put old place Gone k h.there; marked = λ r e. h.marked r (was_there tcp2_of refl old place k r e) }
+  end_left None h = tt
+
   handle_left : HandleIsFine es old handle kind → HandleIsFine es (record_gone old place) handle kind
-  handle_left h = (tcp_left (record_of (Some kind)) refl h.0, udp_left (udp_record_of (Some kind)) refl h.1, h.2, h.3)
+  handle_left h = (tcp_left (record_of (Some kind)) refl h.0, udp_left (udp_record_of (Some kind)) refl h.1, h.2, h.3, end_left (end_place kind) h.4)
 
 module _ {contexts : List WasiSocketsCtx} {steps : List Step} where
   -- nothing is pending
@@ -81,6 +92,7 @@ module _ {contexts : List WasiSocketsCtx} {steps : List Step} where
         records = λ k r e. h.records k r (tcp k r e);
         udp = λ k u e. h.udp k u (was_there udp2_of refl m.store.records place k u e);
         lookups = λ k op e. h.lookups k op (was_there lookup_of refl m.store.records place k (Lookup.InProgress op) e);
+        besides = h.besides;
         standing = λ c e. absurd (let never : None ≡ Some c = sym idle ∙ e in cc);
         accepts = λ k r e. h.accepts k r (tcp k r e);
         one = λ i j r q x a b. h.one i j r q x (tcp i r a) (tcp j q b);
@@ -96,7 +108,8 @@ module _ {contexts : List WasiSocketsCtx} {steps : List Step} where
         listens = λ k r op e b. i.listens k r op (tcp k r e) b;
         new = i.new;
         unmade = i.unmade;
-        joined = λ p e. (let j = i.joined p e in record { new = j.new; on = j.on; peer = j.peer; context = j.context; listener = j.listener; by = j.by; side = λ r d. j.side r (tcp p r d); of_listener = j.of_listener; handed = j.handed; fresh = j.fresh });
+        joined = λ face p e. (let j = i.joined face p e in record { new = j.new; on = j.on; peer = j.peer; listener = j.listener; by = j.by; side = λ r d. j.side r (tcp p r d); of_listener = j.of_listener; handed = j.handed; fresh = j.fresh });
+        faulted = λ p e r d. i.faulted p e r (tcp p r d);
         marked = λ handle p e r d. i.marked handle p e r (tcp p r d);
         making = i.making;
       }

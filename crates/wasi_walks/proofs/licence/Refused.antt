@@ -4,7 +4,7 @@ use Rattle.wasi_walks.proofs.Words.{IsTcpCreate, List, NamesSide, None, OpId, Re
 use Rattle.wasi_walks.proofs.Words.{WasiSocketsCtx, [], ap, arith, entry, false, inl, inr, own_of, port_of, refl, subst, true, wildcard, ℕ, ⊤, ◌++◌}
 use Rattle.wasi_walks.proofs.Words.{◌∷◌, ◌≡◌}
 use Rattle.wasi_walks.proofs.licence.Rows.{begins, creates, allowed, two_contexts, forbidden, local_80, bind_script}
-use Rattle.wasi_walks.specs.Licence.{IsDisconnect, IsUdpConnectTo, Receives, UdpCreated}
+use Rattle.wasi_walks.specs.Licence.{BeganBy, BindsAnywhere, IsDisconnect, IsUdpConnectTo, Receives, UdpCreated}
 use Rattle.wasi_addr.specs.declared.code.ErrorCode.TheVariants as code
 use Rattle.wasi_world.specs.declared.call.HandleKind.TheVariants as kind
 
@@ -130,9 +130,13 @@ at_line P s x e h = let p : x ≡ s = cc in subst P p h
 other_address : IsLicensed allowed bind_script (asks_81 ++ bind_81 ∷ []) [] → ⊥
 other_address h =
     let may = h.each asks_81 bind_81 [] refl in
-    let same = at_line (IsBindTo local_81) (Step.Call 0 (GuestCall.TcpStartBind 2 1 local_80)) may.1.origin may.1.at may.1.holds in
-    let port = ap port_of same in
-    omega arith
+    elim may.1 [ inl by_bind ↦ bound by_bind | inr by_listen ↦ at_line BindsAnywhere (Step.Call 0 (GuestCall.TcpStartBind 2 1 local_80)) by_listen.0.origin by_listen.0.at by_listen.0.holds ]
+  where
+    bound : BeganBy bind_script bind_81.op (IsBindTo local_81) → ⊥
+    bound b =
+        let same = at_line (IsBindTo local_81) (Step.Call 0 (GuestCall.TcpStartBind 2 1 local_80)) b.origin b.at b.holds in
+        let port = ap port_of same in
+        omega arith
 
 -- == another address than the line's is checked
 other_check : IsLicensed allowed bind_script (asks_81 ++ bind_80 ∷ []) [] → ⊥

@@ -87,7 +87,7 @@ bind_licensed = licensed allowed bind_script bind_log (
           (
             (
               inl (names_socket _ (inr (inr (inl refl)))),
-              record { origin = Step.Call 0 (GuestCall.TcpStartBind 2 1 local_80); at = refl; holds = refl },
+              inl (record { origin = Step.Call 0 (GuestCall.TcpStartBind 2 1 local_80); at = refl; holds = refl }),
               record { ctx = 0; family = SocketAddressFamily.Ipv4; maker = Created (own_of 2) Told.Done (inr (inl refl)); checked = inr (inr (inr (inr (inl refl)))) },
               record { origin = Step.Call 0 (GuestCall.TcpCreate SocketAddressFamily.Ipv4); at = refl; holds = tt },
             ),

@@ -6,14 +6,16 @@ use Rattle.wasi_walks.proofs.Words.{NamesSide, None, Nothing, NothingLast, OpId,
 use Rattle.wasi_walks.proofs.Words.{SocketAddressFamily, Some, Standing, Step, Streams, TcpRecord, TcpBind, TcpConnect, TcpState, Told, WasiSocketsCtx, Write}
 use Rattle.wasi_walks.proofs.Words.{WriteState, Yes, [], call_place, entry, kind_at, marks_in, own_of, side_of, true, wildcard, ℕ, ⊤, ◌++◌}
 use Rattle.wasi_walks.proofs.Words.{◌+◌, ◌∷◌, ◌≡◌}
-use Rattle.wasi_walks.proofs.walks.Moves.{Interface, MakesUdpFor, record_of, udp_record_of, sending_in, receiving_in, IsOfHandle, CallKind, IsCall, kind_of}
+use Rattle.wasi_walks.proofs.walks.Moves.{Interface, ListensFor, MakesUdpFor, record_of, udp_record_of, sending_in, receiving_in, IsOfHandle, CallKind, IsCall, kind_of}
+use Rattle.wasi_walks.proofs.licence.Besides.{BesidesAreFine}
 use Rattle.wasi_walks.proofs.licence.Lookups.{LookupsAreFine, NamesNone}
 use Rattle.wasi_host.specs.Blocking.{blocking_handles}
 use Rattle.wasi_host.specs.Kinds.{name_of}
 use Rattle.wasi_tcp.specs.declared.writer.WriteError.{WriteError}
 use Rattle.wasi_world.specs.Operation.{End, Refused}
 use Rattle.wasi_walks.specs.Licence.{handles_of, IsMarkedAs, WriteFailed, IsRemote, IsSendOf, IsStreamOf, IsUdpBindTo, IsUdpConnectTo, MakesTcp, MakesUdp, MaySendOut, Receives, WasDisconnected}
-use Rattle.std.specs.Prelude.{Bool, ◌⊎◌}
+use Rattle.std.specs.Prelude.{Bool, IsSome, slice_get, ◌⊎◌}
+use Rattle.wasi_walks.proofs.walks.Here.{end_place}
 use Rattle.wasi_world.specs.declared.datagram.OutgoingDatagram.{OutgoingDatagram}
 use Rattle.wasi_host.specs.declared.store.StandingCall.{StandingCall}
 use Rattle.wasi_udp.specs.Receive.{IsLeftOfReceive}
@@ -47,14 +49,25 @@ abbrev pub NamesUdpIf : List Entry → List Record → ℕ → Option ℕ → Ty
 NamesUdpIf es records handle (Some place) = NamesUdp es records handle place
 NamesUdpIf es records handle None = ⊤
 
+-- The handle is of an end of the connection that had its place here: its mark says the network socket that the record was made
+-- with, where that is there still.
+pub record NamesEnd (es : List Entry) (records : List Record) (handle place : ℕ) : Type 0 where
+  pub there : IsSome (slice_get records place)
+  pub marked : (r : TcpRecord) → tcp2_at records place ≡ Some r → IsMarkedWith es handle r.side
+
+abbrev pub NamesEndIf : List Entry → List Record → ℕ → Option ℕ → Type 0
+NamesEndIf es records handle (Some place) = NamesEnd es records handle place
+NamesEndIf es records handle None = ⊤
+
 -- what the mark of a handle of this kind says of its network socket
 abbrev pub NamesItsOwn : List Entry → List Record → ℕ → Kind → Type 0
-NamesItsOwn es records handle kind = NamesIf es records handle (record_of (Some kind)) × NamesUdpIf es records handle (udp_record_of (Some kind)) × NamesNone es handle kind
+NamesItsOwn es records handle kind =
+    NamesIf es records handle (record_of (Some kind)) × NamesUdpIf es records handle (udp_record_of (Some kind)) × NamesNone es handle kind × NamesEndIf es records handle (end_place kind)
 
 -- and its mark says which kind it is
 abbrev pub HandleIsFine : List Entry → List Record → ℕ → Kind → Type 0
 HandleIsFine es records handle kind =
-    NamesIf es records handle (record_of (Some kind)) × NamesUdpIf es records handle (udp_record_of (Some kind)) × NamesNone es handle kind × IsMarkedAs es handle (name_of kind)
+    NamesIf es records handle (record_of (Some kind)) × NamesUdpIf es records handle (udp_record_of (Some kind)) × NamesNone es handle kind × IsMarkedAs es handle (name_of kind) × NamesEndIf es records handle (end_place kind)
 
 -- The socket knows the creator of its network socket, and the network socket's family.
 pub record KnowsMaker (es : List Entry) (socket : Socket) : Type 0 where
@@ -375,12 +388,17 @@ module _ (steps : List Step) where
   abbrev pub MakesStreams : ℕ → ℕ → Type 0
   MakesStreams line handle = BeganBy steps (own_of line) (IsStreamOf handle)
 
+  -- where a socket listens for this line, its step says under which handle its listener gets one, or that it gets none
+  abbrev pub MakesListener : ℕ → Option ℕ → Type 0
+  MakesListener line marks = BeganBy steps (own_of line) (ListensFor marks)
+
   -- where a call of this kind is done for this line on these handles, its step is such a call, and names them
   abbrev pub MakesCalls : CallKind → ℕ → List ℕ → Type 0
   MakesCalls kind line handles = BeganBy steps (own_of line) (λ s. IsCall kind s × (handles_of s ≡ handles))
 
   abbrev pub StreamsStand : ℕ → StandingCall → Type 0
   StreamsStand line (StandingCall.UdpConnect place handle) = MakesStreams line handle
+  StreamsStand line (StandingCall.Listen place marks) = MakesListener line marks
   StreamsStand line (StandingCall.Blocking call) = MakesCalls (kind_of call) line (blocking_handles call)
   StreamsStand line _ = ⊤
 
@@ -404,6 +422,7 @@ pub record StateIsFine (contexts : List WasiSocketsCtx) (steps : List Step) (es 
   pub records : (place : ℕ) (r : TcpRecord) → tcp2_at m.store.records place ≡ Some r → RecordIsFine steps es r
   pub udp : (place : ℕ) (u : UdpRecord) → udp2_at m.store.records place ≡ Some u → UdpIsFine steps es u
   pub lookups : LookupsAreFine contexts steps m.store.records
+  pub besides : BesidesAreFine contexts steps m.store.beside
   pub standing : (c : Standing) → m.store.standing ≡ Some c → StandingIsFine steps es m.store.records c
   pub accepts : (place : ℕ) (r : TcpRecord) → tcp2_at m.store.records place ≡ Some r → ListeningStands es r.listening
   pub one : OneHolds m.store.records

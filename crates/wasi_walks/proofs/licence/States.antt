@@ -13,6 +13,7 @@ use Rattle.wasi_jobs.specs.declared.job.HostJob.{HostJob}
 use Rattle.wasi_records.specs.declared.records.Record.TheVariants.{Tcp, Udp}
 use Rattle.wasi_records.specs.declared.udp.UdpRecord.{UdpRecord}
 use Rattle.wasi_walks.proofs.Lists.{has_last, marks_in-push, value_split}
+use Rattle.wasi_walks.proofs.licence.Besides.{BesidesAreFine}
 use Rattle.wasi_walks.proofs.licence.Lookups.{lookups_put, lookups_push}
 use Rattle.wasi_walks.proofs.licence.State.{HandleIsFine, NamesItsOwn, ListeningStands, accept_name, SocketIsFine, RecordIsFine, UdpIsFine, StandingIsFine, StateIsFine}
 use Rattle.wasi_walks.proofs.licence.Frames.{Spared, stands_more, KeepsListening, Only, stands_put, one_put, stands_push, one_push, stay, record_more}
@@ -29,6 +30,7 @@ module _ (contexts : List WasiSocketsCtx) (steps : List Step) where
     records = λ place r e. record_more (stay steps) es _ r (h.records place r e);
     udp = λ place u e. udp_more (stay steps) es _ u (h.udp place u e);
     lookups = h.lookups;
+    besides = h.besides;
     standing = λ s e. standing_more (stay steps) es _ m.store.records s (h.standing s e);
     accepts = λ place r e. stands_more es op c told r.listening (h.accepts place r e) (λ x n. q place r x e n);
     one = h.one;
@@ -46,11 +48,12 @@ module _ (contexts : List WasiSocketsCtx) (steps : List Step) where
           let e = entry op (Made m.table.next (name_of kind) parent sock) told in
           let fs = es ++ e ∷ [] in
           let marked : IsMarkedAs fs m.table.next (name_of kind) = record { op = op; parent = parent; sock = sock; told = told; mark = has_last es e } in
-          subst (HandleIsFine fs m.store.records handle) g.1 (subst (λ (n : ℕ). HandleIsFine fs m.store.records n kind) g.0 (f.0, f.1, f.2, marked)))
+          subst (HandleIsFine fs m.store.records handle) g.1 (subst (λ (n : ℕ). HandleIsFine fs m.store.records n kind) g.0 (f.0, f.1, f.2, marked, f.3)))
     ];
     records = λ place r e. record_more (stay steps) es _ r (h.records place r e);
     udp = λ place u e. udp_more (stay steps) es _ u (h.udp place u e);
     lookups = h.lookups;
+    besides = h.besides;
     standing = λ s e. standing_more (stay steps) es _ m.store.records s (h.standing s e);
     accepts = λ place r e. stands_more es op _ told r.listening (h.accepts place r e) (λ x n. q place r x e n);
     one = h.one;
@@ -64,6 +67,7 @@ module _ (contexts : List WasiSocketsCtx) (steps : List Step) where
     records = h.records;
     udp = h.udp;
     lookups = h.lookups;
+    besides = h.besides;
     standing = h.standing;
     accepts = h.accepts;
     one = h.one;
@@ -82,6 +86,7 @@ module _ (contexts : List WasiSocketsCtx) (steps : List Step) where
     ];
     udp = λ i u e. h.udp i u (put_was tcp_sort udp_sort (λ t. refl) m.store.records place now i u e);
     lookups = lookups_put contexts steps m.store.records place (Tcp now) refl h.lookups;
+    besides = h.besides;
     standing = λ s e. standing_kept es m.store.records _ (sides_put m.store.records place old now g k) s (h.standing s e);
     accepts = stands_put es m.store.records place now a h.accepts;
     one = one_put m.store.records place now o h.one;
@@ -104,6 +109,7 @@ module _ (contexts : List WasiSocketsCtx) (steps : List Step) where
     ];
     udp = λ i u e. h.udp i u (push_was tcp_sort udp_sort (λ t. refl) m.store.records now i u e);
     lookups = lookups_push contexts steps m.store.records (Tcp now) refl h.lookups;
+    besides = h.besides;
     standing = λ s e. standing_kept es m.store.records _ (sides_push m.store.records now) s (h.standing s e);
     accepts = stands_push es m.store.records now a h.accepts;
     one = one_push m.store.records now n h.one;
@@ -123,6 +129,7 @@ module _ (contexts : List WasiSocketsCtx) (steps : List Step) where
       | inr q ↦ h.udp i u q
     ];
     lookups = lookups_put contexts steps m.store.records place (Udp now) refl h.lookups;
+    besides = h.besides;
     standing = λ s e. standing_kept es m.store.records _ (sides_put_udp m.store.records place old now g k) s (h.standing s e);
     accepts = λ i r e. h.accepts i r (put_was udp_sort tcp_sort (λ t. refl) m.store.records place now i r e);
     one = λ i j r s x a b. h.one i j r s x (put_was udp_sort tcp_sort (λ t. refl) m.store.records place now i r a) (put_was udp_sort tcp_sort (λ t. refl) m.store.records place now j s b);
@@ -139,6 +146,7 @@ module _ (contexts : List WasiSocketsCtx) (steps : List Step) where
       | inr q ↦ subst (UdpIsFine steps es) q.0 f
     ];
     lookups = lookups_push contexts steps m.store.records (Udp now) refl h.lookups;
+    besides = h.besides;
     standing = λ s e. standing_kept es m.store.records _ (sides_push_udp m.store.records now) s (h.standing s e);
     accepts = λ i r e. h.accepts i r (push_was udp_sort tcp_sort (λ t. refl) m.store.records now i r e);
     one = λ i j r s x a b. h.one i j r s x (push_was udp_sort tcp_sort (λ t. refl) m.store.records now i r a) (push_was udp_sort tcp_sort (λ t. refl) m.store.records now j s b);
@@ -152,6 +160,7 @@ module _ (contexts : List WasiSocketsCtx) (steps : List Step) where
     records = h.records;
     udp = h.udp;
     lookups = h.lookups;
+    besides = h.besides;
     standing = λ d e. subst (StandingIsFine steps es m.store.records) (same c d e) f;
     accepts = h.accepts;
     one = h.one;
@@ -162,12 +171,12 @@ module _ (contexts : List WasiSocketsCtx) (steps : List Step) where
 
   -- none is pending
   pub state_unstands : (es : List Entry) (m : Machine) → StateIsFine contexts steps es m → StateIsFine contexts steps es (record m { store = record m.store { standing = None } })
-  state_unstands es m h = record { count = h.count; handles = h.handles; records = h.records; udp = h.udp; lookups = h.lookups; standing = λ d e. absurd (cc); accepts = h.accepts; one = h.one }
+  state_unstands es m h = record { count = h.count; handles = h.handles; records = h.records; udp = h.udp; lookups = h.lookups; besides = h.besides; standing = λ d e. absurd (cc); accepts = h.accepts; one = h.one }
 
-  -- which calls stand beside others is nothing to it
-  pub state_beside : (es : List Entry) (m : Machine) (beside : List Beside) → StateIsFine contexts steps es m → StateIsFine contexts steps es (record m { store = record m.store { beside = beside } })
-  state_beside es m beside h = record { count = h.count; handles = h.handles; records = h.records; udp = h.udp; lookups = h.lookups; standing = h.standing; accepts = h.accepts; one = h.one }
+  -- other calls stand beside others
+  pub state_beside : (es : List Entry) (m : Machine) (beside : List Beside) → BesidesAreFine contexts steps beside → StateIsFine contexts steps es m → StateIsFine contexts steps es (record m { store = record m.store { beside = beside } })
+  state_beside es m beside f h = record { count = h.count; handles = h.handles; records = h.records; udp = h.udp; lookups = h.lookups; besides = f; standing = h.standing; accepts = h.accepts; one = h.one }
 
   -- which writes are in progress is nothing to it
   pub state_jobs : (es : List Entry) (m : Machine) (jobs : List HostJob) → StateIsFine contexts steps es m → StateIsFine contexts steps es (record m { store = record m.store { jobs = jobs } })
-  state_jobs es m jobs h = record { count = h.count; handles = h.handles; records = h.records; udp = h.udp; lookups = h.lookups; standing = h.standing; accepts = h.accepts; one = h.one }
+  state_jobs es m jobs h = record { count = h.count; handles = h.handles; records = h.records; udp = h.udp; lookups = h.lookups; besides = h.besides; standing = h.standing; accepts = h.accepts; one = h.one }

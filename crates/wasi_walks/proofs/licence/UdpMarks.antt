@@ -1,17 +1,17 @@
 -- What a line asks of a UDP socket by its own operation is licensed, and so are a create and the mark of its handle.
-use Rattle.wasi_walks.proofs.Words.{Allows, BeganBy, Bool, Call, Entry, IsAddr, IsDoneOrCode, IsMarkOf, Has, List, MarksNoSocket, MayAsk, Ok, None, OpId, Option}
+use Rattle.wasi_walks.proofs.Words.{Allows, BeganBy, Bool, Call, Entry, IsAddr, IsDoneOrCode, IsMarkOf, Has, List, MarksNoSocket, Ok, None, OpId, Option}
 use Rattle.wasi_walks.proofs.Words.{SocketAddressFamily, Some, GuestCall, Step, Told, WasiSocketsCtx, [], allows_if, allows_weaker, ap, bind, context_at, context_in, entry, false}
 use Rattle.wasi_walks.proofs.Words.{if◌then◌else◌, inl, inr, is_full, is_wildcard, make_asks, own_of, refl, slice_get, step_at, subst, sym, told_addr}
 use Rattle.wasi_walks.proofs.Words.{told_done, true, ℕ, ◌++◌, ◌∙◌, ◌∷◌, ◌≡◌}
 use Rattle.wasi_walks.specs.Licence.{IsTcpName, IsDisconnect, IsGetOf, IsMarkedWith, IsSetTo, IsStreamOf, IsUdpCreate, MayUseUdp, UdpCreated}
-use Rattle.wasi_walks.proofs.walks.Moves.{Here, Made, MarksNext, one_stream, put_udp, FoundUdp, CreatesUdp, Interface, IsCreated, MakesUdpFor, P2, P3, udp_begun, udp_record_of, part_of, ToSend, IsUdpQuestionOf, Past, Joined, Marked}
+use Rattle.wasi_walks.proofs.walks.Moves.{Faulted, Here, Made, MarksNext, one_stream, put_udp, FoundUdp, CreatesUdp, Interface, IsCreated, MakesUdpFor, P2, P3, udp_begun, udp_record_of, part_of, ToSend, IsUdpQuestionOf, Past, Joined, Marked}
 use Rattle.wasi_walks.proofs.Lists.{has_front, has_last, has_split}
 use Rattle.wasi_walks.specs.Licence.{MakesTcp, MakesUdp}
 use Rattle.wasi_walks.proofs.licence.State.{NamesItsOwn, MakesStreams, Names, NamesUdp, UdpMade, UdpIsFine, OpenIsFine}
 use Rattle.wasi_walks.proofs.licence.Frames.{NoMark, handed_unless, stay, names_on}
 use Rattle.wasi_walks.proofs.licence.States.{state_made, state_joined_udp}
 use Rattle.wasi_walks.proofs.licence.Fresh.{NoMadeBy}
-use Rattle.wasi_walks.proofs.licence.Line.{remade, Licensed, MakingStands, names_udp, elsewhere, put_udp_fine, spent}
+use Rattle.wasi_walks.proofs.licence.Line.{IsAccept, remade, Licensed, MakingStands, names_udp, elsewhere, put_udp_fine, spent}
 use Rattle.wasi_walks.proofs.licence.Asked.{Spares, spares, asked_fine, listens_on, joined_on, own_line}
 use Rattle.wasi_walks.proofs.licence.Marks.{socket_touch, unmarked_made}
 use Rattle.wasi_walks.proofs.licence.UdpMoves.{names_part, open_at_place}
@@ -31,6 +31,7 @@ use Rattle.wasi_udp.specs.Create.{after_create, new_create}
 use Rattle.wasi_udp.specs.Shape.{Socket}
 use Rattle.wasi_udp.specs.Socket.{after_local, after_peer}
 use Rattle.wasi_walks.proofs.Places.{push_was, tcp_sort, udp_sort}
+use Rattle.wasi_walks.proofs.licence.Unbound.{MayAskSo}
 
 module _ (contexts : List WasiSocketsCtx) (steps : List Step) (line : ℕ) (origin : Step) (is_line : step_at steps line ≡ Some origin) where
   -- == a UDP socket's network socket is none of a TCP socket's
@@ -47,7 +48,7 @@ module _ (contexts : List WasiSocketsCtx) (steps : List Step) (line : ℕ) (orig
   udp_spares es h side c by its i k q op g e p = kinds_apart op.who.side (i.listens k q op g e).tcp (subst (λ (o : OpId). BeganBy steps o MakesUdp) (its op.who.side p) by)
 
   -- a question may be asked, and what is asked is no mark
-  udp_may : (n : ℕ) (es : List Entry) (side : OpId) (c : Call) → IsUdpQuestionOf line origin n side c → Names steps es (own_of n) side → MayAsk contexts steps es (own_of n) c × NoMark c
+  udp_may : (n : ℕ) (es : List Entry) (side : OpId) (c : Call) → IsUdpQuestionOf line origin n side c → Names steps es (own_of n) side → MayAskSo contexts steps es (own_of n) c × NoMark c
   udp_may n es side (Call.Local s) q k = (inl (subst (Names steps es (own_of n)) (sym q) k), tt)
   udp_may n es side (Call.GetOption s o) q k = ((inl (subst (Names steps es (own_of n)) (sym q.0) k), own_line contexts steps line origin is_line n (IsGetOf o) q.1 q.2), tt)
   udp_may n es side (Call.SetOption s o v) q k = ((inl (subst (Names steps es (own_of n)) (sym q.0) k), own_line contexts steps line origin is_line n (IsSetTo o v) q.1 q.2), tt)
@@ -62,14 +63,14 @@ module _ (contexts : List WasiSocketsCtx) (steps : List Step) (line : ℕ) (orig
   asked_open es h place o op c g m its i told = asked_fine contexts steps line origin is_line es h op c told m (udp_spares es h o.inner.side c (open_at_place contexts steps line origin is_line es h place o g i).made.by its i) i
 
   pub udp_asked : (es : List Entry) (h : Here) (place n : ℕ) (o : OpenUdp) (c : Call) → h.at ≡ Some (place, n) → FoundUdp h place (UdpRecord.Open o) → IsUdpQuestionOf line origin n o.inner.side c → Licensed contexts steps line origin es h
-      → MayAsk contexts steps es (own_of n) c × ((told : Told) → Licensed contexts steps line origin (es ++ entry (own_of n) c told ∷ []) h)
+      → MayAskSo contexts steps es (own_of n) c × ((told : Told) → Licensed contexts steps line origin (es ++ entry (own_of n) c told ∷ []) h)
   udp_asked es h place n o c at g q i =
       let k = udp_may n es o.inner.side c q (i.udp_names place n (UdpRecord.Open o) at g) in
       (k.0, asked_open es h place o (own_of n) c g k.1 (λ x e. udp_local n o.inner.side x c q e) i)
 
   -- it is disconnected, and is bound from then on
   pub udp_disconnected : (es : List Entry) (h : Here) (place : ℕ) (o : OpenUdp) → h.at ≡ Some (place, line) → FoundUdp h place (UdpRecord.Open o) → IsDisconnect origin → Licensed contexts steps line origin es h
-      → MayAsk contexts steps es (own_of line) (Call.UdpDisconnect o.inner.side) × ((told : Told) → Licensed contexts steps line origin (es ++ entry (own_of line) (Call.UdpDisconnect o.inner.side) told ∷ []) (put_udp h place (UdpRecord.Open (with_udp_inner o (record o.inner { bound = true })))))
+      → MayAskSo contexts steps es (own_of line) (Call.UdpDisconnect o.inner.side) × ((told : Told) → Licensed contexts steps line origin (es ++ entry (own_of line) (Call.UdpDisconnect o.inner.side) told ∷ []) (put_udp h place (UdpRecord.Open (with_udp_inner o (record o.inner { bound = true })))))
   udp_disconnected es h place o at g is i = (
     (inl (i.udp_names place line (UdpRecord.Open o) at g), record { origin = origin; at = is_line; holds = is }),
     λ told.
@@ -83,7 +84,7 @@ module _ (contexts : List WasiSocketsCtx) (steps : List Step) (line : ℕ) (orig
 
   -- the remote address
   pub udp_peered : (es : List Entry) (h : Here) (place : ℕ) (o : OpenUdp) → h.at ≡ Some (place, line) → FoundUdp h place (UdpRecord.Open o) → Licensed contexts steps line origin es h
-      → MayAsk contexts steps es (own_of line) (Call.Peer o.inner.side) × ((told : Told) → Licensed contexts steps line origin (es ++ entry (own_of line) (Call.Peer o.inner.side) told ∷ []) (put_udp h place (UdpRecord.Open (with_udp_inner o (after_peer o.inner (told_addr told))))))
+      → MayAskSo contexts steps es (own_of line) (Call.Peer o.inner.side) × ((told : Told) → Licensed contexts steps line origin (es ++ entry (own_of line) (Call.Peer o.inner.side) told ∷ []) (put_udp h place (UdpRecord.Open (with_udp_inner o (after_peer o.inner (told_addr told))))))
   udp_peered es h place o at g i = (
     inl (i.udp_names place line (UdpRecord.Open o) at g),
     λ told.
@@ -119,7 +120,7 @@ module _ (contexts : List WasiSocketsCtx) (steps : List Step) (line : ℕ) (orig
   learned_side o _ = refl
 
   pub udp_learned : (es : List Entry) (h : Here) (place part : ℕ) (o : OpenUdp) → h.at ≡ Some (place, line) → FoundUdp h place (UdpRecord.Open o) → Licensed contexts steps line origin es h
-      → MayAsk contexts steps es (part_of line part) (Call.Local o.inner.side) × ((told : Told) → IsAddr told → Licensed contexts steps line origin (es ++ entry (part_of line part) (Call.Local o.inner.side) told ∷ []) (put_udp h place (UdpRecord.Open (with_udp_inner o (after_local o.inner (told_addr told)).1))))
+      → MayAskSo contexts steps es (part_of line part) (Call.Local o.inner.side) × ((told : Told) → IsAddr told → Licensed contexts steps line origin (es ++ entry (part_of line part) (Call.Local o.inner.side) told ∷ []) (put_udp h place (UdpRecord.Open (with_udp_inner o (after_local o.inner (told_addr told)).1))))
   udp_learned es h place part o at g i = (
     inl (names_part contexts steps line origin is_line es part o.inner.side (i.udp_names place line (UdpRecord.Open o) at g)),
     λ told fits.
@@ -155,8 +156,13 @@ module _ (contexts : List WasiSocketsCtx) (steps : List Step) (line : ℕ) (orig
   makes_udp face ctx family (Step.Call n (GuestCall.P3UdpCreate f)) c = tt
   makes_udp face ctx family _ c = c
 
-  creates_only : (face : Interface) (ctx : WasiSocketsCtx) (family : SocketAddressFamily) → CreatesUdp contexts ctx family face origin → (c s : ℕ) → origin ≡ Step.Call c (GuestCall.TcpAccept s) → ⊥
-  creates_only face ctx family k c s e = subst (CreatesUdp contexts ctx family face) e k
+  creates_only : (face : Interface) (ctx : WasiSocketsCtx) (family : SocketAddressFamily) → CreatesUdp contexts ctx family face origin → IsAccept origin → ⊥
+  creates_only face ctx family k is = no_accept origin k is
+    where
+      no_accept : (s : Step) → CreatesUdp contexts ctx family face s → IsAccept s → ⊥
+      no_accept (Step.Call n (GuestCall.TcpAccept listener)) k is = k
+      no_accept (Step.Call n (GuestCall.P3Accept listener remaining)) k is = k
+      no_accept _ k is = is
 
   -- a network socket that was made has its record
   created_so : (face : Interface) (fs : List Entry) (h : Here) (ctx : WasiSocketsCtx) (family : SocketAddressFamily) → CreatesUdp contexts ctx family face origin → h.at ≡ None → h.made ≡ Past → Has fs (entry (own_of line) (Call.UdpCreate ctx.name family) Told.Done) → Licensed contexts steps line origin fs h
@@ -169,8 +175,9 @@ module _ (contexts : List WasiSocketsCtx) (steps : List Step) (line : ℕ) (orig
         udp_names = λ p n u a e. absurd (no_place p n (sym nowhere ∙ a));
         listens = λ p q op d m. j.listens p q op (push_was udp_sort tcp_sort (λ t. refl) h.machine.store.records now p q d) m;
         new = λ x t. absurd t;
-        unmade = λ e d s is. absurd (creates_only face ctx family c d s is);
-        joined = λ p e. absurd (not_joined p (sym past ∙ e));
+        unmade = λ e is. absurd (creates_only face ctx family c is);
+        joined = λ face p e. absurd (not_joined face p (sym past ∙ e));
+        faulted = λ p e. absurd (not_faulted p (sym past ∙ e));
         marked = λ a p e q d. absurd (not_marked a p (sym past ∙ e));
         making = subst (MakingStands steps) (sym past) tt;
       }
@@ -181,11 +188,14 @@ module _ (contexts : List WasiSocketsCtx) (steps : List Step) (line : ℕ) (orig
       not_marked : (a p : ℕ) → Past ≡ Marked a p → ⊥
       not_marked a p e = absurd (cc)
 
-      not_joined : (p : ℕ) → Past ≡ Joined p → ⊥
-      not_joined p e = absurd (cc)
+      not_joined : (face : Interface) (p : ℕ) → Past ≡ Joined face p → ⊥
+      not_joined face p e = absurd (cc)
+
+      not_faulted : (p : ℕ) → Past ≡ Faulted p → ⊥
+      not_faulted p e = absurd (cc)
 
   pub udp_creates : (face : Interface) (es : List Entry) (h : Here) (ctx : WasiSocketsCtx) (family : SocketAddressFamily) → CreatesUdp contexts ctx family face origin → ctx.udp ≡ true → h.at ≡ None → h.made ≡ Past → Licensed contexts steps line origin es h
-      → MayAsk contexts steps es (own_of line) (Call.UdpCreate ctx.name family)
+      → MayAskSo contexts steps es (own_of line) (Call.UdpCreate ctx.name family)
       × ((told : Told) → IsDoneOrCode told → Licensed contexts steps line origin (es ++ entry (own_of line) (Call.UdpCreate ctx.name family) told ∷ []) (udp_begun h (after_create (own_of line) ctx.name family (told_done told))))
   udp_creates face es h ctx family c may nowhere past i = (record { origin = origin; at = is_line; holds = may_create face ctx family origin c may }, by_told)
     where
@@ -207,11 +217,16 @@ module _ (contexts : List WasiSocketsCtx) (steps : List Step) (line : ℕ) (orig
   began_mark es side maker family face place m b = record { origin = b.origin; at = b.at; holds = udp_mark es side maker family face place b.origin b.holds m.created }
 
   -- an accept is no create
-  not_accept : (side : OpId) → BeganBy steps side MakesUdp → (c s : ℕ) → origin ≡ Step.Call c (GuestCall.TcpAccept s) → side ≡ own_of line → ⊥
-  not_accept side b c s is e =
+  not_accept : (side : OpId) → BeganBy steps side MakesUdp → IsAccept origin → side ≡ own_of line → ⊥
+  not_accept side b is e =
       let p : step_at steps line ≡ Some b.origin = subst (λ (o : OpId). step_at steps o.step ≡ Some b.origin) e b.at in
       let q : origin ≡ b.origin = cc in
-      subst MakesUdp (sym q ∙ is) b.holds
+      no_accept b.origin b.holds (subst IsAccept q is)
+    where
+      no_accept : (s : Step) → MakesUdp s → IsAccept s → ⊥
+      no_accept (Step.Call n (GuestCall.TcpAccept listener)) m is = m
+      no_accept (Step.Call n (GuestCall.P3Accept listener remaining)) m is = m
+      no_accept _ m is = is
 
   unmade_more : (es : List Entry) (op own : OpId) (c : Call) (t : Told) → (op ≡ own → ⊥) → NoMadeBy es own → NoMadeBy (es ++ entry op c t ∷ []) own
   unmade_more es op own c t n m handle kind above side told i = elim (has_split es (entry op c t) (entry own (Call.Made handle kind above side) told) i) [
@@ -231,14 +246,14 @@ module _ (contexts : List WasiSocketsCtx) (steps : List Step) (line : ℕ) (orig
   is_made es (UdpRecord.Closed side) f = record { maker = f.maker; family = f.family; made = f.made }
 
   -- a mark by an operation that isn't the own one of an accept, of no TCP socket's handle
-  pub mark_fine : (es : List Entry) (h : Here) (op : OpId) (kind : Kind) (parent : Option ℕ) (sock : Option OpId) → BeganBy steps op (IsMarkOf es op (name_of kind) parent sock) → ((c s : ℕ) → origin ≡ Step.Call c (GuestCall.TcpAccept s) → op ≡ own_of line → ⊥) → (IsTcpName (name_of kind) → ⊥)
+  pub mark_fine : (es : List Entry) (h : Here) (op : OpId) (kind : Kind) (parent : Option ℕ) (sock : Option OpId) → BeganBy steps op (IsMarkOf es op (name_of kind) parent sock) → (IsAccept origin → op ≡ own_of line → ⊥) → (IsTcpName (name_of kind) → ⊥)
       → ((t : Told) → NamesItsOwn (es ++ entry op (Call.Made h.machine.table.next (name_of kind) parent sock) t ∷ []) h.machine.store.records h.machine.table.next kind) → Licensed contexts steps line origin es h
-      → Allows (MayAsk contexts steps) (λ fs made. Licensed contexts steps line origin fs (record h { machine = record h.machine { table = made.1 } })) es (make_asks h.machine.table op kind parent sock)
+      → Allows (MayAskSo contexts steps) (λ fs made. Licensed contexts steps line origin fs (record h { machine = record h.machine { table = made.1 } })) es (make_asks h.machine.table op kind parent sock)
   unfolding bind
   mark_fine es h op kind parent sock may other none new i =
       let c = Call.Made h.machine.table.next (name_of kind) parent sock in
       let unmarked : (t : Told) (x : OpId) → MarksNoSocket es x → MarksNoSocket (es ++ entry op c t ∷ []) x = λ t x k. unmarked_made contexts steps line origin is_line es op h.machine.table.next (name_of kind) parent sock t x k (λ a b. none a) in
-      allows_if (MayAsk contexts steps) (λ fs made. Licensed contexts steps line origin fs (record h { machine = record h.machine { table = made.1 } })) es (is_full h.machine.table) _ _ (λ full. elsewhere es h (record h { machine = record h.machine { table = h.machine.table } }) refl refl refl i i.fine i.names i.udp_names)
+      allows_if (MayAskSo contexts steps) (λ fs made. Licensed contexts steps line origin fs (record h { machine = record h.machine { table = made.1 } })) es (is_full h.machine.table) _ _ (λ full. elsewhere es h (record h { machine = record h.machine { table = h.machine.table } }) refl refl refl i i.fine i.names i.udp_names)
       (λ room. (
         (i.fine.count, may),
         λ told fits. record {
@@ -247,8 +262,9 @@ module _ (contexts : List WasiSocketsCtx) (steps : List Step) (line : ℕ) (orig
           udp_names = λ p k v a d. names_on (stay steps) es _ (own_of k) (udp_side v) (i.udp_names p k v a d);
           listens = listens_on contexts steps line origin is_line es h op c told (λ p q o d x y. absurd (cc)) i;
           new = λ x o. (handed_unless es op c told x (i.new x o).0 (λ l p a b. absurd (cc)), unmarked told x (i.new x o).1);
-          unmade = λ d a s is. unmade_more es op (own_of line) c told (other a s is) (i.unmade d a s is);
-          joined = λ p d. (let j = i.joined p d in let k = joined_on contexts steps line origin is_line es h (entry op c told) p j (unmarked told j.new j.fresh) in record { new = k.new; on = k.on; peer = k.peer; context = k.context; listener = k.listener; by = k.by; side = k.side; of_listener = k.of_listener; handed = k.handed; fresh = k.fresh });
+          unmade = λ d is. unmade_more es op (own_of line) c told (other is) (i.unmade d is);
+          joined = λ face p d. (let j = i.joined face p d in let k = joined_on contexts steps line origin is_line es h (entry op c told) face p j (unmarked told j.new j.fresh) in record { new = k.new; on = k.on; peer = k.peer; listener = k.listener; by = k.by; side = k.side; of_listener = k.of_listener; handed = k.handed; fresh = k.fresh });
+          faulted = i.faulted;
           marked = λ handle p d r a. (let k = i.marked handle p d r a in record { above = k.above; told = k.told; mark = has_front es _ _ k.mark });
           making = i.making;
         },
@@ -262,15 +278,15 @@ module _ (contexts : List WasiSocketsCtx) (steps : List Step) (line : ℕ) (orig
   udp_no_tcp P3 place (inr p) = absurd (cc)
 
   udp_handle : (face : Interface) (fs : List Entry) (records : List Record) (handle place : ℕ) → NamesUdp fs records handle place → NamesItsOwn fs records handle (udp_kind face place)
-  udp_handle P2 fs records handle place n = (tt, n, tt)
-  udp_handle P3 fs records handle place n = (tt, n, tt)
+  udp_handle P2 fs records handle place n = (tt, n, tt, tt)
+  udp_handle P3 fs records handle place n = (tt, n, tt, tt)
 
   pub udp_marked : (es : List Entry) (h : Here) (face : Interface) (place : ℕ) (u : UdpRecord) → IsCreated h face place u → Licensed contexts steps line origin es h
-      → Allows (MayAsk contexts steps) (λ fs made. Licensed contexts steps line origin fs (record h { machine = record h.machine { table = made.1 }; made = Past })) es (make_asks h.machine.table (udp_side u) (udp_kind face place) None (Some (udp_side u)))
+      → Allows (MayAskSo contexts steps) (λ fs made. Licensed contexts steps line origin fs (record h { machine = record h.machine { table = made.1 }; made = Past })) es (make_asks h.machine.table (udp_side u) (udp_kind face place) None (Some (udp_side u)))
   udp_marked es h face place u is i =
       let m = is_made es u (i.fine.udp place u is.found) in
       let b : BeganBy steps (udp_side u) (MakesUdpFor face) = subst (MakingStands steps) is.awaited i.making in
-      allows_weaker (MayAsk contexts steps) (λ fs made. Licensed contexts steps line origin fs (record h { machine = record h.machine { table = made.1 } })) _
+      allows_weaker (MayAskSo contexts steps) (λ fs made. Licensed contexts steps line origin fs (record h { machine = record h.machine { table = made.1 } })) _
       (λ fs made k. remade fs (record h { machine = record h.machine { table = made.1 } }) Past tt tt k) es _
       (mark_fine es h (udp_side u) (udp_kind face place) None (Some (udp_side u)) (began_mark es (udp_side u) m.maker m.family face place m.made b) (not_accept (udp_side u) m.made.by) (udp_no_tcp face place)
       (λ t. udp_handle face _ h.machine.store.records h.machine.table.next place (record { found = u; at = is.found; marked = record { op = udp_side u; kind = name_of (udp_kind face place); parent = None; told = t; mark = has_last es _ } })) i)
@@ -290,32 +306,37 @@ module _ (contexts : List WasiSocketsCtx) (steps : List Step) (line : ℕ) (orig
   no_tcp kind place (inr e) (inr p) = absurd (let q : name.Outgoing ≡ name.Tcp3 = sym (ap name_of e) ∙ p in cc)
 
   stream_handle : (fs : List Entry) (records : List Record) (handle place : ℕ) (kind : Kind) → OneStream kind place → NamesUdp fs records handle place → NamesItsOwn fs records handle kind
-  stream_handle fs records handle place kind (inl e) n = subst (NamesItsOwn fs records handle) (sym e) (tt, n, tt)
-  stream_handle fs records handle place kind (inr e) n = subst (NamesItsOwn fs records handle) (sym e) (tt, n, tt)
+  stream_handle fs records handle place kind (inl e) n = subst (NamesItsOwn fs records handle) (sym e) (tt, n, tt, tt)
+  stream_handle fs records handle place kind (inr e) n = subst (NamesItsOwn fs records handle) (sym e) (tt, n, tt, tt)
 
   stream_mark : (es : List Entry) (op : OpId) (handle : ℕ) (kind : HandleKind) (sock : Option OpId) → (kind ≡ name.Incoming) ⊎ (kind ≡ name.Outgoing) → IsMarkedWith es handle sock → (s : Step) → IsStreamOf handle s → IsMarkOf es op kind (Some handle) sock s
   stream_mark es op handle kind sock which w (Step.Call c (GuestCall.UdpStream socket remote)) e = (which, (ap (λ (n : ℕ). Some n) (sym e), subst (λ (n : ℕ). IsMarkedWith es n sock) (sym e) w))
   stream_mark es op handle kind sock which w _ e = absurd e
 
-  no_stream : (n handle : ℕ) → MakesStreams steps n handle → (c s : ℕ) → origin ≡ Step.Call c (GuestCall.TcpAccept s) → own_of n ≡ own_of line → ⊥
-  no_stream n handle b c s is e =
+  no_stream : (n handle : ℕ) → MakesStreams steps n handle → IsAccept origin → own_of n ≡ own_of line → ⊥
+  no_stream n handle b is e =
       let p : step_at steps line ≡ Some b.origin = subst (λ (o : OpId). step_at steps o.step ≡ Some b.origin) e b.at in
       let q : origin ≡ b.origin = cc in
-      subst (IsStreamOf handle) (sym q ∙ is) b.holds
+      no_accept b.origin b.holds (subst IsAccept q is)
+    where
+      no_accept : (s : Step) → IsStreamOf handle s → IsAccept s → ⊥
+      no_accept (Step.Call c (GuestCall.TcpAccept listener)) m is = m
+      no_accept (Step.Call c (GuestCall.P3Accept listener remaining)) m is = m
+      no_accept _ m is = is
 
   makes_streams : (made : Made) (n handle reached : ℕ) (kind : Kind) (place : ℕ) → MarksNext made n handle reached kind place → MakingStands steps made → MakesStreams steps n handle
   makes_streams made n handle reached kind place (inl m) i = subst (MakingStands steps) m.1 i
   makes_streams made n handle reached kind place (inr m) i = subst (MakingStands steps) m.1 i
 
   pub stream_marked : (es : List Entry) (h : Here) (place n handle reached : ℕ) (kind : Kind) → MarksNext h.made n handle reached kind place → udp_of (kind_at h.machine.table handle) ≡ Some place → Licensed contexts steps line origin es h
-      → Allows (MayAsk contexts steps) (λ fs made. Licensed contexts steps line origin fs (record h { machine = record h.machine { table = made.1 }; made = ToSend n handle reached })) es (make_asks h.machine.table (own_of n) kind (Some handle) (udp_side_at (udp2_at h.machine.store.records place)))
+      → Allows (MayAskSo contexts steps) (λ fs made. Licensed contexts steps line origin fs (record h { machine = record h.machine { table = made.1 }; made = ToSend n handle reached })) es (make_asks h.machine.table (own_of n) kind (Some handle) (udp_side_at (udp2_at h.machine.store.records place)))
   stream_marked es h place n handle reached kind m e i =
       let sock = udp_side_at (udp2_at h.machine.store.records place) in
       let which : OneStream kind place = one_stream h.made n handle reached kind place m in
       let b : MakesStreams steps n handle = makes_streams h.made n handle reached kind place m i.making in
       let k = names_udp es h.machine.store.records handle place (kind_at h.machine.table handle) (of_udp (kind_at h.machine.table handle) place e) (i.fine.handles handle) in
       let w : IsMarkedWith es handle sock = subst (IsMarkedWith es handle) (sym (ap udp_side_at k.at)) k.marked in
-      allows_weaker (MayAsk contexts steps) (λ fs made. Licensed contexts steps line origin fs (record h { machine = record h.machine { table = made.1 } })) (λ fs made. Licensed contexts steps line origin fs (record h { machine = record h.machine { table = made.1 }; made = ToSend n handle reached }))
+      allows_weaker (MayAskSo contexts steps) (λ fs made. Licensed contexts steps line origin fs (record h { machine = record h.machine { table = made.1 } })) (λ fs made. Licensed contexts steps line origin fs (record h { machine = record h.machine { table = made.1 }; made = ToSend n handle reached }))
       (λ fs made k. remade fs (record h { machine = record h.machine { table = made.1 } }) (ToSend n handle reached) tt b k) es _
       (mark_fine es h (own_of n) kind (Some handle) sock (record { origin = b.origin; at = b.at; holds = stream_mark es (own_of n) handle (name_of kind) sock (stream_name kind place which) w b.origin b.holds }) (no_stream n handle b) (no_tcp kind place which)
       (λ t. stream_handle _ h.machine.store.records h.machine.table.next place kind which (record { found = k.found; at = k.at; marked = record { op = own_of n; kind = name_of kind; parent = Some handle; told = t; mark = marked_of t k.found k.at } })) i)

@@ -107,6 +107,7 @@ stands_so t made was now s i = record { older = i.older; makes = i.makes; stands
 goes_under : (t : HandleTable) (call : StandingCall) (r : TcpRecord) → GoesOn call r → CallUnder t call
 goes_under t (StandingCall.UdpConnect place handle) r k = absurd k
 goes_under t (StandingCall.UdpConnect3 place) r k = absurd k
+goes_under t (StandingCall.Listen place marks) r k = absurd k
 goes_under t _ r k = tt
 
 -- the handle that the line names is of this record
@@ -125,6 +126,14 @@ moves_under _ _ (walk.CallsHandles h kind calls quiet) i = record { older = i.ol
 moves_under _ _ (walk.RecallsCall h ids call e) i = record { older = i.older; makes = tt; stands = i.stands }
 moves_under _ _ (walk.AwaitsCreate h place face create is g) i = record { older = i.older; makes = tt; stands = i.stands }
 moves_under _ _ (walk.Joins h c handle place r l new peer is of u g e a) i = record { older = i.older; makes = tt; stands = i.stands }
+moves_under _ _ (walk.JoinsPlain h c listener remaining place r l new peer is of u g e a) i = record { older = i.older; makes = tt; stands = i.stands }
+moves_under _ _ (walk.JoinsFault h place r l c u g e a) i = record { older = i.older; makes = tt; stands = i.stands }
+moves_under _ _ (walk.RemembersListen h marks place r is under g none) i = record { older = i.older; makes = tt; stands = i.stands }
+moves_under _ _ (walk.RecallsListen h ids place marks e) i = record { older = i.older; makes = tt; stands = i.stands }
+moves_under _ _ (walk.StandsListen h ids place marks r quiet at made g goes) i = stands_so _ _ _ (Some (standing_as ids (StandingCall.Listen place marks))) tt i
+moves_under _ _ (walk.AddsSlot h s) i = record { older = i.older; makes = tt; stands = i.stands }
+moves_under _ _ (walk.Frees h place made) i = record { older = i.older; makes = tt; stands = i.stands }
+moves_under _ _ (walk.IsUnheld h place r g free) i = record { older = i.older; makes = tt; stands = i.stands }
 moves_under _ _ (walk.RemembersStreams h c handle place remote is of o g none) i = record { older = i.older; makes = reached_under h.machine.table handle place i.older of; stands = i.stands }
 moves_under _ _ (walk.RecallsStreams h ids place handle e own) i = record { older = i.older; makes = subst (StandsUnder h.machine.table) e i.stands; stands = i.stands }
 moves_under _ _ (walk.Stands h ids call r quiet at g k) i = stands_so _ _ _ (Some (standing_as ids call)) (goes_under h.machine.table call r k) i
@@ -135,8 +144,8 @@ moves_under _ _ (walk.StandsDropOutgoing h ids place o quiet at g e) i = stands_
 moves_under _ _ (walk.StandsBlocking h ids call handles made its) i = stands_so _ _ _ (Some (standing_as ids (StandingCall.Blocking call))) tt i
 moves_under _ _ (walk.StandsConnect h ids place o op quiet at past g e) i = stands_so _ _ _ (Some (standing_as ids (StandingCall.UdpConnect3 place))) tt i
 moves_under _ _ (walk.StandsUdpConnect h ids place handle o op quiet at made g e) i = stands_so _ _ _ (Some (standing_as ids (StandingCall.UdpConnect place handle))) (subst (MakesUnder h.machine.table) made i.makes) i
-moves_under _ _ (walk.Empties h handle kind e none) i = under_without h.machine.table handle h.made (walk.Emptied kind) _ (λ k. tt) i
-moves_under _ _ (walk.Takes h handle none) i = under_without h.machine.table handle h.made h.made _ (makes_without h.machine.table handle h.made) i
+moves_under _ _ (walk.Empties h handle kind quiet e none) i = under_without h.machine.table handle h.made (walk.Emptied kind) _ (λ k. tt) i
+moves_under _ _ (walk.Takes h handle quiet past none) i = under_without h.machine.table handle h.made h.made _ (makes_without h.machine.table handle h.made) i
 moves_under _ _ _ i = i
 
 -- == what leaves all of it

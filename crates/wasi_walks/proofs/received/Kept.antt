@@ -1,4 +1,5 @@
 -- The law that an incoming stream holds only what came from the remote address that it keeps.
+use Rattle.wasi_walks.proofs.PipeLists.{slot_push_same}
 use Rattle.wasi_walks.proofs.walks.OfState.{Becomes, Created, CreatedWith, GivenUp, IsClosed, Learnt, OfState, Resolved, UdpBegun}
 use Rattle.wasi_walks.proofs.walks.OfState.{UdpGivenUp, UdpIsClosed, UdpLearnt, Writing, begins_state, of_state}
 use Rattle.wasi_walks.proofs.Words.{Allows, Done, End, Entry, Err, ErrorCode, Item, List, Machine, None, Ok, Operation, Option, Refused, Result, Some, Step, TcpRecord, Waits, WasiSocketsCtx}
@@ -27,7 +28,7 @@ use Rattle.wasi_walks.proofs.fits.UdpFits.{kept_op}
 use Rattle.wasi_walks.proofs.received.Wanted.{IncomingWanted, ReceivingWanted, poll_wanted}
 use Rattle.wasi_walks.proofs.walks.Law.{BeginsWrites, InCall, Law, Rests}
 use Rattle.wasi_walks.proofs.walks.Moves as walk
-use Rattle.wasi_walks.proofs.walks.Moves.{Held, Here, Kept, Move, SameSockets, UdpPlain, came_from, came_in, came_of, joined, put_udp, receive_op, receiving_in, udp_begun}
+use Rattle.wasi_walks.proofs.walks.Moves.{Held, Here, Kept, Move, SameSockets, UdpPlain, came_from, came_in, came_of, faulted, joined, joined_plain, put_udp, receive_op, receiving_in, udp_begun}
 use Rattle.wasi_walks.proofs.walks.Steps.{machine_walks, may_while}
 use Rattle.wasi_walks.proofs.Places.{push_found, push_was, put_found, put_was, tcp_sort, udp_sort}
 
@@ -110,11 +111,13 @@ module _ (contexts : List WasiSocketsCtx) (line : ℕ) (origin : Step) where
   moves_wanted _ _ (walk.BeginsConnect h place r x a bound at g d to known idle own) i = put_tcp _ place _ i
   moves_wanted _ _ (walk.BeginsBind h place r x a at g d to own) i = put_tcp _ place _ i
   moves_wanted _ _ (walk.BeginsWrite h place n r s half permit bytes at g e w within own) i = put_tcp _ place _ i
-  moves_wanted _ _ (walk.BeginsListen h place r x at g d bound none to idle own) i = put_tcp _ place _ i
+  moves_wanted _ _ (walk.BeginsListen h place r x bound at g d known un none to idle own) i = put_tcp _ place _ i
   moves_wanted _ _ (walk.BeginsAccept h place part r l at g e a own) i = put_tcp _ place _ i
   moves_wanted _ _ (walk.Unlistens h place r op q g e c o) i = put_tcp _ place _ i
   moves_wanted _ _ (walk.Forgets h place r l c g e a) i = put_tcp _ place _ i
   moves_wanted _ _ (walk.Joins h c handle place r l new peer is of u g e a) i = push_tcp _ (joined l new peer) (put_tcp _ place _ i)
+  moves_wanted _ _ (walk.JoinsPlain h c listener remaining place r l new peer is of u g e a) i = push_tcp _ (joined_plain l new peer) (put_tcp _ place _ i)
+  moves_wanted _ _ (walk.JoinsFault h place r l c u g e a) i = push_tcp _ (faulted l c) (put_tcp _ place _ i)
   moves_wanted _ _ (walk.UdpChanges h place o now g p keeps) i = put_udps _ place (UdpRecord.Open now) (plain_wanted o now p (i place (UdpRecord.Open o) g)) i
   moves_wanted _ _ (walk.BeginsUdpBind h place o a at g to own) i = put_udps _ place (UdpRecord.Open _) (i place (UdpRecord.Open o) g) i
   moves_wanted _ _ (walk.BeginsUdpConnect h place o a bound at g to known none own) i = put_udps _ place (UdpRecord.Open _) (i place (UdpRecord.Open o) g) i
@@ -123,6 +126,8 @@ module _ (contexts : List WasiSocketsCtx) (line : ℕ) (origin : Step) where
   moves_wanted _ _ (walk.CancelsBind h place r op q g e) i = put_tcp _ place _ i
   moves_wanted _ _ (walk.CancelsUdpBind h place o op q g e) i = put_udps _ place (UdpRecord.Open _) (i place (UdpRecord.Open o) g) i
   moves_wanted _ _ (walk.CancelsUdpConnect h place o q g) i = put_udps _ place (UdpRecord.Open _) (i place (UdpRecord.Open o) g) i
+  moves_wanted _ _ (walk.TakesEnd h handle place r now of g takes) i = put_tcp _ place now i
+  moves_wanted _ _ (walk.AddsSlot h s) i = same_wanted {new = λ op. ⊥} h.machine.store.records _ (slot_push_same h.machine.store.records s) i
   moves_wanted _ _ (walk.Finds h records s) i = same_wanted h.machine.store.records records s i
   moves_wanted _ _ (walk.GivesBack h place idle left) i = λ k u e. i k u (was_there udp2_of refl h.machine.store.records place k u e)
   moves_wanted _ _ _ i = i
@@ -146,7 +151,7 @@ module _ (contexts : List WasiSocketsCtx) (line : ℕ) (origin : Step) where
   becomes_wanted : (h now : Here) → Becomes contexts line origin h now → Wants h → Wants now
   becomes_wanted h _ (Learnt place r side told at g e) i = put_tcp _ place _ i
   becomes_wanted h _ (IsClosed place r side q g e) i = put_tcp _ place _ i
-  becomes_wanted h _ (GivenUp place r q g) i = put_tcp _ place _ i
+  becomes_wanted h _ (GivenUp place r q goes g) i = put_tcp _ place _ i
   becomes_wanted h _ (UdpLearnt place o socket g e) i = put_udps _ place (UdpRecord.Open _) (i place (UdpRecord.Open o) g) i
   becomes_wanted h _ (UdpIsClosed place o q g) i = put_udps _ place (UdpRecord.Closed o.inner.side) tt i
   becomes_wanted h _ (UdpGivenUp place create q g) i =

@@ -1,8 +1,14 @@
 -- The law that what the incoming stream of a network socket holds was received from a place of the log on.
-use Rattle.wasi_walks.proofs.walks.Asked.{Asked, Questions, SetsBacklog, Learns, Closes, MarksOne, AsksCreate, MarksAccepted, Polls, Turns, GivesUp, UdpQuestions, UdpDisconnects, UdpLearns, UdpPeers, UdpCloses, UdpBegins, MarksUdp, MarksStream, MarksError, UdpGivesUp, Resolves, Looks}
-use Rattle.wasi_walks.proofs.Words.{made_to, create_to, Stop, refl, Option, HoldsAccept, HoldsConnect, IsAcceptOn, Job, HandleTable, Kind, Streams, WriteState, allows_keep, arith, inl, inr, ⊤, ◌⊎◌, ◌≤◌, Allows, Asks, Call, Done, End, Entry, Err, ErrorCode, ErrorValue, IsDoneOrCode, Item, List, Machine}
+use Rattle.std.specs.Prelude.{take}
+use Rattle.wasi_tcp.specs.Halves.{write_asks}
+use Rattle.wasi_walks.proofs.PipeLists.{slot_push_same}
+use Rattle.wasi_walks.proofs.walks.Asked.{MarksResult, WritesOnce}
+use Rattle.wasi_host.specs.declared.kind.Kind.TheVariants.{Result3}
+use Rattle.wasi_walks.proofs.walks.Asked.{Asked, Questions, SetsBacklog, Learns, Closes, MarksOne, AsksCreate, MarksAccepted, MarksListener, MarksPlain, Polls, Turns, GivesUp, UdpQuestions, UdpDisconnects, UdpLearns, UdpPeers, UdpCloses, UdpBegins, MarksUdp, MarksStream, MarksError, UdpGivesUp, Resolves, Looks}
+use Rattle.wasi_walks.proofs.walks.Asked.{ResolvesBeside, LooksBeside}
+use Rattle.wasi_walks.proofs.Words.{bind, made_to, create_to, Stop, refl, Option, HoldsAccept, HoldsConnect, IsAcceptOn, Job, HandleTable, Kind, Streams, WriteState, allows_keep, arith, inl, inr, ⊤, ◌⊎◌, ◌≤◌, Allows, Asks, Call, Done, End, Entry, Err, ErrorCode, ErrorValue, IsDoneOrCode, Item, List, Machine}
 use Rattle.wasi_walks.proofs.Words.{None, Not, Ok, OpId, Operation, Refused, Result, Socket, SocketAddressFamily, Some, Step, Tcp2, TcpRecord, Told, Waits}
-use Rattle.wasi_walks.proofs.Words.{WasiSocketsCtx, [], allows_then, allows_weaker, ap, bind_progress, connect_ended, accept_ended, create_asks, created_asks, entry, give_up_asks, length, make_asks}
+use Rattle.wasi_walks.proofs.Words.{WasiSocketsCtx, [], allows_then, allows_weaker, ap, bind_progress, connect_ended, accept_ended, entry, give_up_asks, length, make_asks}
 use Rattle.wasi_walks.proofs.Words.{new_asks, new_record, own_of, poll_asks, side_of, subst, sym, told_addr, told_done, turn_asks}
 use Rattle.wasi_walks.proofs.Words.{with_inner, with_listening, with_progress, with_state, with_writer, Bool, true, false, ℕ, ◌++◌, ◌∙◌, ◌∷◌, ◌≡◌}
 use Rattle.wasi_udp.specs.Create.{Create, create_cancel_asks, new_create, after_create as udp_after_create}
@@ -26,7 +32,8 @@ use Rattle.wasi_walks.proofs.fits.Records.{FitProgress, FitListening, FitUdpProg
 use Rattle.wasi_walks.proofs.fits.UdpFits.{learnt_side}
 use Rattle.wasi_walks.proofs.walks.Law.{BeginsWrites, Law, Rests, Walks, begins_by}
 use Rattle.wasi_walks.proofs.walks.Moves as walk
-use Rattle.wasi_walks.proofs.walks.Moves.{Interface, tcp_kind, IsQuestionOf, IsUdpQuestionOf, Found, send_op, sending_in, FoundUdp, Held, Here, Move, Used, accepting_now, closed_record, joined, listen_after, opened_by, part_of, receive_op, receiving_in, udp_begun}
+use Rattle.wasi_host.specs.declared.kind.Kind.TheVariants.{Listen3, Tcp3}
+use Rattle.wasi_walks.proofs.walks.Moves.{Interface, tcp_kind, IsQuestionOf, IsUdpQuestionOf, Found, send_op, sending_in, FoundUdp, Held, Here, Move, Used, accepting_now, closed_record, faulted, joined, joined_plain, listen_after, opened_by, part_of, receive_op, receiving_in, udp_begun}
 use Rattle.wasi_walks.proofs.remotes.Law.{begins_kept, remotes}
 use Rattle.wasi_walks.proofs.remotes.State.{WritesBy, Keeps, OpenKeeps, ReceivesFor, maker_of}
 use Rattle.wasi_walks.proofs.received.Late.{NoRecvOf, OnlyOf, long_more, only_other, InHandLate, IncomingLate, ReceivingLate, poll_late}
@@ -162,11 +169,13 @@ module _ (side : OpId) (from : ℕ) where
     moves_late es _ _ (walk.BeginsConnect h place r x a bound at g d to known idle own) i = put_tcp side from es _ place _ i
     moves_late es _ _ (walk.BeginsBind h place r x a at g d to own) i = put_tcp side from es _ place _ i
     moves_late es _ _ (walk.BeginsWrite h place n r s half permit bytes at g e w within own) i = put_tcp side from es _ place _ i
-    moves_late es _ _ (walk.BeginsListen h place r x at g d bound none to idle own) i = put_tcp side from es _ place _ i
+    moves_late es _ _ (walk.BeginsListen h place r x bound at g d known un none to idle own) i = put_tcp side from es _ place _ i
     moves_late es _ _ (walk.BeginsAccept h place part r l at g e a own) i = put_tcp side from es _ place _ i
     moves_late es _ _ (walk.Unlistens h place r op q g e c o) i = put_tcp side from es _ place _ i
     moves_late es _ _ (walk.Forgets h place r l c g e a) i = put_tcp side from es _ place _ i
     moves_late es _ _ (walk.Joins h c handle place r l new peer is of u g e a) i = push_tcp side from es _ (joined l new peer) (put_tcp side from es _ place _ i)
+    moves_late es _ _ (walk.JoinsPlain h c listener remaining place r l new peer is of u g e a) i = push_tcp side from es _ (joined_plain l new peer) (put_tcp side from es _ place _ i)
+    moves_late es _ _ (walk.JoinsFault h place r l c u g e a) i = push_tcp side from es _ (faulted l c) (put_tcp side from es _ place _ i)
     moves_late es _ _ (walk.UdpChanges h place o now g p keeps) i = put_udps side from es _ place (UdpRecord.Open now) (plain_late side from es o now p (i.udps place (UdpRecord.Open o) g)) i
     moves_late es _ _ (walk.BeginsUdpBind h place o a at g to own) i = put_udps side from es _ place (UdpRecord.Open _) (i.udps place (UdpRecord.Open o) g) i
     moves_late es _ _ (walk.BeginsUdpConnect h place o a bound at g to known none own) i = put_udps side from es _ place (UdpRecord.Open _) (i.udps place (UdpRecord.Open o) g) i
@@ -175,6 +184,8 @@ module _ (side : OpId) (from : ℕ) where
     moves_late es _ _ (walk.CancelsBind h place r op q g e) i = put_tcp side from es _ place _ i
     moves_late es _ _ (walk.CancelsUdpBind h place o op q g e) i = put_udps side from es _ place (UdpRecord.Open _) (i.udps place (UdpRecord.Open o) g) i
     moves_late es _ _ (walk.CancelsUdpConnect h place o q g) i = put_udps side from es _ place (UdpRecord.Open _) (i.udps place (UdpRecord.Open o) g) i
+    moves_late es _ _ (walk.TakesEnd h handle place r now of g takes) i = put_tcp side from es _ place now i
+    moves_late es _ _ (walk.AddsSlot h s) i = same_late side {new = λ op. ⊥} from es h.machine.store.records _ (slot_push_same h.machine.store.records s) i
     moves_late es _ _ (walk.Finds h records s) i = same_late side from es h.machine.store.records records s i
     moves_late es _ _ (walk.GivesBack h place idle left) i = fewer_late side from es h.machine.store.records place i
     moves_late es _ _ _ i = i
@@ -204,21 +215,30 @@ module _ (side : OpId) (from : ℕ) where
         let its : ReceiveOn o.inner.side op = subst (FitReceiving o.inner.side) (ap receiving_in e ∙ ap receive_op f) (b.0.udps place (UdpRecord.Open o) g).3 in
         receives_late es h place o inc op g e f its keeps (λ x k p q a c z. b.1.udps.one q.inner.side x k (UdpRecord.Open p) (UdpRecord.Open q) a c z refl) i (same_or_not o.inner.side side)
 
+    -- a write that is offered once asks for no datagram
+    write_late : (es : List Entry) (records : List Record) (op x : OpId) (bytes : List ℕ) → It es records → Allows Anything (λ fs told. It fs records) es (write_asks op x bytes)
+    unfolding bind
+    write_late es records op x bytes i = (tt, λ told f front. one_late side from es op _ told records (λ y. tt) i)
+
     -- the law: the calls may be any
     pub lates_asks : (es : List Entry) (h : Here) (A : Type 0) (tree : Asks A) (end : A → Here)
         → Asked contexts line origin es h A tree end → Base contexts line origin h × Keeps es h.machine.store.records
         → It es h.machine.store.records → Allows (Anything)
         (λ fs x. (λ (es : List Entry) (h : Here). It es h.machine.store.records) fs (end x)) es tree
-    lates_asks es h _ _ _ (Questions place n r x c at g o q) b i = (tt, λ told f. one_late side from es (own_of n) c told _ (λ y. question_quiet line origin n x c q) i)
+    lates_asks es h _ _ _ (Questions place n r x c at g o q) b i = (tt, λ told f. one_late side from es (own_of n) c told _ (λ y. question_quiet line origin n x c q.0) i)
     lates_asks es h _ _ _ (SetsBacklog place r x backlog at g s is) b i = (tt, λ told f. one_late side from es (own_of line) (Call.SetBacklog x backlog) told _ (λ y. tt) i)
     lates_asks es h _ _ _ (Learns place r x at g e) b i = (tt, λ told f. put_tcp side from _ _ place _ (one_late side from es (own_of line) (Call.Local x) told _ (λ y. tt) i))
     lates_asks es h _ _ _ (Closes place r x q g e) b i = (tt, λ told f. put_tcp side from _ _ place (closed_record r) (one_late side from es (own_of line) (Call.Close x) told _ (λ y. tt) i))
     lates_asks es h _ _ _ (MarksOne kind parent sock m) b i = marks_late _ es h.machine.table (own_of line) kind parent sock i
     lates_asks es h _ _ _ (AsksCreate tells fails face ctx family c a o m) b i = creates_late tells fails face es h.machine (own_of line) ctx family i
     lates_asks es h _ _ _ (MarksAccepted c s place r is e o g) b i = marks_late _ es h.machine.table (own_of line) (Tcp2 place) (Some s) _ i
+    lates_asks es h _ _ _ (MarksPlain c s remaining place r is e o g) b i = marks_late _ es h.machine.table (own_of line) (Tcp3 place) (Some s) _ i
+    lates_asks es h _ _ _ (MarksListener n handle reached place r q m g has e) b i = marks_late _ es h.machine.table (own_of n) (Listen3 place) (Some handle) _ i
+    lates_asks es h _ _ _ (MarksResult socket place slot r m made e g) b i = marks_late _ es h.machine.table (own_of line) (Result3 slot) (Some socket) _ i
+    lates_asks es h _ _ _ (WritesOnce c handle place given end r s half permit is e f at g q w own) b i = write_late es h.machine.store.records (own_of line) half.side (take 4294967295 given) i
     lates_asks es h _ _ _ (Polls op after k) b i = polls_late es h op after k b.0 b.1 i
     lates_asks es h _ _ _ (Turns place r s g e) b i = allows_weaker Anything (λ fs done. It fs h.machine.store.records) (λ fs done. It fs (tcp2_put h.machine.store.records place (with_writer r s done.1))) (λ fs done k. put_tcp side from fs _ place _ k) es (turn_asks s.writer) (along _ es (turn_asks s.writer) i (turn_silent side (IsHeld side h.machine.store.records) NoName es s.writer (writer_apart line es h place r s g e b.0.1 b.1)))
-    lates_asks es h _ _ _ (GivesUp place r q g) b i = allows_weaker Anything (λ fs done. It fs h.machine.store.records) (λ fs done. It fs (tcp2_put h.machine.store.records place (with_listening r Not))) (λ fs done k. put_tcp side from fs _ place _ k) es (give_up_asks r.listening) (along _ es (give_up_asks r.listening) i (given_up_silent side (IsHeld side h.machine.store.records) NoName es r.listening))
+    lates_asks es h _ _ _ (GivesUp place r q goes g) b i = allows_weaker Anything (λ fs done. It fs h.machine.store.records) (λ fs done. It fs (tcp2_put h.machine.store.records place (with_listening r Not))) (λ fs done k. put_tcp side from fs _ place _ k) es (give_up_asks r.listening) (along _ es (give_up_asks r.listening) i (given_up_silent side (IsHeld side h.machine.store.records) NoName es r.listening))
     lates_asks es h _ _ _ (UdpQuestions place n o c at g q) b i = (tt, λ told f. one_late side from es (own_of n) c told _ (λ y. udp_question_quiet line origin n o.inner.side c q) i)
     lates_asks es h _ _ _ (UdpLearns place part o at g) b i = (tt, λ told f. (let k = one_late side from es (part_of line part) (Call.Local o.inner.side) told _ (λ y. tt) i in put_udps side from _ _ place (UdpRecord.Open _) (λ q. k.udps place (UdpRecord.Open o) g (sym (learnt_side o.inner (told_addr told)) ∙ q)) k))
     lates_asks es h _ _ _ (UdpDisconnects place o at g is) b i = (tt, λ told f. (let k = one_late side from es (own_of line) (Call.UdpDisconnect o.inner.side) told _ (λ y. tt) i in put_udps side from _ _ place (UdpRecord.Open _) (k.udps place (UdpRecord.Open o) g) k))
@@ -231,6 +251,8 @@ module _ (side : OpId) (from : ℕ) where
     lates_asks es h _ _ _ (UdpGivesUp place create q g) b i = allows_weaker Anything (λ fs done. It fs h.machine.store.records) (λ fs done. It fs (udp2_put h.machine.store.records place (UdpRecord.Closed create.operation.who.side))) (λ fs done k. put_udps side from fs _ place (UdpRecord.Closed create.operation.who.side) tt k) es (create_cancel_asks create) (along _ es (create_cancel_asks create) i (cancelled_silent side (IsHeld side h.machine.store.records) NoName es create))
     lates_asks es h _ _ _ (Resolves host records l same) b i = (tt, λ told f. same_late side from _ _ (records told) (same told) (one_late side from es (own_of line) (Call.Lookup host) told _ (λ y. tt) i))
     lates_asks es h _ _ _ (Looks place op g) b i = (tt, λ told f. one_late side from es op.id (Call.Lookup op.host) told _ (λ y. tt) i)
+    lates_asks es h _ _ _ (ResolvesBeside host l) b i = (tt, λ told f. one_late side from es (own_of line) (Call.Lookup host) told _ (λ y. tt) i)
+    lates_asks es h _ _ _ (LooksBeside n call host g e) b i = (tt, λ told f. one_late side from es (own_of n) (Call.Lookup host) told _ (λ y. tt) i)
 
     unfoldable pub lates : Rests contexts line origin (λ es h. Base contexts line origin h × Keeps es h.machine.store.records)
     lates = record {

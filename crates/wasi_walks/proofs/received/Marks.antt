@@ -91,14 +91,19 @@ module _ (side : OpId) where
   of_tcp kind place (inl e) = subst NotIncoming (sym e) tt
   of_tcp kind place (inr e) = subst NotIncoming (sym e) tt
 
+  of_end : (socket : ℕ) (kind : Kind) (s : Step) → walk.MakesEnd socket kind s → NotIncoming kind
+  of_end socket (Incoming place) s m = absurd m
+  of_end socket _ s m = tt
+
   pub is_other : (origin : Step) (h : Here) (kind : Kind) (parent : Option ℕ) (sock : Option OpId) → Marks origin h kind parent sock → NotIncoming kind
   is_other origin h kind _ _ (walk.AStream c handle place _ is e opened) = of_tcp kind place e
   is_other origin h kind _ _ (walk.AnAcceptedStream c listener handle place _ r is e made own g) = of_tcp kind place e
   is_other origin h kind _ _ (walk.APlain _ makes numbered) = plain_other origin kind makes
+  is_other origin h kind _ _ (walk.AnEnd socket place _ end r m in_it e g is made) = of_end socket kind origin m
   is_other origin h _ _ _ _ = tt
 
   -- == moves
   pub moves_early : {line : ℕ} {origin : Step} (start : ℕ) (es : List Entry) (h now : Here) → Move line origin h now → AreEarly side start es h.machine.table → AreEarly side start es now.machine.table
-  moves_early start es _ _ (walk.Empties h handle kind e none) k = early_without start es h.machine.table handle k
-  moves_early start es _ _ (walk.Takes h handle none) k = early_without start es h.machine.table handle k
+  moves_early start es _ _ (walk.Empties h handle kind quiet e none) k = early_without start es h.machine.table handle k
+  moves_early start es _ _ (walk.Takes h handle quiet past none) k = early_without start es h.machine.table handle k
   moves_early start es _ _ _ k = k

@@ -74,7 +74,7 @@ module _ (contexts : List WasiSocketsCtx) (side : OpId) where
       (λ fs op c t fits k q. (may_come contexts now fs _ k.0 q, takes_more side fs _ 0 at before replies k.1))
       (λ fs op c q. subst (λ (steps : List Step). MayAsk contexts steps fs op c) (sym b) (may_more now rest contexts fs op c q)) es _ (come_longer contexts before (s ∷ []) [] es c, r)
       (allows_both (MayAsk contexts now) Anything (λ fs done. Fine contexts now (line + 1) fs done.1) (λ fs done. Takes side at fs s done) es (machine_asks contexts m line s)
-      (line_licensed contexts now line s (last_line before s line e) m es new (fine_more contexts before (s ∷ []) line es m h))
+      (line_licensed contexts now line s (last_line before s line e) m es (come_longer contexts before (s ∷ []) [] es c) new (fine_more contexts before (s ∷ []) line es m h))
       (step_takes side at contexts before line s m es (one_side contexts before es (licensed contexts before es c)) h.fine h.base h.keeps late)))
       (λ fs done k.
       let upto : ℕ = k.1.1.0 in

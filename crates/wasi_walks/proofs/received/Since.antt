@@ -1,7 +1,10 @@
 -- The law that what the incoming streams of a network socket hold was received after the marks of their handles.
-use Rattle.wasi_walks.proofs.walks.Asked.{Asked, Questions, SetsBacklog, Learns, Closes, MarksOne, AsksCreate, MarksAccepted, Polls, Turns, GivesUp, UdpQuestions, UdpDisconnects, UdpLearns, UdpPeers, UdpCloses, UdpBegins, MarksUdp, MarksStream, MarksError, UdpGivesUp, Resolves, Looks}
+use Rattle.wasi_walks.proofs.walks.Asked.{MarksResult, WritesOnce}
+use Rattle.wasi_host.specs.declared.kind.Kind.TheVariants.{Result3}
+use Rattle.wasi_walks.proofs.walks.Asked.{Asked, Questions, SetsBacklog, Learns, Closes, MarksOne, AsksCreate, MarksAccepted, MarksListener, MarksPlain, Polls, Turns, GivesUp, UdpQuestions, UdpDisconnects, UdpLearns, UdpPeers, UdpCloses, UdpBegins, MarksUdp, MarksStream, MarksError, UdpGivesUp, Resolves, Looks}
+use Rattle.wasi_walks.proofs.walks.Asked.{ResolvesBeside, LooksBeside}
 use Rattle.wasi_walks.proofs.Words.{made_to, Allows, Asks, Call, Entry, Err, ErrorCode, ErrorValue, Full, HandleTable, Kind, List, None, Not, Ok, OpId, Option, Result, Socket, Some, Step, Stop, Tcp2, Told, Trap, WasiSocketsCtx, []}
-use Rattle.wasi_walks.proofs.Words.{allows_if, allows_keep, allows_then, allows_weaker, ap, arith, bind, created_asks, entry, give_up_asks, inl, inr, is_full, kind_at, length, length-append, make_asks, name_of, new_asks, new_record, own_of, poll_asks}
+use Rattle.wasi_walks.proofs.Words.{allows_if, allows_keep, allows_then, allows_weaker, ap, arith, bind, entry, give_up_asks, inl, inr, is_full, kind_at, length, length-append, make_asks, name_of, new_asks, new_record, own_of, poll_asks}
 use Rattle.wasi_walks.proofs.Words.{refl, side_of, subst, sym, told_done, turn_asks, with_handle, with_listening, with_writer, ℕ, ◌++◌, ◌∷◌, ◌≡◌, ◌⊎◌}
 use Rattle.wasi_udp.specs.Create.{create_cancel_asks, after_create as udp_after_create}
 use Rattle.wasi_host.specs.Kinds.{udp_kind, udp_of}
@@ -24,6 +27,7 @@ use Rattle.wasi_walks.proofs.received.Polls.{NoName}
 use Rattle.wasi_walks.proofs.received.Silent.{new_silent}
 use Rattle.wasi_walks.proofs.received.State.{IsHeld, Late, OneEach, one_late, put_later, push_tcp, put_tcp, same_or_not}
 use Rattle.wasi_walks.proofs.walks.Law.{BeginsWrites, Law, Rests, Walks, begins_by}
+use Rattle.wasi_host.specs.declared.kind.Kind.TheVariants.{Listen3, Tcp3}
 use Rattle.wasi_walks.proofs.walks.Moves.{Interface, P2, P3, tcp_kind, HasNewStream, Here, Made, MarksNext, Past, ToSend, Used, made_so, put, put_udp, udp_begun}
 use Rattle.wasi_walks.proofs.Places.{put_again, udp_sort}
 
@@ -155,9 +159,13 @@ module _ (side : OpId) (from : ℕ) where
         (kept h (λ made. h) es (new_asks (own_of line) ctx family) i (λ made. i.1) (λ fs made k. k) (along side i.0.start h.machine.store.records es (new_asks (own_of line) ctx family) i.0.late (new_silent side (IsHeld side h.machine.store.records) NoName es (own_of line) ctx family)))
         (λ fs made k. joins tells fails face fs h (own_of line) made m k)
     sinces_asks es h _ _ _ (MarksAccepted c s place r is e o g) b i = marks_so es h (own_of line) (Tcp2 place) (Some s) _ (made_so place) tt tt tt i
+    sinces_asks es h _ _ _ (MarksPlain c s remaining place r is e o g) b i = marks_so es h (own_of line) (Tcp3 place) (Some s) _ (λ made. Past) tt tt tt i
+    sinces_asks es h _ _ _ (MarksListener n handle reached place r q m g has e) b i = marks_so es h (own_of n) (Listen3 place) (Some handle) _ (λ made. Past) tt tt tt i
+    sinces_asks es h _ _ _ (MarksResult socket place slot r m made e g) b i = marks_so es h (own_of line) (Result3 slot) (Some socket) _ (λ made. Past) tt tt tt i
+    sinces_asks es h _ _ _ (WritesOnce c handle place given end r s half permit is e f at g q w own) b i = kept h (λ told. record h { own = Used }) es _ i (λ done. i.1) (λ fs done k. k) ((lates side i.0.start contexts line origin).asks es h _ _ _ (WritesOnce c handle place given end r s half permit is e f at g q w own) b i.0.late)
     sinces_asks es h _ _ _ (Polls op after k) b i = kept h after es (poll_asks op) i (λ end. polled_same (λ t made standing. AreUnder t made standing) h op after k end i.1) (λ fs end. polled_same (λ t made standing. AreEarly side i.0.start fs t) h op after k end) ((lates side i.0.start contexts line origin).asks es h _ _ _ (Polls op after k) b i.0.late)
     sinces_asks es h _ _ _ (Turns place r s g e) b i = kept h (λ done. put h place (with_writer r s done.1)) es (turn_asks s.writer) i (λ done. i.1) (λ fs done k. k) ((lates side i.0.start contexts line origin).asks es h _ _ _ (Turns place r s g e) b i.0.late)
-    sinces_asks es h _ _ _ (GivesUp place r q g) b i = kept h (λ done. put h place (with_listening r Not)) es (give_up_asks r.listening) i (λ done. i.1) (λ fs done k. k) ((lates side i.0.start contexts line origin).asks es h _ _ _ (GivesUp place r q g) b i.0.late)
+    sinces_asks es h _ _ _ (GivesUp place r q goes g) b i = kept h (λ done. put h place (with_listening r Not)) es (give_up_asks r.listening) i (λ done. i.1) (λ fs done k. k) ((lates side i.0.start contexts line origin).asks es h _ _ _ (GivesUp place r q goes g) b i.0.late)
     sinces_asks es h _ _ _ (UdpQuestions place n o c at g q) b i = (tt, λ told f. (longer es _ _ _ _ i.0 (((lates side i.0.start contexts line origin).asks es h _ _ _ (UdpQuestions place n o c at g q) b i.0.late).1 told f), i.1))
     sinces_asks es h _ _ _ (UdpLearns place part o at g) b i = (tt, λ told f. (longer es _ _ _ _ i.0 (((lates side i.0.start contexts line origin).asks es h _ _ _ (UdpLearns place part o at g) b i.0.late).1 told f), i.1))
     sinces_asks es h _ _ _ (UdpDisconnects place o at g is) b i = (tt, λ told f. (longer es _ _ _ _ i.0 (((lates side i.0.start contexts line origin).asks es h _ _ _ (UdpDisconnects place o at g is) b i.0.late).1 told f), i.1))
@@ -176,6 +184,8 @@ module _ (side : OpId) (from : ℕ) where
     sinces_asks es h _ _ _ (UdpGivesUp place create q g) b i = kept h (λ done. put_udp h place (UdpRecord.Closed create.operation.who.side)) es (create_cancel_asks create) i (λ done. i.1) (λ fs done k. k) ((lates side i.0.start contexts line origin).asks es h _ _ _ (UdpGivesUp place create q g) b i.0.late)
     sinces_asks es h _ _ _ (Resolves host records l same) b i = (tt, λ told f. (longer es _ _ _ _ i.0 (((lates side i.0.start contexts line origin).asks es h _ _ _ (Resolves host records l same) b i.0.late).1 told f), i.1))
     sinces_asks es h _ _ _ (Looks place op g) b i = (tt, λ told f. (longer es _ _ _ _ i.0 (((lates side i.0.start contexts line origin).asks es h _ _ _ (Looks place op g) b i.0.late).1 told f), i.1))
+    sinces_asks es h _ _ _ (ResolvesBeside host l) b i = (tt, λ told f. (longer es _ _ _ _ i.0 (((lates side i.0.start contexts line origin).asks es h _ _ _ (ResolvesBeside host l) b i.0.late).1 told f), i.1))
+    sinces_asks es h _ _ _ (LooksBeside n call host g e) b i = (tt, λ told f. (longer es _ _ _ _ i.0 (((lates side i.0.start contexts line origin).asks es h _ _ _ (LooksBeside n call host g e) b i.0.late).1 told f), i.1))
 
     unfoldable sinces : Rests contexts line origin (λ es h. Base contexts line origin h × Keeps es h.machine.store.records)
     unfolding lates

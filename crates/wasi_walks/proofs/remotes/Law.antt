@@ -1,6 +1,14 @@
 -- The law that the remote address that an open UDP socket keeps is what the network reported last.
+use Rattle.std.specs.Prelude.{take}
+use Rattle.wasi_tcp.specs.Halves.{write_asks}
+use Rattle.wasi_records.specs.Ends.{ends_of}
+use Rattle.wasi_walks.proofs.PipeLists.{slot_push_same}
+use Rattle.wasi_walks.proofs.walks.Asked.{MarksResult, WritesOnce}
+use Rattle.wasi_host.specs.declared.kind.Kind.TheVariants.{Result3}
+use Rattle.wasi_walks.proofs.remotes.State.{StreamsBy}
 use Rattle.wasi_walks.proofs.walks.Law.{BeginsWrites, Rests, begins_by}
-use Rattle.wasi_walks.proofs.walks.Asked.{Asked, Questions, SetsBacklog, Learns, Closes, MarksOne, AsksCreate, MarksAccepted, Polls, Turns, GivesUp, UdpQuestions, UdpDisconnects, UdpLearns, UdpPeers, UdpCloses, UdpBegins, MarksUdp, MarksStream, MarksError, UdpGivesUp, Resolves, Looks}
+use Rattle.wasi_walks.proofs.walks.Asked.{Asked, Questions, SetsBacklog, Learns, Closes, MarksOne, AsksCreate, MarksAccepted, MarksListener, MarksPlain, Polls, Turns, GivesUp, UdpQuestions, UdpDisconnects, UdpLearns, UdpPeers, UdpCloses, UdpBegins, MarksUdp, MarksStream, MarksError, UdpGivesUp, Resolves, Looks}
+use Rattle.wasi_walks.proofs.walks.Asked.{ResolvesBeside, LooksBeside}
 use Rattle.wasi_walks.proofs.Words.{made_to, create_to, Stop, Asks}
 use Rattle.wasi_walks.proofs.Words.{Accepting, Accepts, Allows, Begins, Bool, Call, Done, End, Entry, Err, ErrorCode, Give, HandleTable}
 use Rattle.wasi_walks.proofs.Words.{ErrorValue, IpSocketAddress, IsDoneOrCode, Job, Kind, List, Listening, Machine, None, Not, Ok, OpId, Option}
@@ -25,7 +33,8 @@ use Rattle.wasi_walks.proofs.claims.Law.{Named, Base}
 use Rattle.wasi_walks.proofs.fits.Polls.{Anything}
 use Rattle.wasi_walks.proofs.fits.UdpFits.{kept_op}
 use Rattle.wasi_walks.proofs.walks.Moves as walk
-use Rattle.wasi_walks.proofs.walks.Moves.{Interface, tcp_kind, closed_record, udp_begun, opened_by, part_of, Found, Here, IsOn, IsQuestionOf, IsUdpQuestionOf, Move, OfReader, OfSocket, OfWriter, UdpPlain, joined, receiving_in}
+use Rattle.wasi_host.specs.declared.kind.Kind.TheVariants.{Listen3, Tcp3}
+use Rattle.wasi_walks.proofs.walks.Moves.{Interface, tcp_kind, closed_record, udp_begun, opened_by, part_of, Found, Here, IsOn, IsQuestionOf, IsUdpQuestionOf, Move, OfReader, OfSocket, OfWriter, UdpPlain, faulted, joined, joined_plain, receiving_in}
 use Rattle.wasi_walks.proofs.remotes.Held.{peer_keeps, polls_keep}
 use Rattle.wasi_walks.proofs.remotes.Polls.{AreSilent, NoPeer, Unpeered, silent_poll}
 use Rattle.wasi_walks.proofs.remotes.Along.{has_made}
@@ -85,6 +94,11 @@ marks_keep es records t op kind parent sock i =
 -- whatever the log says, the records of the one keep what those of the other do
 abbrev Adds : Machine → Machine → Type 0
 Adds m now = (es : List Entry) → Keeps es m.store.records → Keeps es now.store.records
+
+-- a write that is offered once asks for none, and leaves the records
+write_once : (es : List Entry) (records : List Record) (op side : OpId) (bytes : List ℕ) → Keeps es records → Allows Anything (λ fs told. Keeps fs records) es (write_asks op side bytes)
+unfolding bind
+write_once es records op side bytes i = (tt, λ told f front. asked es records op _ told (quiet _ _ tt) i)
 
 -- a create of a TCP socket asks for no remote address
 new_quiet : (es : List Entry) (own : OpId) (ctx : WasiSocketsCtx) (family : SocketAddressFamily) → Allows Unpeered (λ fs made. ⊤) es (new_asks own ctx family)
@@ -192,6 +206,14 @@ pub cancelled_quiet : (es : List Entry) (create : Create) → Allows Unpeered (�
 unfolding bind
 cancelled_quiet es create = allows_if Unpeered (λ fs done. ⊤) es (is_going create.operation) _ _ (λ going. (tt, λ told f. tt)) (λ over. tt)
 
+-- the halves of a connection of 0.3, as far as they are there
+ends_by : (r : TcpRecord) → TcpKeeps r → StreamsBy r.side (ends_of r.streams)
+ends_by r k = by_streams r.streams (λ s e. e)
+  where
+    by_streams : (o : Option Streams) → ((s : Streams) → o ≡ Some s → r.streams ≡ Some s) → StreamsBy r.side (ends_of o)
+    by_streams None f = (tt, tt)
+    by_streams (Some s) f = k s (f s refl)
+
 module _ (contexts : List WasiSocketsCtx) (line : ℕ) (origin : Step) where
   -- each move keeps what is known of the records
   pub moves_keep : (es : List Entry) (h now : Here) → Move line origin h now → Base contexts line origin h → Keeps es h.machine.store.records → Keeps es now.machine.store.records
@@ -204,11 +226,13 @@ module _ (contexts : List WasiSocketsCtx) (line : ℕ) (origin : Step) where
   moves_keep es _ _ (walk.BeginsConnect h place r side a bound at g d to known idle own) b i = put_tcp es _ place _ (i.tcps place r g) i
   moves_keep es _ _ (walk.BeginsBind h place r side a at g d to own) b i = put_tcp es _ place _ (i.tcps place r g) i
   moves_keep es _ _ (walk.BeginsWrite h place n r s half permit bytes at g e w within own) b i = write_keeps es h place n r s half permit bytes g e w i
-  moves_keep es _ _ (walk.BeginsListen h place r side at g d bound none to idle own) b i = put_tcp es _ place _ (i.tcps place r g) i
+  moves_keep es _ _ (walk.BeginsListen h place r side bound at g d known un none to idle own) b i = put_tcp es _ place _ (i.tcps place r g) i
   moves_keep es _ _ (walk.BeginsAccept h place part r l at g e a own) b i = put_tcp es _ place _ (i.tcps place r g) i
   moves_keep es _ _ (walk.Unlistens h place r op q g e c o) b i = put_tcp es _ place _ (i.tcps place r g) i
   moves_keep es _ _ (walk.Forgets h place r l c g e a) b i = put_tcp es _ place _ (i.tcps place r g) i
   moves_keep es _ _ (walk.Joins h c handle place r l new peer is of u g e a) b i = push_tcp es _ (joined l new peer) (with_these (joined l new peer) _ refl (refl, refl)) (put_tcp es _ place _ (i.tcps place r g) i)
+  moves_keep es _ _ (walk.JoinsPlain h c listener remaining place r l new peer is of u g e a) b i = push_tcp es _ (joined_plain l new peer) (with_none (joined_plain l new peer) refl) (put_tcp es _ place _ (i.tcps place r g) i)
+  moves_keep es _ _ (walk.JoinsFault h place r l c u g e a) b i = push_tcp es _ (faulted l c) (with_none (faulted l c) refl) (put_tcp es _ place _ (i.tcps place r g) i)
   moves_keep es _ _ (walk.UdpChanges h place o now g p keeps) b i = put_udps es _ place (UdpRecord.Open now) (plain_keeps es o now p (i.udps place (UdpRecord.Open o) g)) i
   moves_keep es _ _ (walk.BeginsUdpBind h place o a at g to own) b i = let k = i.udps place (UdpRecord.Open o) g in
       put_udps es _ place (UdpRecord.Open _)
@@ -230,6 +254,13 @@ module _ (contexts : List WasiSocketsCtx) (line : ℕ) (origin : Step) where
   moves_keep es _ _ (walk.CancelsUdpConnect h place o q g) b i = let k = i.udps place (UdpRecord.Open o) g in put_udps
       es _ place (UdpRecord.Open _)
       (record { created = k.created; remote = k.remote; told = k.told; connects = tt; receiver = k.receiver }) i
+  moves_keep es _ _ (walk.TakesEnd h handle place r _ of g (walk.OfReceive c e free)) b i =
+      let its : r.side ≡ Some c.side = b.1.named c.side place r g (ap side_in e) in
+      put_tcp es _ place (walk.with_receive r c) (with_these (walk.with_receive r c) _ refl (its, (ends_by r (i.tcps place r g)).1)) i
+  moves_keep es _ _ (walk.TakesEnd h handle place r _ of g (walk.OfSend c e free)) b i =
+      let its : r.side ≡ Some c.side = b.1.named c.side place r g (ap side_in e) in
+      put_tcp es _ place (walk.with_send r c) (with_these (walk.with_send r c) _ refl ((ends_by r (i.tcps place r g)).0, its)) i
+  moves_keep es _ _ (walk.AddsSlot h s) b i = records_keep {new = λ op. ⊥} es h.machine.store.records _ (slot_push_same h.machine.store.records s) i
   moves_keep es _ _ (walk.Finds h records s) b i = records_keep es h.machine.store.records records s i
   moves_keep es _ _ (walk.GivesBack h place idle left) b i = fewer_keep es h.machine.store.records place i
   moves_keep es _ _ _ b i = i
@@ -239,16 +270,20 @@ module _ (contexts : List WasiSocketsCtx) (line : ℕ) (origin : Step) where
       → Asked contexts line origin es h A tree end → Base contexts line origin h → Keeps es h.machine.store.records
       → Allows (Anything) (λ fs x. (λ (es : List Entry) (h : Here). Keeps es h.machine.store.records) fs (end x)) es
       tree
-  remotes_asks es h _ _ _ (Questions place n r side c at g o q) b i = (tt, λ told f. asked es _ (own_of n) c told (tcp_spares line origin n es h place r side c g o q b.1 i) i)
+  remotes_asks es h _ _ _ (Questions place n r side c at g o q) b i = (tt, λ told f. asked es _ (own_of n) c told (tcp_spares line origin n es h place r side c g o q.0 b.1 i) i)
   remotes_asks es h _ _ _ (SetsBacklog place r side backlog at g s is) b i = (tt, λ told f. asked es _ (own_of line) _ told (quiet _ _ tt) i)
   remotes_asks es h _ _ _ (Learns place r side at g e) b i = (tt, λ told f. put_tcp _ _ place _ (i.tcps place r g) (asked es _ (own_of line) _ told (quiet _ _ tt) i))
   remotes_asks es h _ _ _ (Closes place r side q g e) b i = (tt, λ told f. put_tcp _ _ place (closed_record r) (with_none (closed_record r) refl) (asked es _ (own_of line) _ told (quiet _ _ tt) i))
   remotes_asks es h _ _ _ (MarksOne kind parent sock m) b i = marks_keep es _ h.machine.table (own_of line) kind parent sock i
   remotes_asks es h _ _ _ (AsksCreate tells fails face ctx family c a o m) b i = creates_keep tells fails face es h.machine (own_of line) ctx family i
   remotes_asks es h _ _ _ (MarksAccepted c s place r is e o g) b i = marks_keep es _ h.machine.table (own_of line) (Tcp2 place) (Some s) _ i
+  remotes_asks es h _ _ _ (MarksPlain c s remaining place r is e o g) b i = marks_keep es _ h.machine.table (own_of line) (Tcp3 place) (Some s) _ i
+  remotes_asks es h _ _ _ (MarksListener n handle reached place r q m g has e) b i = marks_keep es _ h.machine.table (own_of n) (Listen3 place) (Some handle) _ i
+  remotes_asks es h _ _ _ (MarksResult socket place slot r m made e g) b i = marks_keep es _ h.machine.table (own_of line) (Result3 slot) (Some socket) _ i
+  remotes_asks es h _ _ _ (WritesOnce c handle place given end r s half permit is e f at g q w own) b i = write_once es h.machine.store.records (own_of line) half.side (take 4294967295 given) i
   remotes_asks es h _ _ _ (Polls op after k) b i = polls_keep contexts line origin es h op after k b i
   remotes_asks es h _ _ _ (Turns place r s g e) b i = turned_keeps es h place r s g e i
-  remotes_asks es h _ _ _ (GivesUp place r q g) b i =
+  remotes_asks es h _ _ _ (GivesUp place r q goes g) b i =
       allows_weaker Anything (λ fs done. Keeps fs h.machine.store.records × ⊤) (λ fs done. Keeps fs (tcp2_put h.machine.store.records place (with_listening r Not)))
       (λ fs done k. put_tcp fs _ place (with_listening r Not) (i.tcps place r g) k.0) es _ (kept h.machine.store.records (λ fs done. ⊤) es (give_up_asks r.listening) i (given_up es r.listening))
   remotes_asks es h _ _ _ (UdpQuestions place n o c at g q) b i = (tt, λ told f. asked es _ (own_of n) c told (quiet _ c (udp_question_quiet line origin n o.inner.side c q)) i)
@@ -265,6 +300,8 @@ module _ (contexts : List WasiSocketsCtx) (line : ℕ) (origin : Step) where
       (λ fs done k. put_udps fs _ place (UdpRecord.Closed create.operation.who.side) tt k.0) es _ (kept h.machine.store.records (λ fs done. ⊤) es (create_cancel_asks create) i (cancelled_quiet es create))
   remotes_asks es h _ _ _ (Resolves host records l same) b i = (tt, λ told f. records_keep _ _ (records told) (same told) (asked es _ (own_of line) _ told (quiet _ _ tt) i))
   remotes_asks es h _ _ _ (Looks place op g) b i = (tt, λ told f. asked es _ op.id _ told (quiet _ _ tt) i)
+  remotes_asks es h _ _ _ (ResolvesBeside host l) b i = (tt, λ told f. asked es _ (own_of line) _ told (quiet _ _ tt) i)
+  remotes_asks es h _ _ _ (LooksBeside n call host g e) b i = (tt, λ told f. asked es _ (own_of n) _ told (quiet _ _ tt) i)
 
   unfoldable pub remotes : Rests contexts line origin (λ es h. Base contexts line origin h)
   remotes = record {

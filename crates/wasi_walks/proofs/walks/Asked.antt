@@ -1,14 +1,26 @@
 -- What a line asks, as cases: a part of its tree, why the line may ask it, and where the line is by what the part gives.
 use Rattle.wasi_walks.proofs.Words.{create_to, ErrorCode, Asks, Call, End, ErrorValue, Has, IsBacklogSet, Item, Kind, List, None, Not, OpId, Operation, Option}
 use Rattle.wasi_walks.proofs.Words.{HandleTable, Result, SocketAddressFamily, Some, GuestCall, Step, Stop, Streams, Tcp2, TcpRecord, TcpState, Told, WasiSocketsCtx, WriteState}
-use Rattle.wasi_walks.proofs.Words.{Entry, Machine, after_local, create_asks, give_up_asks, make_asks, own_of, poll_asks, side_at, side_of}
-use Rattle.wasi_walks.proofs.Words.{told_addr, told_done, true, turn_asks, with_inner, with_listening, with_writer, ℕ, ◌≡◌}
+use Rattle.wasi_walks.proofs.Words.{Entry, Machine, after_local, give_up_asks, make_asks, own_of, poll_asks, side_at, side_of}
+use Rattle.wasi_walks.proofs.Words.{told_addr, told_done, true, turn_asks, with_inner, with_listening, with_writer, ℕ, ◌≡◌, ◌⊎◌}
+use Rattle.std.specs.Prelude.{Ok, take}
+use Rattle.wasi_world.specs.declared.outcome.Answer.{Answer}
+use Rattle.wasi_tcp.specs.Halves.{write_asks}
+use Rattle.wasi_tcp.specs.declared.halves.TcpSendStream.{TcpSendStream}
+use Rattle.wasi_host.specs.declared.kind.ConnectionEnd.{ConnectionEnd}
 use Rattle.wasi_world.specs.Asks.{one}
-use Rattle.wasi_walks.proofs.walks.Moves.{Interface, tcp_kind, Calls, Creates, CreatesUdp, Found, FoundUdp, HasNewStream, Held, Here, IsCreated, IsOn, IsQuestionOf}
-use Rattle.wasi_walks.proofs.walks.Moves.{IsUdpQuestionOf, Joined, LooksUp, Marks, MarksNext, NoStart, OfStreams, Past, Releases, ReleasesUdp}
-use Rattle.wasi_walks.proofs.walks.Moves.{SameSockets, ToSend, Unused, Used, closed_record, made_so, part_of, put, put_udp, record_of, udp_begun, with_records}
+use Rattle.wasi_walks.proofs.walks.Moves.{Interface, P2, P3, tcp_kind, Calls, Creates, CreatesUdp, Found, FoundUdp, HasNewStream, Held, Here, IsCreated, IsKnown, IsOn, IsQuestionOf}
+use Rattle.wasi_world.specs.Typed.{told_names}
+use Rattle.wasi_walks.proofs.walks.Moves.{Faulted, IsUdpQuestionOf, Joined, ListenerGoes, LooksUp, Marks, MarksNext, NoStart, OfStreams, Past, Releases, ReleasesUdp}
+use Rattle.wasi_walks.proofs.walks.Moves.{SameSockets, ToListen, ToResult, MakesEnds, ToSend, Unused, Used, closed_record, made_so, part_of, put, put_udp, record_of, udp_begun, with_beside, with_records}
 use Rattle.wasi_walks.proofs.walks.Failures.{Fails}
-use Rattle.wasi_host.specs.Kinds.{kind_at, udp_kind, udp_of}
+use Rattle.wasi_host.specs.declared.beside.Beside.{Beside}
+use Rattle.wasi_host.specs.declared.beside.BesideCall.TheVariants.{Resolve}
+use Rattle.wasi_host.specs.Beside.{beside_as, beside_of}
+use Rattle.wasi_host.specs.Resolves.{begun_lookup}
+use Rattle.wasi_host.specs.Kinds.{kind_at, send3_of, tcp3_of, udp_kind, udp_of}
+use Rattle.wasi_host.specs.declared.kind.Kind.TheVariants.{Listen3, Result3, Tcp3}
+use Rattle.wasi_records.specs.Holding.{has_listener}
 use Rattle.wasi_walks.specs.Licence.{IsDisconnect}
 use Rattle.wasi_host.specs.UdpCreates.{udp_side_at}
 use Rattle.wasi_records.specs.Records.{tcp2_at, udp2_at, lookup_at}
@@ -24,7 +36,7 @@ use Rattle.wasi_udp.specs.Socket.{after_local as udp_after_local, after_peer}
 pub data Asked (contexts : List WasiSocketsCtx) (line : ℕ) (origin : Step) (es : List Entry) (h : Here) : (A : Type 0) → Asks A → (A → Here) → Type 1 where
   -- one call on the record that the line works on
   Questions : (place n : ℕ) (r : TcpRecord) (side : OpId) (c : Call) → h.at ≡ Some (place, n) → Found h place r
-      → IsOn r side → IsQuestionOf line origin n side c
+      → IsOn r side → IsQuestionOf line origin n side c × IsKnown r c
       → Asked contexts line origin es h Told (one (own_of n) c) (λ told. h)
   SetsBacklog : (place : ℕ) (r : TcpRecord) (side : OpId) (backlog : ℕ) → h.at ≡ Some (place, line) → Found h place r
       → r.inner.state ≡ TcpState.Listening side → IsBacklogSet backlog origin
@@ -63,17 +75,41 @@ pub data Asked (contexts : List WasiSocketsCtx) (line : ℕ) (origin : Step) (es
       (λ told. with_records h (records told))
   Looks : (place : ℕ) (op : LookupOp) → lookup_at h.machine.store.records place ≡ Some (lookup.InProgress op)
       → Asked contexts line origin es h Told (one op.id (Call.Lookup op.host)) (λ told. h)
+  -- one of 0.3 stands beside other calls while it is pending, and is asked about again
+  ResolvesBeside : (host : List ℕ) → LooksUp contexts host origin
+      → Asked contexts line origin es h Told (one (own_of line) (Call.Lookup host))
+      (λ told. with_beside h (begun_lookup h.machine.store.beside (beside_as line (Resolve host)) (Ok (told_names told))))
+  LooksBeside : (n : ℕ) (b : Beside) (host : List ℕ) → beside_of h.machine.store n ≡ Some b → b.call ≡ Resolve host
+      → Asked contexts line origin es h Told (one (own_of n) (Call.Lookup host)) (λ told. h)
   -- a handle is made
   MarksOne : (kind : Kind) (parent : Option ℕ) (sock : Option OpId) → Marks origin h kind parent sock
       → Asked contexts line origin es h (Result ℕ Stop × HandleTable)
       (make_asks h.machine.table (own_of line) kind parent sock)
       (λ made. record h { machine = record h.machine { table = made.1 } })
-  MarksAccepted : (c listener place : ℕ) (r : TcpRecord) → origin ≡ Step.Call c (GuestCall.TcpAccept listener) → h.made ≡ Joined place
+  MarksAccepted : (c listener place : ℕ) (r : TcpRecord) → origin ≡ Step.Call c (GuestCall.TcpAccept listener) → h.made ≡ Joined P2 place
       → h.own ≡ Used → Found h place r
       → Asked contexts line origin es h (Result ℕ Stop × HandleTable)
       (make_asks h.machine.table (own_of line) (Tcp2 place) (Some listener)
       (side_at (tcp2_at h.machine.store.records place)))
       (λ made. record h { machine = record h.machine { table = made.1 }; made = made_so place made.0 })
+  MarksPlain : (c listener remaining place : ℕ) (r : TcpRecord) → origin ≡ Step.Call c (GuestCall.P3Accept listener remaining)
+      → (h.made ≡ Joined P3 place) ⊎ (h.made ≡ Faulted place) → h.own ≡ Used → Found h place r
+      → Asked contexts line origin es h (Result ℕ Stop × HandleTable)
+      (make_asks h.machine.table (own_of line) (Tcp3 place) (Some listener)
+      (side_at (tcp2_at h.machine.store.records place)))
+      (λ made. record h { machine = record h.machine { table = made.1 }; made = Past })
+  MarksListener : (n handle reached place : ℕ) (r : TcpRecord) → NoStart h → h.made ≡ ToListen n (Some handle) reached
+      → Found h reached r → has_listener r.listening ≡ true → tcp3_of (kind_at h.machine.table handle) ≡ Some place
+      → Asked contexts line origin es h (Result ℕ Stop × HandleTable)
+      (make_asks h.machine.table (own_of n) (Listen3 place) (Some handle)
+      (side_at (tcp2_at h.machine.store.records place)))
+      (λ made. record h { machine = record h.machine { table = made.1 }; made = Past })
+  MarksResult : (socket place slot : ℕ) (r : TcpRecord) → MakesEnds socket origin → h.made ≡ ToResult slot
+      → kind_at h.machine.table socket ≡ Some (Tcp3 place) → Found h place r
+      → Asked contexts line origin es h (Result ℕ Stop × HandleTable)
+      (make_asks h.machine.table (own_of line) (Result3 slot) (Some socket)
+      (side_at (tcp2_at h.machine.store.records place)))
+      (λ made. record h { machine = record h.machine { table = made.1 }; made = Past })
   MarksUdp : (face : Interface) (place : ℕ) (u : UdpRecord) → IsCreated h face place u
       → Asked contexts line origin es h (Result ℕ Stop × HandleTable)
       (make_asks h.machine.table (udp_side u) (udp_kind face place) None (Some (udp_side u)))
@@ -89,6 +125,13 @@ pub data Asked (contexts : List WasiSocketsCtx) (line : ℕ) (origin : Step) (es
       (make_asks h.machine.table (own_of n) ErrorValue (Some handle)
       (side_at (tcp2_at h.machine.store.records place)))
       (λ made. record h { machine = record h.machine { table = made.1 } })
+  -- a write of 0.3 offers its bytes once, by the half of its end
+  WritesOnce : (c handle place : ℕ) (given : List ℕ) (end : ConnectionEnd) (r : TcpRecord) (s : Streams) (half : TcpSendStream) (permit : ℕ)
+      → origin ≡ Step.Call c (GuestCall.P3Write handle given) → send3_of (kind_at h.machine.table handle) ≡ Some end
+      → end.socket ≡ Some place → h.at ≡ Some (place, line) → Found h place r → r.streams ≡ Some s
+      → s.writer ≡ WriteState.Ready half permit → h.own ≡ Unused
+      → Asked contexts line origin es h (Result (Answer ℕ) ErrorCode)
+      (write_asks (own_of line) half.side (take 4294967295 given)) (λ told. record h { own = Used })
   -- several calls
   AsksCreate : {T : Type 0} (tells : Result ℕ Stop → T) (fails : ErrorCode → T) (face : Interface)
       (ctx : WasiSocketsCtx) (family : SocketAddressFamily) → Creates contexts ctx family face origin
@@ -100,7 +143,7 @@ pub data Asked (contexts : List WasiSocketsCtx) (line : ℕ) (origin : Step) (es
   Turns : (place : ℕ) (r : TcpRecord) (s : Streams) → Found h place r → r.streams ≡ Some s
       → Asked contexts line origin es h (Unit {0} × WriteState) (turn_asks s.writer)
       (λ done. put h place (with_writer r s done.1))
-  GivesUp : (place : ℕ) (r : TcpRecord) → NoStart h → Found h place r
+  GivesUp : (place : ℕ) (r : TcpRecord) → NoStart h → ListenerGoes h place r → Found h place r
       → Asked contexts line origin es h (Unit {0}) (give_up_asks r.listening)
       (λ done. put h place (with_listening r Not))
   UdpGivesUp : (place : ℕ) (create : Create) → NoStart h → FoundUdp h place (UdpRecord.Creating create)

@@ -1,8 +1,7 @@
 -- Binds of 0.3, and binds of either interface that were pending, as moves.
-use Rattle.std.specs.Prelude.{◌≡◌, ⊤, ℕ, List, Option, Some, Result, Ok, Err, refl}
+use Rattle.std.specs.Prelude.{◌≡◌, ⊤, ℕ, List, Some, Result, Ok, Err, refl}
 use Rattle.std.proofs.Common.{inl, inr, sym}
 use Rattle.wasi_addr.specs.declared.address.IpSocketAddress.{IpSocketAddress}
-use Rattle.wasi_addr.specs.declared.code.ErrorCode.{ErrorCode}
 use Rattle.wasi_addr.specs.Code.{p3_of_code}
 use Rattle.wasi_world.specs.declared.ids.Ids.{Ids}
 use Rattle.wasi_world.specs.declared.outcome.Answer.{Answer}
@@ -39,7 +38,7 @@ use Rattle.wasi_machine.specs.Machine.{first_ids}
 use Rattle.wasi_steps.specs.declared.step.Step.{Step}
 use Rattle.wasi_steps.specs.Steps.{handles_of}
 use Rattle.wasi_walks.specs.Licence.{Has, IsBindTo, IsUdpBindTo}
-use Rattle.wasi_walks.proofs.walks.Moves.{Changes, Found, FoundUdp, Here, NoStartStands, Own, Reaches, ReachesUdp, Spends, Stands, StandsUdpBind, StreamStays, UdpChanges, Unused, Used, put, put_udp}
+use Rattle.wasi_walks.proofs.walks.Moves.{Changes, FoundUdp, Here, NoStartStands, Own, Reaches, ReachesUdp, Spends, Stands, StandsUdpBind, StreamStays, UdpChanges, Unused, Used, put, put_udp}
 use Rattle.wasi_walks.proofs.walks.Law.{Given, HasRecord, Law, Walks, found, from, give, given_along, gives, and_given, move, on, put_same}
 use Rattle.wasi_walks.proofs.walks.Lines.{call_given, look}
 use Rattle.wasi_walks.proofs.walks.SocketSteps.{on_named}

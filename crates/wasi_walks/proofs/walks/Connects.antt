@@ -23,20 +23,16 @@ use Rattle.wasi_records.specs.InProgress.{is_nothing}
 use Rattle.wasi_records.specs.Names.{own_of}
 use Rattle.wasi_records.specs.Records.{tcp2_at}
 use Rattle.wasi_records.specs.Sockets.{inner_answered, with_inner}
-use Rattle.wasi_records.specs.Stops.{Code, Stop}
-use Rattle.wasi_host.specs.declared.beside.Beside.{Beside}
-use Rattle.wasi_host.specs.declared.beside.BesideCall.{BesideCall}
+use Rattle.wasi_records.specs.Stops.{Code}
 use Rattle.wasi_host.specs.declared.beside.BesideCall.TheVariants.{Connect}
 use Rattle.wasi_host.specs.declared.machine.Machine.{Machine}
-use Rattle.wasi_host.specs.declared.pending.Outcome.{Outcome}
 use Rattle.wasi_host.specs.BaseStops.{BaseStop, renamed}
-use Rattle.wasi_host.specs.Beside.{beside_as, beside_cancelled, beside_polled, besided}
+use Rattle.wasi_host.specs.Beside.{beside_as, beside_polled, besided}
 use Rattle.wasi_host.specs.Binds.{Answered}
 use Rattle.wasi_host.specs.Block.{Call, after_call, give as gives_all, last, need, or_trap, ◌>>◌}
 use Rattle.wasi_host.specs.Connects.{connect_begun, connect_in, connect_of, connects, reconnect_in, reconnect_of, reconnects}
 use Rattle.wasi_host.specs.Kinds.{kind_at}
-use Rattle.wasi_host.specs.Machine.{tcp3_at, with_store}
-use Rattle.wasi_host.specs.Pending.{go_on_beside, resume_beside, resumed}
+use Rattle.wasi_host.specs.Machine.{tcp3_at}
 use Rattle.wasi_host.specs.Store.{Records, with_socket}
 use Rattle.wasi_p3.specs.Tcp.{connect_to}
 use Rattle.wasi_steps.specs.declared.step.Step.{Step}
@@ -44,7 +40,7 @@ use Rattle.wasi_steps.specs.Steps.{handles_of}
 use Rattle.wasi_walks.specs.Licence.{Has, IsConnectTo}
 use Rattle.wasi_walks.proofs.Places.{put_finds, tcp_sort}
 use Rattle.wasi_walks.proofs.walks.Moves.{EndsBeside, Here, Reaches, Spends, StandsBeside, Unused, Used, put}
-use Rattle.wasi_walks.proofs.walks.Law.{Given, HasRecord, Law, Walks, and_given, and_then, by_if, from, give, given_along, given_then, gives, move, put_same, spent}
+use Rattle.wasi_walks.proofs.walks.Law.{Given, HasRecord, Law, Walks, and_given, and_then, by_if, from, give, given_along, given_then, gives, put_same, spent}
 use Rattle.wasi_walks.proofs.walks.Lines.{call, look}
 use Rattle.wasi_walks.proofs.walks.SocketSteps.{on_named}
 use Rattle.wasi_walks.proofs.walks.Sockets.{Spent, finish_walks, start_connect_walks}
@@ -191,26 +187,10 @@ module _ {contexts : List WasiSocketsCtx} {line : ℕ} {origin : Step} {law : La
       look (λ r. last (Call Code (λ s. r) (λ s now. with_socket s place now) reconnects)) (tcp2_at m.store.records place) (give _)
       (λ r g. from (put_same (Over m) place r g) (call _ (reconnects_walks (there {h = Over m} g) r) (λ e t. give _) (λ d t. give _)))
 
-  reconnect_walks : (m : Machine) (n place : ℕ) → Walks law (Over m) (λ done. Over (record m { store = done.1 })) (reconnect_of n place m.store)
+  pub reconnect_walks : (m : Machine) (n place : ℕ) → Walks law (Over m) (λ done. Over (record m { store = done.1 })) (reconnect_of n place m.store)
   reconnect_walks m n place = and_then (reconnect_in_walks m place) polled
     where
       polled : (done : Result (Answer (Unit {0})) BaseStop × Records) → Walks law (Over (record m { store = done.1 })) (λ now. Over (record m { store = now.1 })) (Give (beside_polled n done))
       polled (Ok Pending, store) = give _
       polled (Ok (Ready d), store) = gives _ (EndsBeside _ n)
       polled (Err stop, store) = gives _ (EndsBeside _ n)
-
-  go_on_beside_walks : (m : Machine) (n : ℕ) (call : BesideCall) → Walks law (Over m) OverWith (go_on_beside m n call)
-  go_on_beside_walks m n (Connect place) = and_then (reconnect_walks m n place) (λ done. give _)
-
-  pub resume_beside_walks : (m : Machine) (n : ℕ) (o : Option Beside) → Walks law (Starts m Unused) OverWith (resume_beside m n o)
-  resume_beside_walks m n None = gives _ (Spends _ refl)
-  resume_beside_walks m n (Some b) = move (Spends _ refl) (and_then (go_on_beside_walks m n b.call) resumed_walks)
-    where
-      resumed_walks : (done : Result (Answer Outcome) Stop × Machine) → Walks law (Over done.1) OverWith (Give (resumed done))
-      resumed_walks (Ok answer, now) = give _
-      resumed_walks (Err why, now) = give _
-
-  -- == and is given up: its socket keeps connecting
-  pub cancel_beside_walks : (m : Machine) (n : ℕ) (o : Option Beside) → Walks law (Starts m Unused) OverWith (Give (with_store m (beside_cancelled m.store n o)))
-  cancel_beside_walks m n None = gives _ (Spends _ refl)
-  cancel_beside_walks m n (Some b) = move (Spends _ refl) (gives _ (EndsBeside _ n))

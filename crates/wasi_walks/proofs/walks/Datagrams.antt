@@ -3,7 +3,7 @@ use Rattle.std.specs.Prelude.{is_some, ◌||◌, ◌≡◌, ⊤, ℕ, Bool, true
 use Rattle.wasi_addr.specs.declared.address.IpSocketAddress.{IpSocketAddress}
 use Rattle.wasi_addr.specs.Address.{is_wildcard}
 use Rattle.wasi_walks.proofs.Words.{Answer, ErrorCode, Give, Has, Item, End, Waits, Done, Refused, Machine, Operation, Pending, Ready, Records, StandingCall, GuestCall, Step, Stop, WasiSocketsCtx, List}
-use Rattle.wasi_walks.proofs.Words.{ap, bind, handles_of, kind_at, left_of, own_of, poll_asks, refl, sym, subst, told_done, HandleTable, Kind, inl, inr, is_full, make_asks, name_of, with_handle, table_parent, ask_made, Full, Trap, InvalidArgument}
+use Rattle.wasi_walks.proofs.Words.{ap, bind, handles_of, kind_at, left_of, own_of, poll_asks, refl, sym, subst, HandleTable, Kind, inl, inr, is_full, make_asks, name_of, with_handle, table_parent, ask_made, Full, Trap, InvalidArgument}
 use Rattle.wasi_machine.specs.Machine.{first_ids}
 use Rattle.wasi_world.specs.declared.ids.Ids.{Ids}
 use Rattle.wasi_world.specs.declared.ids.OpId.{OpId}

@@ -4,12 +4,17 @@ use Rattle.wasi_walks.proofs.Words.{Bool, HandleTable, Kind, List, Machine, None
 use Rattle.std.specs.Prelude.{is_some, slice_get, ◌||◌}
 use Rattle.wasi_world.specs.declared.ids.Ids.{Ids}
 use Rattle.wasi_records.specs.Datagrams.{has_streams}
+use Rattle.wasi_records.specs.Holding.{has_listener}
 use Rattle.wasi_records.specs.Receiving.{taken, with_receiving}
 use Rattle.wasi_records.specs.Records.{open_at, open_of, tcp2_at, udp2_at, lookup_at, input_pipe_at, output_pipe_at}
 use Rattle.wasi_host.specs.UdpCalls.{with_udp}
+use Rattle.wasi_host.specs.declared.beside.Beside.{Beside}
 pub use Rattle.wasi_host.specs.declared.kind.Interface.{Interface}
 pub use Rattle.wasi_host.specs.declared.kind.Interface.TheVariants.{P2, P3}
-use Rattle.wasi_host.specs.declared.kind.Kind.TheVariants.{Incoming, Outgoing, Tcp3, Udp2, Udp3, Lookup, PlainInput, PlainOutput}
+use Rattle.wasi_host.specs.declared.kind.Kind.TheVariants.{Incoming, Listen3, Outgoing, Receive3, Result3, Send3, Tcp3, Udp2, Udp3, Lookup, PlainInput, PlainOutput}
+use Rattle.wasi_host.specs.declared.kind.ConnectionEnd.{ConnectionEnd}
+use Rattle.wasi_records.specs.Slots.{slot_at}
+use Rattle.wasi_records.specs.declared.slot.Slot.{Slot}
 use Rattle.wasi_records.specs.Udp.{udp_side}
 use Rattle.wasi_records.specs.declared.datagrams.Incoming.{Incoming as IncomingStream}
 use Rattle.memory_streams.specs.Plain.{Contents}
@@ -40,22 +45,28 @@ pub data CallKind : Type 0 where
   OfStreams : CallKind
   OfPollables : CallKind
 
--- what an accept has made so far: nothing, the record of what it took, or its handle too; the line whose call makes datagram
--- streams, the handle that they are made under, and the record that it is of, and the same once the incoming one was marked; the line
+-- what an accept has made so far: nothing, the record of what it took for an interface, that of a fault, or its handle too; the line
+-- whose call makes datagram streams, the handle that they are made under, and the record that it is of, and the same once the incoming
+-- one was marked; the line that listens, the handle that its listener is made under, where it gets one, and the record; the line
 -- whose call on streams or on pollables is done, and the handles that it named; the kind of a handle that was dropped, under which
--- nothing was live; the record whose create is polled for an interface, by its
+-- nothing was live; the record of a TCP socket that nothing holds any more; the record whose create is polled for an interface, by its
 -- network socket, which has no handle yet; the number of the record of a lookup or of a pipe that
--- is made, while the next handle is still this one; else nothing is said of it
+-- is made, while the next handle is still this one; the record of the result slot of an end that is made, which has no handle yet;
+-- else nothing is said of it
 pub data Made : Type 0 where
   ToStream : ℕ → ℕ → ℕ → Made
   ToSend : ℕ → ℕ → ℕ → Made
+  ToListen : ℕ → Option ℕ → ℕ → Made
   Calls : CallKind → ℕ → List ℕ → Made
   Emptied : Kind → Made
+  Freed : ℕ → Made
   Awaited : Interface → OpId → ℕ → Made
   Numbered : ℕ → ℕ → Made
+  ToResult : ℕ → Made
   Past : Made
   Unmade : Made
-  Joined : ℕ → Made
+  Joined : Interface → ℕ → Made
+  Faulted : ℕ → Made
   Marked : ℕ → ℕ → Made
 
 -- What a line works on.
@@ -81,6 +92,10 @@ FoundUdp h place u = udp2_at h.machine.store.records place ≡ Some u
 -- other records
 abbrev pub with_records : Here → List Record → Here
 with_records h records = record h { machine = record h.machine { store = record h.machine.store { records = records } } }
+
+-- with these calls beside others
+abbrev pub with_beside : Here → List Beside → Here
+with_beside h beside = record h { machine = record h.machine { store = record h.machine.store { beside = beside } } }
 
 -- a connect of the record is pending
 abbrev pub IsConnectOf : StandingCall → ℕ → Type 0
@@ -138,29 +153,24 @@ abbrev pub tcp_kind : Interface → ℕ → Kind
 tcp_kind P2 place = Tcp2 place
 tcp_kind P3 place = Tcp3 place
 
--- the record of the TCP socket that a handle of either interface names
-abbrev pub tcp_socket_of : Kind → Option ℕ
-tcp_socket_of (Tcp2 place) = Some place
-tcp_socket_of (Tcp3 place) = Some place
-tcp_socket_of _ = None
-
--- the same of a UDP socket
+-- the record of the UDP socket that a handle of either interface names
 abbrev pub udp_socket_of : Kind → Option ℕ
 udp_socket_of (Udp2 place) = Some place
 udp_socket_of (Udp3 place) = Some place
 udp_socket_of _ = None
 
--- the handle that the line dropped was a TCP socket's
-pub record IsDropped (now : Made) (place : ℕ) : Type 0 where
-  pub kind : Kind
-  pub made : now ≡ Emptied kind
-  pub socket : tcp_socket_of kind ≡ Some place
-
--- and the record is that of a socket that is dropped, so that its streams may go
+-- and nothing holds the record of the TCP socket any more, so that its streams may go
 abbrev pub Releases : Here → ℕ → Type 0
-Releases h place = NoStart h × IsDropped h.made place
+Releases h place = NoStart h × (h.made ≡ Freed place)
 
--- the same of a UDP socket
+-- its listener may go: there is none, or it has no handle yet, or none any more, or nothing holds the record
+pub data ListenerGoes (h : Here) (place : ℕ) (r : TcpRecord) : Type 0 where
+  NoListener : has_listener r.listening ≡ false → ListenerGoes h place r
+  NotYet : (n : ℕ) (marks : Option ℕ) → h.made ≡ ToListen n marks place → ListenerGoes h place r
+  NoMore : h.made ≡ Emptied (Listen3 place) → ListenerGoes h place r
+  OfNothing : h.made ≡ Freed place → ListenerGoes h place r
+
+-- the handle that the line dropped was a UDP socket's
 pub record IsUdpDropped (now : Made) (place : ℕ) : Type 0 where
   pub kind : Kind
   pub made : now ≡ Emptied kind
@@ -176,6 +186,33 @@ IsNumbered h (PlainInput (plain_input.Pipe place)) = (h.made ≡ Numbered place 
 IsNumbered h (PlainOutput (plain_output.Pipe place)) = (h.made ≡ Numbered place h.machine.table.next) × (is_some (output_pipe_at h.machine.store.records place) ≡ true)
 IsNumbered h _ = ⊤
 
+-- == ends of a connection of 0.3
+-- the end that a handle is of
+abbrev pub end_in : Kind → Option ConnectionEnd
+end_in (Receive3 end) = Some end
+end_in (Send3 end) = Some end
+end_in _ = None
+
+abbrev pub end_of : Option Kind → Option ConnectionEnd
+end_of None = None
+end_of (Some kind) = end_in kind
+
+-- the line makes an end of the socket of this handle, and its slot
+abbrev pub MakesEnds : ℕ → Step → Type 0
+MakesEnds socket (Step.Call ctx (GuestCall.P3TcpReceive s)) = s ≡ socket
+MakesEnds socket (Step.Call ctx (GuestCall.P3TcpSend s)) = s ≡ socket
+MakesEnds socket _ = ⊥
+
+-- and this is the end
+abbrev pub MakesEnd : ℕ → Kind → Step → Type 0
+MakesEnd socket (Receive3 end) (Step.Call ctx (GuestCall.P3TcpReceive s)) = s ≡ socket
+MakesEnd socket (Send3 end) (Step.Call ctx (GuestCall.P3TcpSend s)) = s ≡ socket
+MakesEnd socket _ _ = ⊥
+
+-- it is of the record of this place, where its half could be taken; it is closed, else
+abbrev pub IsEndAt : ℕ → ConnectionEnd → Type 0
+IsEndAt place end = (end.socket ≡ Some place) ⊎ (end.socket ≡ None)
+
 -- == jobs
 -- a record is there, and wasn't given back
 abbrev pub IsRecord : Option Record → Type 0
@@ -188,15 +225,16 @@ abbrev pub KeepsJobs : List Record → List HostJob → List HostJob → Type 0
 KeepsJobs records old now = (job : HostJob) → Has now job → Has old job ⊎ IsRecord (slice_get records (job_place job))
 
 -- == what is given back
--- a record to which no handle is any more: the one that it had was just dropped, or it is a UDP socket whose network socket is closed,
--- or a lookup whose handle wasn't made
+-- a record to which no handle is any more: nothing holds it, or it is a UDP socket whose network socket is closed,
+-- or a lookup whose handle wasn't made, or a result slot
 pub data IsLeft (h : Here) (place : ℕ) : Type 0 where
-  OfTcp : (r : TcpRecord) → IsDropped h.made place → Found h place r → IsLeft h place
+  OfTcp : (r : TcpRecord) → h.made ≡ Freed place → Found h place r → IsLeft h place
   OfUdp : (side : OpId) → FoundUdp h place (UdpRecord.Closed side) → IsLeft h place
   OfLookup : (l : NameLookup) → h.made ≡ Emptied (Lookup place) → lookup_at h.machine.store.records place ≡ Some l → IsLeft h place
   OfUnnamed : (l : NameLookup) → h.made ≡ Numbered place h.machine.table.next → lookup_at h.machine.store.records place ≡ Some l → IsLeft h place
   OfInput : (bytes : List ℕ) → h.made ≡ Emptied (PlainInput (plain_input.Pipe place)) → input_pipe_at h.machine.store.records place ≡ Some bytes → IsLeft h place
   OfOutput : (pipe : Contents) → h.made ≡ Emptied (PlainOutput (plain_output.Pipe place)) → output_pipe_at h.machine.store.records place ≡ Some pipe → IsLeft h place
+  OfSlot : (s : Slot) → h.made ≡ Emptied (Result3 place) → slot_at h.machine.store.records place ≡ Some s → IsLeft h place
 
 -- it goes, with its jobs
 abbrev pub without_record : Here → ℕ → Here
@@ -374,3 +412,15 @@ next_given line n = inr (refl, omega arith)
 -- a line's own name isn't given where it has begun nothing
 pub own_not_given : (line : ℕ) (own : Own) (x : OpId) → own ≡ Unused → x.step ≡ line → IsOlder line own x → ⊥
 own_not_given line own x u e o = let p : IsOlder line Unused x = subst (λ (w : Own). IsOlder line w x) u o in absurd (omega (arith, p, e))
+
+-- == ends of 0.3 connections
+-- the socket that an open end is of, whose record it may outlive
+abbrev pub end_place : Kind → Option ℕ
+end_place (Receive3 end) = end.socket
+end_place (Send3 end) = end.socket
+end_place _ = None
+
+-- the slot that a result's handle is of
+abbrev pub slot_place : Kind → Option ℕ
+slot_place (Result3 place) = Some place
+slot_place _ = None

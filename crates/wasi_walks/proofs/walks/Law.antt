@@ -1,12 +1,12 @@
 -- A law of runs: what each ask must be, what holds between the asks, and that each move keeps it.
-use Rattle.wasi_walks.proofs.walks.Moves.{Interface, tcp_kind, Releases}
+use Rattle.wasi_walks.proofs.walks.Moves.{Interface, ListenerGoes, P2, tcp_kind, Releases}
 use Rattle.wasi_walks.proofs.Words.{create_to, Result, Stop, ErrorCode, Accepting, Accepts, Allows, Ask, AskWrite, Asks, Begins, Bool, Call, End, Entry, Fits, Give, InProgress}
 use Rattle.wasi_walks.proofs.Words.{IsBacklogSet, Item, Kind, List, Listener, None, Not, OpId, Operation, Option, SocketAddressFamily, Some, GuestCall, Step}
 use Rattle.wasi_walks.proofs.Words.{Streams, Tcp2, TcpRecord, TcpState, Told, WasiSocketsCtx, [], accept_ended, after_local, allows_then}
-use Rattle.wasi_walks.proofs.Words.{allows_weaker, ap, bind, bind_progress, connect_ended, create_asks, entry, false, give_up_asks, if◌then◌else◌}
+use Rattle.wasi_walks.proofs.Words.{allows_weaker, ap, bind, bind_progress, connect_ended, entry, false, give_up_asks, if◌then◌else◌}
 use Rattle.wasi_walks.proofs.Words.{make_asks, own_of, poll_asks, refl, side_at, side_of, subst, sym, told_addr, true}
 use Rattle.wasi_walks.proofs.Words.{turn_asks, with_inner, with_listening, with_progress, with_state, with_writer, ℕ, ◌++◌, ◌∷◌, ◌≡◌}
-use Rattle.wasi_walks.proofs.walks.Moves.{Here, Own, put, Found, NoStart, closed_record, Past, Joined, made_so, listen_after, accepting_now, Held, BindsOn, Connects, Listens, Awaits, IsQuestionOf, IsOn, Move, Marks, Creates, Used, Unused}
+use Rattle.wasi_walks.proofs.walks.Moves.{Here, Own, put, Found, NoStart, closed_record, Past, Joined, made_so, listen_after, accepting_now, Held, BindsOn, Connects, Listens, Awaits, IsKnown, IsQuestionOf, IsOn, Move, Marks, Creates, Used, Unused}
 use Rattle.wasi_records.specs.Records.{tcp2_at}
 use Rattle.wasi_walks.proofs.Words.{TcpSendStream, WriteState, length, nat_lt, new_job}
 use Rattle.wasi_records.specs.declared.records.Record.{Record}
@@ -146,7 +146,7 @@ module _ {contexts : List WasiSocketsCtx} {line : ℕ} {origin : Step} {law : La
   pub mark : {h : Here} {kind : Kind} {parent : Option ℕ} {sock : Option OpId} → Marks origin h kind parent sock → Walks law h (λ made. record h { machine = record h.machine { table = made.1 } }) (make_asks h.machine.table (own_of line) kind parent sock)
   mark {h} {kind} {parent} {sock} m = record { along = λ es i. law.asks es h _ _ _ (MarksOne kind parent sock m) tt i }
 
-  pub accept : {h : Here} (c listener place : ℕ) (r : TcpRecord) → origin ≡ Step.Call c (GuestCall.TcpAccept listener) → h.made ≡ Joined place → h.own ≡ Used → Found h place r
+  pub accept : {h : Here} (c listener place : ℕ) (r : TcpRecord) → origin ≡ Step.Call c (GuestCall.TcpAccept listener) → h.made ≡ Joined P2 place → h.own ≡ Used → Found h place r
       → Walks law h (λ made. record h { machine = record h.machine { table = made.1 }; made = made_so place made.0 }) (make_asks h.machine.table (own_of line) (Tcp2 place) (Some listener) (side_at (tcp2_at h.machine.store.records place)))
   accept {h} c listener place r is e o g = record { along = λ es i. law.asks es h _ _ _ (MarksAccepted c listener place r is e o g) tt i }
 
@@ -158,7 +158,7 @@ module _ {contexts : List WasiSocketsCtx} {line : ℕ} {origin : Step} {law : La
     pub on : {A : Type 0} {end : A → Here} {asks : Asks A} (r now : TcpRecord) → Move line origin (put h place r) (put (put h place r) place now) → Walks law (put h place now) end asks → Walks law (put h place r) end asks
     on r now m w = move m (from (sym (put_put h place r now)) w)
 
-    pub ask : {A : Type 0} {n : ℕ} {end : A → Here} (r : TcpRecord) {side : OpId} {c : Call} {next : Told → Asks A} → h.at ≡ Some (place, n) → IsOn r side → IsQuestionOf line origin n side c → ((told : Told) → Fits c told → Walks law (put h place r) end (next told)) → Walks law (put h place r) end (Ask (own_of n) c next)
+    pub ask : {A : Type 0} {n : ℕ} {end : A → Here} (r : TcpRecord) {side : OpId} {c : Call} {next : Told → Asks A} → h.at ≡ Some (place, n) → IsOn r side → IsQuestionOf line origin n side c × IsKnown r c → ((told : Told) → Fits c told → Walks law (put h place r) end (next told)) → Walks law (put h place r) end (Ask (own_of n) c next)
     ask {n} r {side} {c} at o q k = record {
       along = λ es i.
           let a = law.asks es (put h place r) _ _ _ (Questions place n r side c at (found here r) o q) tt i in
@@ -207,8 +207,8 @@ module _ {contexts : List WasiSocketsCtx} {line : ℕ} {origin : Step} {law : La
     }
 
     -- the record goes: its listening is released, and its network socket is closed
-    pub give_up : (r : TcpRecord) → NoStart h → Walks law (put h place r) (λ done. put h place (with_listening r Not)) (give_up_asks r.listening)
-    give_up r q = ends (λ done. put_put h place r (with_listening r Not)) (record { along = λ es i. law.asks es (put h place r) _ _ _ (GivesUp place r q (found here r)) tt i })
+    pub give_up : (r : TcpRecord) → NoStart h → ListenerGoes (put h place r) place r → Walks law (put h place r) (λ done. put h place (with_listening r Not)) (give_up_asks r.listening)
+    give_up r q goes = ends (λ done. put_put h place r (with_listening r Not)) (record { along = λ es i. law.asks es (put h place r) _ _ _ (GivesUp place r q goes (found here r)) tt i })
 
     pub close : {A : Type 0} {end : A → Here} (r : TcpRecord) {side : OpId} {next : Told → Asks A} → Releases h place → side_of r.inner ≡ Some side → ((told : Told) → Walks law (put h place (closed_record r)) end (next told)) → Walks law (put h place r) end (Ask (own_of line) (Call.Close side) next)
     close r {side} q e k = record {

@@ -1,29 +1,66 @@
 -- The steps of listens and accepts, as moves.
-use Rattle.wasi_walks.proofs.Words.{Accepts, Answer, Bool, Err, ErrorCode, Give, HandleTable, Has, IsListenStep, List, Listening, Machine, None, Ok, Option}
+use Rattle.wasi_walks.proofs.Words.{Accepts, Answer, Bool, Not, Pending, bind, subst, Err, ErrorCode, Give, HandleTable, Has, IsListenStep, List, Listening, Machine, None, Ok, Option}
 use Rattle.wasi_walks.proofs.Words.{Ready, Records, Result, Socket, Some, StandingCall, GuestCall, Step, Stop, TcpRecord, WasiSocketsCtx, accept_answered}
 use Rattle.wasi_walks.proofs.Words.{accept_at, accept_end, accept_listening, accept_on, accepted_asks, accepted_record, accepted_streams, false}
 use Rattle.wasi_walks.proofs.Words.{first_ids, handles_of, is_nothing, kept_accepted, kind_at, make_asks, own_of, refl, side_at}
 use Rattle.wasi_walks.proofs.Words.{socket_at, start_listen_at, start_listen_by, true, with_records, with_store, socket_with_streams, with_table, ℕ, ⊤, ◌≡◌}
-use Rattle.wasi_walks.proofs.walks.Moves.{NoStartStands, Used, Unused, put, Found, record_of, Reaches, Leaves, Spends, Marked, made_so, AnAcceptedStream, Watches, Counts, Names, SpendsNames}
+use Rattle.wasi_walks.proofs.walks.Moves.{ListensFor, RemembersListen, StandsListen, NoStartStands, Used, Unused, put, Found, record_of, Reaches, Leaves, Spends, Marked, made_so, AnAcceptedStream, Watches, Counts, Names, SpendsNames}
+use Rattle.wasi_world.specs.declared.ids.Ids.{Ids}
+use Rattle.wasi_host.specs.Pending.{relisten_at}
+use Rattle.wasi_host.specs.Standing.{call_answered}
+use Rattle.wasi_p2.specs.Tcp.{start_listen_on}
+use Rattle.wasi_records.specs.Listening.{begin_listen_asks}
 use Rattle.wasi_walks.proofs.walks.Here.{after_names, part_after}
 use Rattle.std.specs.Prelude.{not}
 use Rattle.wasi_tcp.specs.Listener.{has_accept}
-use Rattle.wasi_walks.proofs.walks.Law.{Law, HasRecord, put_same, Walks, give, and_then, and_given, move, gives, from, accept}
-use Rattle.wasi_walks.proofs.walks.Sockets.{joined_if, Took, takes_walks, listener_walks, begin_listen_walks, begun_listen_given, WaitsSo}
-use Rattle.wasi_walks.proofs.walks.States.{Watching, OverWith, Between, socket_record, JoinedSo, At, Starts, given_any, AcceptedSo, Put, joined_given, Over, there}
-use Rattle.wasi_walks.proofs.walks.SocketSteps.{answered_walks, streams_walks}
+use Rattle.wasi_walks.proofs.walks.Law.{Law, HasRecord, found, put_same, Walks, give, and_then, and_given, move, gives, from, accept}
+use Rattle.wasi_walks.proofs.walks.Accepts.{joined_if, Took, takes_walks, listener_walks}
+use Rattle.wasi_walks.proofs.walks.Sockets.{begin_listen_walks, begun_listen_given, begun_refused, listen_given, poll_listen_walks, IsNot, IsRefused, ListensSo}
+use Rattle.wasi_walks.proofs.walks.States.{Watching, OverWith, Between, socket_record, JoinedSo, At, Starts, given_any, AcceptedSo, Listens, OverIn, joined_given, Over, there}
+use Rattle.wasi_walks.proofs.walks.SocketSteps.{streams_walks}
 use Rattle.wasi_records.specs.Records.{tcp2_at, tcp2_put}
 
 module _ {contexts : List WasiSocketsCtx} {line : ℕ} {origin : Step} {law : Law contexts line origin} where
   -- == a listen
-  start_listen_by_walks : (m : Machine) (place : ℕ) (r : TcpRecord) (idle : Bool) → is_nothing r.in_progress ≡ idle → Found (At line m place Unused) place r → IsListenStep origin → NoStartStands m.store.standing → Walks law (At line m place Unused) (Put line m place) (start_listen_by m.store (first_ids line) place r idle)
-  start_listen_by_walks m place r true e g is q =
-      from (put_same (At line m place Unused) place r g) (and_given (WaitsSo (StandingCall.Listen place)) (begun_listen_given place (own_of line) r) (begin_listen_walks (there g) refl is refl q r e) (λ begun w. answered_walks m (first_ids line) (StandingCall.Listen place) q begun (record { was = r; found = g }) w))
-  start_listen_by_walks m place r false e g is q = gives _ (Spends _ refl)
+  -- what the line answered, after which nothing is worked on any more
+  listened_walks : (m : Machine) (ids : Ids) (place : ℕ) → NoStartStands m.store.standing → HasRecord (Listens ids.line m None place Used) place → (done : Result (Answer (Unit {0})) ErrorCode × TcpRecord) → ListensSo done
+      → Walks law (put (Listens ids.line m None place Used) place done.1) (OverIn m) (Give (call_answered m.store ids (StandingCall.Listen place None) done))
+  listened_walks m ids place q here (Ok Pending, r) so = move (StandsListen _ ids place None r q refl refl (found here r) so) (gives _ (Leaves _))
+  listened_walks m ids place q here (Ok (Ready d), r) so = gives _ (Leaves _)
+  listened_walks m ids place q here (Err c, r) so = gives _ (Leaves _)
 
-  pub start_listen_at_walks : (m : Machine) (place : ℕ) (o : Option TcpRecord) → tcp2_at m.store.records place ≡ o → IsListenStep origin → NoStartStands m.store.standing → Walks law (At line m place Unused) (Put line m place) (start_listen_at m.store (first_ids line) place o)
-  start_listen_at_walks m place None g is q = gives _ (Spends _ refl)
-  start_listen_at_walks m place (Some r) g is q = start_listen_by_walks m place r (is_nothing r.in_progress) refl g is q
+  pub relisten_walks : (m : Machine) (ids : Ids) (place : ℕ) → NoStartStands m.store.standing → (o : Option TcpRecord) → tcp2_at m.store.records place ≡ o → Walks law (Listens ids.line m None place Used) (OverIn m) (relisten_at m.store ids place o)
+  relisten_walks m ids place q None g = gives _ (Leaves _)
+  relisten_walks m ids place q (Some r) g =
+      from (put_same (Listens ids.line m None place Used) place r g) (and_given ListensSo (listen_given r) (poll_listen_walks (there {h = Listens ids.line m None place Used} g) q r) (listened_walks m ids place q (there {h = Listens ids.line m None place Used} g)))
+
+  module _ (m : Machine) (place : ℕ) (is : IsListenStep origin) (first : ListensFor None origin) (q : NoStartStands m.store.standing) where
+    begins_walks : (r : TcpRecord) → Found (At line m place Unused) place r → is_nothing r.in_progress ≡ true → (l : Listening) → r.listening ≡ l → Walks law (At line m place Unused) (OverIn m) (bind (begin_listen_asks (own_of line) r) (λ done. Give (call_answered m.store (first_ids line) (StandingCall.Listen place None) done)))
+    begins_walks r g idle Not e =
+        move (RemembersListen _ None place r first tt g e)
+        (from (put_same (Listens line m None place Unused) place r g)
+        (and_given ListensSo (begun_listen_given (own_of line) r) (begin_listen_walks (there {h = Listens line m None place Unused} g) refl is refl q r idle) (listened_walks m (first_ids line) place q (there {h = Listens line m None place Used} g))))
+    begins_walks r g idle l e = refused l (λ n. absurd (subst IsNot e n))
+      where
+        ended : (done : Result (Answer (Unit {0})) ErrorCode × TcpRecord) → IsRefused done → Walks law (put (At line m place Used) place done.1) (OverIn m) (Give (call_answered m.store (first_ids line) (StandingCall.Listen place None) done))
+        ended (Ok answer, now) k = absurd k
+        ended (Err c, now) k = gives _ (Leaves _)
+
+        refused : (l : Listening) → (IsNot r.listening → ⊥) → Walks law (At line m place Unused) (OverIn m) (bind (begin_listen_asks (own_of line) r) (λ done. Give (call_answered m.store (first_ids line) (StandingCall.Listen place None) done)))
+        refused l other = from (put_same (At line m place Unused) place r g) (and_given IsRefused (begun_refused (own_of line) r other) (begin_listen_walks (there g) refl is refl q r idle) ended)
+
+    start_listen_by_walks : (r : TcpRecord) (idle : Bool) → is_nothing r.in_progress ≡ idle → Found (At line m place Unused) place r → Walks law (At line m place Unused) (OverIn m) (start_listen_by m.store (first_ids line) place r idle)
+    start_listen_by_walks r true e g = begins_walks r g e r.listening refl
+    start_listen_by_walks r false e g = move (Spends _ refl) (gives _ (Leaves _))
+
+    start_listen_at_walks : (o : Option TcpRecord) → tcp2_at m.store.records place ≡ o → Walks law (At line m place Unused) (OverIn m) (start_listen_at m.store (first_ids line) place o)
+    start_listen_at_walks None g = move (Spends _ refl) (gives _ (Leaves _))
+    start_listen_at_walks (Some r) g = start_listen_by_walks r (is_nothing r.in_progress) refl g
+
+  pub start_listen_walks : (m : Machine) (s : ℕ) (o : Option ℕ) → socket_at m s ≡ o → Has (handles_of origin) s → IsListenStep origin → ListensFor None origin → NoStartStands m.store.standing
+      → Walks law (Starts m Unused) OverWith (start_listen_on m (first_ids line) o)
+  start_listen_walks m s None e named is first q = gives _ (Spends _ refl)
+  start_listen_walks m s (Some place) e named is first q = move (Reaches _ s place named (socket_record (kind_at m.table s) place e)) (and_then (start_listen_at_walks m place is first q (tcp2_at m.store.records place) refl) (λ done. give _))
 
   -- == an accept
 

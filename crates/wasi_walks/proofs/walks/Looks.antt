@@ -27,7 +27,8 @@ use Rattle.wasi_walks.proofs.walks.Here.{MayBegin, after}
 use Rattle.wasi_walks.proofs.walks.Moves.{Calls, FoundUdp, Here, Lists, Names, OfPollables, Own, ReachesHandle, ReachesUdp, part_of, put, put_udp, tcp_place}
 use Rattle.wasi_walks.proofs.walks.Law.{HasRecord, Law, Walks, and_then, ends, from, give, gives, move, put_same}
 use Rattle.wasi_walks.proofs.walks.Receives.{begun_walks, incoming_is}
-use Rattle.wasi_walks.proofs.walks.Sockets.{finish_walks, listener_walks}
+use Rattle.wasi_walks.proofs.walks.Accepts.{listener_walks}
+use Rattle.wasi_walks.proofs.walks.Sockets.{finish_walks}
 use Rattle.wasi_walks.proofs.walks.States.{there, watch_record, watch_udp}
 use Rattle.wasi_walks.proofs.walks.Streams.{ready_reader_walks, ready_writer_walks}
 use Rattle.wasi_walks.proofs.walks.Udp.{open_is, udp_there}

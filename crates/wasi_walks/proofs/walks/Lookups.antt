@@ -30,11 +30,12 @@ use Rattle.wasi_walks.proofs.walks.Jobs.{lookup_is_record, may_begin_one}
 use Rattle.wasi_jobs.specs.declared.job.HostJob.TheVariants as jobs
 use Rattle.std.specs.Prelude.{length, slice_get}
 use Rattle.wasi_walks.proofs.walks.States.{Numbering, Over, OverWith, Sets, Starts}
-use Rattle.wasi_walks.proofs.Places.{input_sort, lookup_sort, other_push, other_put, output_sort, push_found, push_last, push_some, put_found, put_some, tcp_sort, udp_sort}
+use Rattle.wasi_records.specs.declared.slot.Slot.{Slot}
+use Rattle.wasi_walks.proofs.Places.{slot_sort, there_push, there_put, input_sort, lookup_sort, other_push, other_put, output_sort, push_found, push_last, push_some, put_found, put_some, tcp_sort, udp_sort}
 
 -- == the sockets are the same
 same_sockets : {new : LookupOp → Type 0} (xs : List Record) → SameSockets new xs xs
-same_sockets xs = record { tcp = λ k. refl; udp = λ k. refl; stays = λ k e. e; inputs = λ k e. e; outputs = λ k e. e; looks = λ k op e. inl e }
+same_sockets xs = record { tcp = λ k. refl; udp = λ k. refl; stays = λ k e. e; inputs = λ k e. e; outputs = λ k e. e; slots = λ k e. e; there = λ k e. e; looks = λ k op e. inl e }
 
 -- a lookup joins the records
 same_by_push : {new : LookupOp → Type 0} (xs : List Record) (l : Lookup) → ((op : LookupOp) → l ≡ InProgress op → new op) → SameSockets new xs (lookup_pushed xs l)
@@ -44,6 +45,8 @@ same_by_push xs l n = record {
   stays = push_some lookup_sort xs (Record.Lookup l);
   inputs = λ k e. ap (λ (o : Option (List ℕ)). is_some o) (other_push lookup_sort input_sort (λ t. refl) xs l k) ∙ e;
   outputs = λ k e. ap (λ (o : Option Contents). is_some o) (other_push lookup_sort output_sort (λ t. refl) xs l k) ∙ e;
+  slots = λ k e. ap (λ (o : Option Slot). is_some o) (other_push lookup_sort slot_sort (λ t. refl) xs l k) ∙ e;
+  there = there_push xs (Record.Lookup l);
   looks = λ k op e. elim (push_found lookup_sort xs l k (InProgress op) e) [ inl p ↦ inl p | inr p ↦ inr (n op p.0) ];
 }
 
@@ -59,6 +62,8 @@ same_by_put xs i old l at n = record {
   outputs =
       λ k e. ap (λ (o : Option Contents). is_some o) (other_put lookup_sort output_sort (λ t. refl) xs i old l k at) ∙
       e;
+  slots = λ k e. ap (λ (o : Option Slot). is_some o) (other_put lookup_sort slot_sort (λ t. refl) xs i old l k at) ∙ e;
+  there = there_put xs i (Record.Lookup l);
   looks = λ k op e. elim (put_found lookup_sort xs i l k (InProgress op) e) [ inl p ↦ inl (ap (lookup_at xs) p.0 ∙ (at ∙ ap (λ (x : Lookup). Some x) (n op p.1))) | inr p ↦ inl p ];
 }
 
@@ -76,7 +81,7 @@ next_asked (Found (a ∷ left)) op e = absurd (cc)
 next_asked Failed op e = absurd (cc)
 
 -- what may be looked up
-allowed_host : (ctx : WasiSocketsCtx) (name host : List ℕ) → host_for ctx name ≡ Ok (Domain host) → (ctx.ip_name_lookup ≡ true) × (name_is name ≡ Some (Domain host))
+pub allowed_host : (ctx : WasiSocketsCtx) (name host : List ℕ) → host_for ctx name ≡ Ok (Domain host) → (ctx.ip_name_lookup ≡ true) × (name_is name ≡ Some (Domain host))
 allowed_host ctx name host e = by_test ctx.ip_name_lookup refl (name_is name) refl e
   where
     by_test : (b : Bool) → ctx.ip_name_lookup ≡ b → (o : Option HostName) → name_is name ≡ o → (let r : Result HostName ErrorCode = if b then found_host o else Err PermanentResolverFailure in r ≡ Ok (Domain host)) → (ctx.ip_name_lookup ≡ true) × (name_is name ≡ Some (Domain host))

@@ -2,17 +2,20 @@
 -- does.
 use Rattle.wasi_walks.proofs.Words.{made_to, create_to, Allows, Asks, End, Entry, Err, ErrorValue, Has, HandleTable, Item, Kind, List, None, Not, Ok, OpId, Operation, Option}
 use Rattle.wasi_walks.proofs.Words.{ErrorCode, Result, SocketAddressFamily, Some, GuestCall, Step, Streams, Tcp2, TcpRecord, TcpState, Told, WasiSocketsCtx, Socket}
-use Rattle.wasi_walks.proofs.Words.{after_create, after_local, allows_if, allows_then, bind, created_asks, create_asks, is_full, length, make_asks, new_asks, new_socket, own_of, poll_asks, side_of, told_addr, told_done, turn_asks, with_handle, with_inner, with_listening, with_record, with_writer, ℕ, ◌≡◌, refl, subst, sym}
+use Rattle.wasi_walks.proofs.Words.{after_create, after_local, allows_if, allows_then, bind, is_full, length, make_asks, new_asks, new_socket, own_of, poll_asks, side_of, told_addr, told_done, turn_asks, with_handle, with_inner, with_listening, with_record, with_writer, ℕ, ◌≡◌, refl, subst, sym}
 use Rattle.wasi_walks.proofs.Words.{Full, Stop, Trap}
-use Rattle.std.specs.Prelude.{true, ⊤}
+use Rattle.std.specs.Prelude.{true, ⊤, ◌⊎◌}
 use Rattle.wasi_walks.proofs.fits.Polls.{Anything}
 use Rattle.wasi_walks.proofs.Gives.{gives_any}
 use Rattle.wasi_walks.proofs.fits.UdpFits.{learnt_side}
-use Rattle.wasi_walks.proofs.walks.Asked.{Asked, Questions, SetsBacklog, Learns, Closes, UdpQuestions, UdpDisconnects, UdpLearns, UdpPeers, UdpCloses, UdpBegins, Resolves, Looks, MarksOne, MarksAccepted, MarksUdp, MarksStream, MarksError, AsksCreate, Polls, Turns, GivesUp, UdpGivesUp}
+use Rattle.wasi_walks.proofs.walks.Asked.{Asked, Questions, SetsBacklog, Learns, Closes, UdpQuestions, UdpDisconnects, UdpLearns, UdpPeers, UdpCloses, UdpBegins, Resolves, ResolvesBeside, Looks, LooksBeside, MarksOne, MarksAccepted, MarksUdp, MarksStream, MarksError, AsksCreate, MarksListener, MarksPlain, MarksResult, WritesOnce, Polls, Turns, GivesUp, UdpGivesUp}
 use Rattle.wasi_walks.proofs.walks.Law.{BeginsIn, BeginsWrites, Rests}
-use Rattle.wasi_walks.proofs.walks.Moves.{Interface, tcp_kind, Calls, Creates, CreatesUdp, Found, FoundUdp, HasNewStream, Held, Here, IsCreated, Joined, LooksUp, Made, Marked, Marks, MarksNext, Move}
-use Rattle.wasi_walks.proofs.walks.Moves.{NoStart, OfStreams, Past, Releases, ReleasesUdp, SameSockets, Spends, ToSend, Unused, Used, closed_record, put, put_udp, record_of, udp_begun, with_records}
-use Rattle.wasi_host.specs.Kinds.{udp_kind, kind_at, udp_of}
+use Rattle.wasi_walks.proofs.walks.Moves.{Interface, P2, P3, Faulted, ListenerGoes, ToListen, ToResult, MakesEnds, tcp_kind, Calls, Creates, CreatesUdp, Found, FoundUdp, HasNewStream, Held, Here, IsCreated, Joined, LooksUp, Made, Marked, Marks, MarksNext, Move}
+use Rattle.wasi_walks.proofs.walks.Moves.{NoStart, OfStreams, Past, Releases, ReleasesUdp, SameSockets, Spends, ToSend, Unused, Used, closed_record, put, put_udp, record_of, udp_begun, with_beside, with_records}
+use Rattle.wasi_host.specs.declared.beside.Beside.{Beside}
+use Rattle.wasi_host.specs.Kinds.{udp_kind, kind_at, tcp3_of, udp_of}
+use Rattle.wasi_host.specs.declared.kind.Kind.TheVariants.{Listen3, Result3, Tcp3}
+use Rattle.wasi_records.specs.Holding.{has_listener}
 use Rattle.wasi_records.specs.Udp.{with_udp_inner}
 use Rattle.wasi_records.specs.declared.records.Record.{Record}
 use Rattle.wasi_records.specs.declared.udp.OpenUdp.{OpenUdp}
@@ -25,9 +28,18 @@ use Rattle.wasi_udp.specs.Socket.{after_local as udp_after_local, after_peer}
 pub data Handles (origin : Step) (h : Here) : Kind → Option ℕ → Made → Type 0 where
   OfLine : (kind : Kind) (parent : Option ℕ) (sock : Option OpId) → Marks origin h kind parent sock
       → Handles origin h kind parent h.made
-  OfAccepted : (c listener place : ℕ) (r : TcpRecord) → origin ≡ Step.Call c (GuestCall.TcpAccept listener) → h.made ≡ Joined place
+  OfAccepted : (c listener place : ℕ) (r : TcpRecord) → origin ≡ Step.Call c (GuestCall.TcpAccept listener) → h.made ≡ Joined P2 place
       → h.own ≡ Used → Found h place r → Handles origin h (Tcp2 place) (Some listener)
       (Marked h.machine.table.next place)
+  OfPlain : (c listener remaining place : ℕ) (r : TcpRecord) → origin ≡ Step.Call c (GuestCall.P3Accept listener remaining)
+      → (h.made ≡ Joined P3 place) ⊎ (h.made ≡ Faulted place) → h.own ≡ Used → Found h place r
+      → Handles origin h (Tcp3 place) (Some listener) Past
+  OfListener : (n handle reached place : ℕ) (r : TcpRecord) → NoStart h → h.made ≡ ToListen n (Some handle) reached
+      → Found h reached r → has_listener r.listening ≡ true → tcp3_of (kind_at h.machine.table handle) ≡ Some place
+      → Handles origin h (Listen3 place) (Some handle) Past
+  OfResult : (socket place slot : ℕ) (r : TcpRecord) → MakesEnds socket origin → h.made ≡ ToResult slot
+      → kind_at h.machine.table socket ≡ Some (Tcp3 place) → Found h place r
+      → Handles origin h (Result3 slot) (Some socket) Past
   OfCreated : (face : Interface) (place : ℕ) (u : UdpRecord) → IsCreated h face place u → Handles origin h (udp_kind face place) None Past
   OfStream : (place n handle reached : ℕ) (kind : Kind) → MarksNext h.made n handle reached kind place
       → HasNewStream h.machine.store reached → udp_of (kind_at h.machine.table handle) ≡ Some place
@@ -52,7 +64,7 @@ pub data Becomes (contexts : List WasiSocketsCtx) (line : ℕ) (origin : Step) (
       → Becomes contexts line origin h (put h place (with_inner r (after_local r.inner (told_addr told)).1))
   IsClosed : (place : ℕ) (r : TcpRecord) (side : OpId) → Releases h place → Found h place r
       → side_of r.inner ≡ Some side → Becomes contexts line origin h (put h place (closed_record r))
-  GivenUp : (place : ℕ) (r : TcpRecord) → NoStart h → Found h place r
+  GivenUp : (place : ℕ) (r : TcpRecord) → NoStart h → ListenerGoes h place r → Found h place r
       → Becomes contexts line origin h (put h place (with_listening r Not))
   UdpLearnt : (place : ℕ) (o : OpenUdp) (socket : UdpSocket) → FoundUdp h place (UdpRecord.Open o)
       → socket.side ≡ o.inner.side → Becomes contexts line origin h
@@ -67,6 +79,7 @@ pub data Becomes (contexts : List WasiSocketsCtx) (line : ℕ) (origin : Step) (
   Resolved : (host : List ℕ) (records : List Record) → LooksUp contexts host origin
       → SameSockets (λ op. op ≡ record { id = own_of line; host = host }) h.machine.store.records records
       → Becomes contexts line origin h (with_records h records)
+  StandsOn : (beside : List Beside) → Becomes contexts line origin h (with_beside h beside)
   HasHandle : (kind : Kind) (parent : Option ℕ) (made : Made) → Handles origin h kind parent made
       → Becomes contexts line origin h (record h
       { machine = record h.machine { table = with_handle h.machine.table kind parent }; made = made })
@@ -175,12 +188,25 @@ module _ {contexts : List WasiSocketsCtx} {line : ℕ} {origin : Step} {B : List
   asks es h _ _ _ (Resolves host records l s) b i =
       (tt, λ told fits. a.becomes es h _ (Resolved host (records told) l (s told)) b i)
   asks es h _ _ _ (Looks place op e) b i = (tt, λ told fits. i)
+  asks es h _ _ _ (ResolvesBeside host l) b i = (tt, λ told fits. a.becomes es h _ (StandsOn _) b i)
+  asks es h _ _ _ (LooksBeside n call host g e) b i = (tt, λ told fits. i)
   asks es h _ _ end (MarksOne kind parent sock m) b i =
       makes es _ h.machine.table kind parent sock end i
       (a.becomes es h _ (HasHandle kind parent h.made (OfLine kind parent sock m)) b i)
   asks es h _ _ end (MarksAccepted c listener place r is e o g) b i =
       makes es _ h.machine.table _ _ _ end (a.becomes es h _ (NoRoom Past tt) b i)
       (a.becomes es h _ (HasHandle _ _ _ (OfAccepted c listener place r is e o g)) b i)
+  asks es h _ _ end (MarksPlain c listener remaining place r is e o g) b i =
+      makes es _ h.machine.table _ _ _ end (a.becomes es h _ (NoRoom Past tt) b i)
+      (a.becomes es h _ (HasHandle _ _ _ (OfPlain c listener remaining place r is e o g)) b i)
+  asks es h _ _ end (MarksListener n handle reached place r q m g has e) b i =
+      makes es _ h.machine.table _ _ _ end (a.becomes es h _ (NoRoom Past tt) b i)
+      (a.becomes es h _ (HasHandle _ _ _ (OfListener n handle reached place r q m g has e)) b i)
+  asks es h _ _ end (MarksResult socket place slot r is made e g) b i =
+      makes es _ h.machine.table _ _ _ end (a.becomes es h _ (NoRoom Past tt) b i)
+      (a.becomes es h _ (HasHandle _ _ _ (OfResult socket place slot r is made e g)) b i)
+  asks es h _ tree _ (WritesOnce c handle place given of r s half permit is e f at g q w own) b i =
+      gives_any (λ fs told. a.Holds (record h { own = Used })) (λ fs told. a.moves es h _ (Spends h own) b i) es tree
   asks es h _ _ end (MarksUdp face place u g) b i =
       makes es _ h.machine.table _ _ _ end (a.becomes es h _ (NoRoom Past tt) b i)
       (a.becomes es h _ (HasHandle _ _ _ (OfCreated face place u g)) b i)
@@ -193,9 +219,9 @@ module _ {contexts : List WasiSocketsCtx} {line : ℕ} {origin : Step} {B : List
   asks es h _ _ _ (AsksCreate tells fails face ctx family c t o m) b i = created tells fails face es h ctx family c o m b i
   asks es h _ _ _ (Polls op after k) b i = a.polls es h op after k b i
   asks es h _ _ _ (Turns place r s g e) b i = a.turns es h place r s g e b i
-  asks es h _ tree _ (GivesUp place r q g) b i =
+  asks es h _ tree _ (GivesUp place r q l g) b i =
       gives_any (λ fs done. a.Holds (put h place (with_listening r Not)))
-      (λ fs done. a.becomes es h _ (GivenUp place r q g) b i) es tree
+      (λ fs done. a.becomes es h _ (GivenUp place r q l g) b i) es tree
   asks es h _ tree _ (UdpGivesUp place create q g) b i =
       gives_any (λ fs done. a.Holds (put_udp h place (UdpRecord.Closed create.operation.who.side)))
       (λ fs done. a.becomes es h _ (UdpGivenUp place create q g) b i) es tree

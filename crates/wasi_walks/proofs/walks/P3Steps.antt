@@ -1,5 +1,5 @@
 -- The steps of 0.3 on TCP sockets, as moves: those that are never pending.
-use Rattle.std.specs.Prelude.{◌≡◌, ℕ, Bool, true, false, if◌then◌else◌, List, Some, Result, Ok, Err, refl}
+use Rattle.std.specs.Prelude.{◌≡◌, ℕ, Bool, true, false, if◌then◌else◌, List, Result, Ok, Err, refl}
 use Rattle.std.proofs.Common.{ap}
 use Rattle.wasi_addr.specs.declared.code.ErrorCode.{ErrorCode}
 use Rattle.wasi_addr.specs.declared.code.ErrorCode.TheVariants.{InvalidArgument}
@@ -11,7 +11,7 @@ use Rattle.socket_common.specs.Options.{value_set, zero_test, refused_before, se
 use Rattle.wasi_tcp.specs.Shape.{Socket}
 use Rattle.wasi_tcp.specs.Options.{get_where, set_where, option_side, get_option_asks, set_option_asks, set_backlog_asks}
 use Rattle.wasi_records.specs.declared.socket.TcpRecord.{TcpRecord}
-use Rattle.wasi_records.specs.Sockets.{with_inner, inner_answered, tell_local_asks, tell_remote_asks}
+use Rattle.wasi_records.specs.Sockets.{with_inner, tell_local_asks, tell_remote_asks}
 use Rattle.wasi_host.specs.declared.machine.Machine.{Machine}
 use Rattle.wasi_host.specs.Kinds.{kind_at}
 use Rattle.wasi_host.specs.Machine.{own_of, tcp3_at}
@@ -24,10 +24,10 @@ use Rattle.wasi_steps.specs.Settings.{Chosen, AnOption, TheBacklog}
 use Rattle.wasi_machine.specs.Machine.{set_p3}
 use Rattle.wasi_walks.specs.Licence.{Has, IsGetOf, IsSetTo, IsBacklogSet}
 use Rattle.wasi_walks.proofs.walks.Moves.{Here, Unused, put}
-use Rattle.wasi_walks.proofs.walks.Law.{Law, HasRecord, Walks, Given, given_then, give, and_then, and_given, from}
+use Rattle.wasi_walks.proofs.walks.Law.{Law, Walks, Given, given_then, give, and_then, and_given, from}
 use Rattle.wasi_walks.proofs.walks.Sockets.{get_walks, set_walks, backlog_walks, local_walks, remote_walks}
 use Rattle.wasi_walks.proofs.walks.SocketSteps.{on_handle, on_tcp_walks}
-use Rattle.wasi_walks.proofs.walks.States.{At, OverWith, Put, Starts, tcp3_record}
+use Rattle.wasi_walks.proofs.walks.States.{At, OverWith, Starts, tcp3_record}
 
 -- a socket that is asked for an option, or whose option is set, stays as it is
 Stays : {A : Type 0} → Socket → Result A ErrorCode × Socket → Type 0

@@ -1,5 +1,5 @@
 -- The steps of 0.3 on UDP sockets, as moves: those that are never pending.
-use Rattle.std.specs.Prelude.{◌≡◌, ℕ, List, Some, Result, refl}
+use Rattle.std.specs.Prelude.{ℕ, List, Result, refl}
 use Rattle.wasi_addr.specs.declared.code.ErrorCode.{ErrorCode}
 use Rattle.wasi_world.specs.declared.call.Opt.{Opt}
 use Rattle.wasi_world.specs.declared.outcome.WasiSocketsCtx.{WasiSocketsCtx}
@@ -11,10 +11,9 @@ use Rattle.wasi_records.specs.declared.udp.UdpRecord.TheVariants.{Open}
 use Rattle.wasi_records.specs.Records.{open_at}
 use Rattle.wasi_records.specs.Udp.{udp_local_asks}
 use Rattle.wasi_host.specs.declared.machine.Machine.{Machine}
-use Rattle.wasi_host.specs.Block.{Call, Does, last}
+use Rattle.wasi_host.specs.Block.{Call, last}
 use Rattle.wasi_host.specs.Kinds.{kind_at}
 use Rattle.wasi_host.specs.Machine.{own_of, udp3_at}
-use Rattle.wasi_host.specs.Store.{Records}
 use Rattle.wasi_host.specs.UdpCalls.{with_open_udp}
 use Rattle.wasi_p3.specs.Lines.{of_udp, on_udp, same_stop}
 use Rattle.wasi_p3.specs.Stops.{p3_stop}

@@ -19,17 +19,16 @@ use Rattle.wasi_walks.proofs.Words.{Tcp2}
 use Rattle.wasi_host.specs.Store.{with_socket}
 use Rattle.wasi_host.specs.Options.{looked_at, set_backlog_at}
 use Rattle.wasi_p2.specs.Options.{record_asks}
-use Rattle.wasi_walks.proofs.walks.Moves.{Move, P2, NoStartStands, IsSettled, Used, Unused, Here, put, Found, record_of, AStream, Reaches, Leaves, Spends, Changes, Stands, Made, Past, Marks}
+use Rattle.wasi_walks.proofs.walks.Moves.{IsOfOld, Move, P2, NoStartStands, IsSettled, Used, Unused, Here, put, Found, record_of, AStream, Reaches, Leaves, Spends, Changes, Stands, Made, Past, Marks}
 use Rattle.wasi_walks.proofs.walks.Law.{Law, HasRecord, found, put_same, Walks, Given, give, and_then, and_given, by_if, move, gives, from, mark}
 use Rattle.wasi_walks.proofs.walks.Sockets.{BindsSo, WaitsSo, waits_so, begun_bind_given, idled, connect_settles, set_walks, begin_bind_walks, begin_connect_walks, poll_connect_walks, FinishedSo, finished_of, local_walks, remote_walks, backlog_walks}
 use Rattle.wasi_walks.proofs.walks.Streams.{shut_walks}
 use Rattle.wasi_walks.proofs.walks.Lines.{look, call, call_given}
-use Rattle.wasi_addr.specs.declared.p2.ErrorCode.{ErrorCode as P2Code}
 use Rattle.wasi_addr.specs.declared.p2.ErrorCode.TheVariants.{NotInProgress}
 use Rattle.wasi_records.specs.Stops.{Code, StopOf, code_stop}
 use Rattle.wasi_records.specs.Sockets.{poll_connect_asks}
 use Rattle.wasi_host.specs.Block.{Call, Does, Read, last, need, goes_on, or_trap, ◌>>=◌, ◌>>◌}
-use Rattle.wasi_host.specs.Lines.{tcp_at, tcp_named, in_store, same_stop, storing, on_tcp, asked_of, done_by, finish_connect_of}
+use Rattle.wasi_host.specs.Lines.{tcp_at, in_store, same_stop, storing, on_tcp, done_by, finish_connect_of}
 use Rattle.wasi_p2.specs.Tcp.{local_address, remote_address, finish_connect, make_streams}
 use Rattle.wasi_walks.proofs.walks.States.{OverWith, Between, socket_record, make_given, socket_kind, At, Starts, streams_are, Put, Over, there}
 
@@ -78,18 +77,18 @@ module _ {contexts : List WasiSocketsCtx} {line : ℕ} {origin : Step} {law : La
   put_back_walks m place (Ok value, r) = give _
   put_back_walks m place (Err c, r) = give _
 
-  start_connect_by_walks : (m : Machine) (place : ℕ) (a : IpSocketAddress) (r : TcpRecord) (idle : Bool) → is_nothing r.in_progress ≡ idle → Found (At line m place Unused) place r → IsConnectTo a origin → Walks law (At line m place Unused) (Put line m place) (start_connect_by m.store (own_of line) place a r idle)
-  start_connect_by_walks m place a r true e g to = from (put_same (At line m place Unused) place r g) (and_then (begin_connect_walks (there g) refl r a to e refl) (put_back_walks m place))
-  start_connect_by_walks m place a r false e g to = gives _ (Spends _ refl)
+  start_connect_by_walks : (m : Machine) (place : ℕ) (a : IpSocketAddress) (r : TcpRecord) (idle : Bool) → is_nothing r.in_progress ≡ idle → Found (At line m place Unused) place r → IsConnectTo a origin → IsOfOld (At line m place Unused) place → Walks law (At line m place Unused) (Put line m place) (start_connect_by m.store (own_of line) place a r idle)
+  start_connect_by_walks m place a r true e g to old = from (put_same (At line m place Unused) place r g) (and_then (begin_connect_walks (there g) refl r a to e refl old) (put_back_walks m place))
+  start_connect_by_walks m place a r false e g to old = gives _ (Spends _ refl)
 
-  start_connect_at_walks : (m : Machine) (place : ℕ) (a : IpSocketAddress) (o : Option TcpRecord) → tcp2_at m.store.records place ≡ o → IsConnectTo a origin → Walks law (At line m place Unused) (Put line m place) (start_connect_at m.store (own_of line) place a o)
-  start_connect_at_walks m place a None g to = gives _ (Spends _ refl)
-  start_connect_at_walks m place a (Some r) g to = start_connect_by_walks m place a r (is_nothing r.in_progress) refl g to
+  start_connect_at_walks : (m : Machine) (place : ℕ) (a : IpSocketAddress) (o : Option TcpRecord) → tcp2_at m.store.records place ≡ o → IsConnectTo a origin → IsOfOld (At line m place Unused) place → Walks law (At line m place Unused) (Put line m place) (start_connect_at m.store (own_of line) place a o)
+  start_connect_at_walks m place a None g to old = gives _ (Spends _ refl)
+  start_connect_at_walks m place a (Some r) g to old = start_connect_by_walks m place a r (is_nothing r.in_progress) refl g to old
 
   start_connect_on_walks : (m : Machine) (s : ℕ) (a : IpSocketAddress) (o : Option ℕ) → socket_at m s ≡ o → Has (handles_of origin) s → IsConnectTo a origin → Walks law (Starts m Unused) OverWith (start_connect_on m (own_of line) a o)
   start_connect_on_walks m s a None e named to = gives _ (Spends _ refl)
   start_connect_on_walks m s a (Some place) e named to =
-      move (Reaches _ s place named (socket_record (kind_at m.table s) place e)) (and_then (start_connect_at_walks m place a (tcp2_at m.store.records place) refl to) (λ done. gives _ (Leaves _)))
+      move (Reaches _ s place named (socket_record (kind_at m.table s) place e)) (and_then (start_connect_at_walks m place a (tcp2_at m.store.records place) refl to (record { handle = s; socket = socket_kind (kind_at m.table s) place e })) (λ done. gives _ (Leaves _)))
 
   pub start_connect_walks : (m : Machine) (s n : ℕ) (a : IpSocketAddress) → Has (handles_of origin) s → IsConnectTo a origin → Walks law (Starts m Unused) OverWith (start_connect_asks m (own_of line) s n a)
   start_connect_walks m s n a named to = by_if (is_network (kind_at m.table n)) (λ yes. start_connect_on_walks m s a (socket_at m s) refl named to) (λ other. gives _ (Spends _ refl))

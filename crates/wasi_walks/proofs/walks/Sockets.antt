@@ -1,7 +1,7 @@
 -- The calls on a socket, and those of a listen and of a listener, as moves of the record that holds it.
 use Rattle.std.specs.Prelude.{IsSome}
 use Rattle.wasi_tcp.specs.Halves.{take_send}
-use Rattle.wasi_records.specs.Records.{tcp2_at, tcp2_put}
+use Rattle.wasi_records.specs.Records.{tcp2_at}
 use Rattle.wasi_host.specs.Store.{with_socket}
 use Rattle.wasi_records.specs.Stops.{Code}
 use Rattle.wasi_addr.specs.declared.p2.ErrorCode.TheVariants.{NotInProgress}
@@ -9,34 +9,31 @@ use Rattle.wasi_host.specs.Block.{give as gives_all, after_call, last, need, or_
 use Rattle.wasi_host.specs.Lines.{done_by, finish_connect_of, same_stop}
 use Rattle.wasi_walks.specs.Answered.{streams_in}
 use Rattle.wasi_walks.proofs.Words.{Records, TcpReceiveStream, TcpSendStream}
-use Rattle.wasi_walks.proofs.Words.{Accepting, Accepts, Answer, Begins, Bool, Connection, Done, End, Err, ErrorCode, Give, InProgress}
+use Rattle.wasi_walks.proofs.Words.{Answer, Begins, Bool, Connection, Done, End, Err, ErrorCode, Give, InProgress}
 use Rattle.wasi_walks.proofs.Words.{InvalidArgument, InvalidState, IpSocketAddress, IsBacklogSet, IsBindTo, IsConnectTo, IsListenStep, Item, List}
-use Rattle.wasi_walks.proofs.Words.{Listener, Listening, None, Not, Ok, OpId, Operation, Option, Pending, Ready, Refused, Result, Socket, Some}
-use Rattle.wasi_walks.proofs.Words.{StandingCall, GuestCall, Step, Stop, TcpRecord, TcpState, Waits, WasiSocketsCtx, accept_asks, accept_end, accept_ended}
-use Rattle.wasi_walks.proofs.Words.{accepted_record, after_backlog, after_local, ap, ask_bound, ask_set_option, begin_bind_asks, begin_connect_asks}
+use Rattle.wasi_walks.proofs.Words.{Listening, None, Not, Ok, OpId, Operation, Option, Pending, Ready, Refused, Result, Socket, Some}
+use Rattle.wasi_walks.proofs.Words.{StandingCall, Step, Stop, TcpRecord, TcpState, Waits, WasiSocketsCtx}
+use Rattle.wasi_walks.proofs.Words.{after_backlog, after_local, ap, ask_bound, ask_set_option, begin_bind_asks, begin_connect_asks}
 use Rattle.wasi_walks.proofs.Words.{begin_listen_asks, bind, bind_allowed, bind_asks, bind_begun, bind_ended, bound_asks, closed_listening}
 use Rattle.wasi_walks.proofs.Words.{connect_begun, connect_first, connect_operation, connect_polled, connect_start, false, finish_connect_asks}
 use Rattle.wasi_walks.proofs.Words.{finish_in, get_option_asks, get_where, idle, if◌then◌else◌, in_socket, inl, inr, ip_of, is_connect}
-use Rattle.wasi_walks.proofs.Words.{is_connectable, is_nothing, is_of_family, is_over, is_unicast, is_wildcard, kind_at, listen_begun, listen_bound}
+use Rattle.wasi_walks.proofs.Words.{is_connectable, is_nothing, is_of_family, is_over, is_unicast, is_wildcard, listen_begun, listen_bound}
 use Rattle.wasi_walks.proofs.Words.{listen_once, listen_polled, listen_start, opened_receive, opened_send, own_of, poll_asks, poll_begun}
 use Rattle.wasi_walks.proofs.Words.{poll_bind_asks, poll_binding, poll_connect_asks, poll_listen_asks, poll_listening, refl, refused_after}
 use Rattle.wasi_walks.proofs.Words.{refused_before, set_backlog_asks, set_backlog_in, set_option_asks, set_where, side_in, side_of}
 use Rattle.wasi_walks.proofs.Words.{start_connect_in, subst, sym, take_receive, taken_receive, taken_send, tell_local_asks, tell_remote_asks}
-use Rattle.wasi_walks.proofs.Words.{told_addr, told_done, true, value_set, wildcard, with_accept, with_backlog, with_inner, with_listening}
+use Rattle.wasi_walks.proofs.Words.{told_addr, told_done, true, value_set, wildcard, with_backlog, with_inner}
 use Rattle.wasi_walks.proofs.Words.{with_progress, with_state, zero_test, ℕ, ⊤, ◌&&◌, ◌==◌, ◌∙◌, ◌≡◌}
 use Rattle.wasi_tcp.specs.Listening.{listen_asks, listen_ended, listen_goes_on}
 use Rattle.wasi_walks.proofs.walks.Told.{IsTold, told_first}
 use Rattle.wasi_addr.specs.Clamp.{clamped_backlog}
 use Rattle.wasi_world.specs.declared.call.Opt.{Opt}
-use Rattle.wasi_walks.specs.Licence.{IsGetOf, IsSetTo}
+use Rattle.wasi_records.specs.Holding.{has_listener}
+use Rattle.wasi_walks.specs.Licence.{BindsAnywhere, IsGetOf, IsSetTo}
 use Rattle.wasi_tcp.specs.Addresses.{usable_side, local_side, local_from, after_peer, peer_known, remote_in, still_connected}
-use Rattle.wasi_walks.proofs.walks.Moves.{HasBinding, Interface, IsConnecting, NoStart, IsSettled, GoesOn, Used, Unused, Names, part_of, Here, put, opened_by, Reconnects, Opens, BeginsConnect, OfSocket, Plain, Spends, Changes, BeginsBind, begun_bind, Unmade, record_of, new_accept, accepting_now, beginning_listen, joined, joining, BeginsListen, BeginsAccept, Unlistens, Forgets, Joins}
-use Rattle.wasi_walks.proofs.walks.Law.{Law, HasRecord, owning, spent, put_put, Given, given_then, given_on, given_along, Walks, give, and_then, and_given, connect, by_if, move, gives, from, poll_bind, found, on, ask, learn, set, listen, await}
-use Rattle.std.specs.Prelude.{not, ◌+◌}
-use Rattle.wasi_walks.proofs.walks.Here.{MayBegin, after}
-use Rattle.wasi_tcp.specs.Listener.{begun as accept_begun, has_accept}
-use Rattle.wasi_records.specs.declared.records.Record.{Record}
-use Rattle.wasi_walks.proofs.Places.{put_finds, put_twice, tcp_sort}
+use Rattle.wasi_walks.proofs.walks.Moves.{IsOfOld, HasBinding, ListensForHandle, Interface, IsConnecting, NoStart, IsSettled, GoesOn, Used, Unused, Here, put, opened_by, Reconnects, Opens, BeginsConnect, OfSocket, Plain, Spends, Changes, BeginsBind, begun_bind, beginning_listen, BeginsListen, Unlistens, HasListen}
+use Rattle.wasi_walks.proofs.walks.Law.{Law, HasRecord, spent, put_put, Given, given_then, given_on, given_along, Walks, give, and_then, and_given, connect, by_if, move, gives, from, poll_bind, found, on, ask, learn, set, listen}
+use Rattle.wasi_walks.proofs.Places.{put_finds, tcp_sort}
 
 -- what a call on the record's socket, its reader or its writer leaves
 abbrev pub Inner : {A : Type 0} → Here → ℕ → TcpRecord → A × Socket → Here
@@ -56,9 +53,13 @@ usable_if : (s : TcpState) (bound : Bool) (side : OpId) → (if bound then usabl
 usable_if s true side e = usable s side e
 usable_if s false side e = absurd (cc)
 
+usable_known : (s : TcpState) (bound : Bool) (side : OpId) → (if bound then usable_side s else Err InvalidState) ≡ Ok side → bound ≡ true
+usable_known s true side e = refl
+usable_known s false side e = absurd (cc)
+
 -- nothing is in progress
-pub idled : (r : TcpRecord) → IsSettled r.in_progress → Plain r (with_progress r InProgress.Nothing)
-idled r settled = record { side = refl; streams = refl; listening = refl; does = refl; maker = refl; family = refl; bound = λ side d b. b; binds = inr (settled, tt); connects = λ e. absurd (cc) }
+pub idled : {goes begins : Type 0} (r : TcpRecord) → IsSettled r.in_progress → Plain goes begins r (with_progress r InProgress.Nothing)
+idled r settled = record { side = refl; streams = refl; listening = refl; does = refl; maker = refl; family = refl; bound = λ side d b. b; stays = λ b. b; binds = inr (settled, tt); connects = λ e. absurd (cc); dropped = inl refl }
 
 pub connect_settles : (doing : InProgress) → is_connect doing ≡ true → IsSettled doing
 connect_settles (InProgress.Binding op) e = absurd (cc)
@@ -74,30 +75,30 @@ Spent h place r done = record (put h place (with_inner r done.1)) { own = Used }
 
 -- what the answer to Bound? says of the socket that it leaves
 abbrev pub KnowsBound : Socket → Bool × Socket → Type 0
-KnowsBound socket b = (b.0 ≡ true → b.1.bound ≡ true) × (b.1.state ≡ socket.state)
+KnowsBound socket b = (b.0 ≡ true → b.1.bound ≡ true) × (b.1.state ≡ socket.state) × (b.0 ≡ false → b.1.bound ≡ false)
 
-bound_told : (socket : Socket) (told : Result IpSocketAddress ErrorCode) → KnowsBound socket (after_local socket told)
-bound_told socket (Ok a) = by_test (is_wildcard socket.family a)
+bound_told : (socket : Socket) (told : Result IpSocketAddress ErrorCode) → socket.bound ≡ false → KnowsBound socket (after_local socket told)
+bound_told socket (Ok a) n = by_test (is_wildcard socket.family a)
   where
     by_test : (b : Bool) → (let answer : Bool × Socket = if b then (false, socket) else (true, record socket { bound = true }) in KnowsBound socket answer)
-    by_test true = (λ e. absurd (cc), refl)
-    by_test false = (λ e. refl, refl)
-bound_told socket (Err c) = (λ e. absurd (cc), refl)
+    by_test true = (λ e. absurd (cc), refl, λ e. n)
+    by_test false = (λ e. refl, refl, λ e. absurd (cc))
+bound_told socket (Err c) n = (λ e. absurd (cc), refl, λ e. n)
 
 pub bound_given : (op : OpId) (socket : Socket) → Given (KnowsBound socket) (bound_asks op socket)
 unfolding bind
 bound_given op socket = by_test socket.bound refl
   where
-    by_state : (s : TcpState) → Given (KnowsBound socket) (ask_bound op socket s)
-    by_state (TcpState.Default side) = λ told. bound_told socket (told_addr told)
-    by_state (TcpState.Listening c) = (λ e. refl, refl)
-    by_state (TcpState.Connecting c) = (λ e. refl, refl)
-    by_state (TcpState.Connected c) = (λ e. refl, refl)
-    by_state (TcpState.Closed c) = (λ e. refl, refl)
+    by_state : (s : TcpState) → socket.bound ≡ false → Given (KnowsBound socket) (ask_bound op socket s)
+    by_state (TcpState.Default side) n = λ told. bound_told socket (told_addr told) n
+    by_state (TcpState.Listening c) n = (λ e. refl, refl, λ e. absurd (cc))
+    by_state (TcpState.Connecting c) n = (λ e. refl, refl, λ e. absurd (cc))
+    by_state (TcpState.Connected c) n = (λ e. refl, refl, λ e. absurd (cc))
+    by_state (TcpState.Closed c) n = (λ e. refl, refl, λ e. absurd (cc))
 
     by_test : (b : Bool) → socket.bound ≡ b → Given (KnowsBound socket) (if b then Give (true, socket) else ask_bound op socket socket.state)
-    by_test true e = (λ t. e, refl)
-    by_test false e = by_state socket.state
+    by_test true e = (λ t. e, refl, λ f. absurd (cc))
+    by_test false e = by_state socket.state e
 
 -- a connect that begins leaves the socket connecting
 abbrev pub BeginsSo : Result (Unit {0}) ErrorCode × Socket → Type 0
@@ -232,45 +233,70 @@ begun_bind_given op r a = given_on BindsSo (bind_begun r) begun (bind_asks op r.
     begun (Ok o, socket) = polled_given (record r { inner = socket; in_progress = InProgress.Binding o }) (InProgress.Binding o)
     begun (Err c, socket) = tt
 
--- and so is a listen, whose address was reported
-listened_so : (place : ℕ) (op : Operation) (r : TcpRecord) (socket : Socket) (ended : End × List Item) → IsTold ended → WaitsSo (StandingCall.Listen place) (listen_polled r (listen_ended op.who socket ended))
-listened_so place op r socket (Waits, items) k = k
-listened_so place op r socket (Done given, items) k = tt
-listened_so place op r socket (Refused c given, items) k = tt
+-- and so is a listen that waits, whose address was reported; done, there is a listener
+abbrev pub ListensSo : Result (Answer (Unit {0})) ErrorCode × TcpRecord → Type 0
+ListensSo (Ok Pending, r) = HasListen r.listening
+ListensSo (Ok (Ready done), r) = (has_listener r.listening ≡ true) × IsSettled r.in_progress
+ListensSo (Err c, r) = ⊤
 
-begun_listening : (place : ℕ) (r : TcpRecord) (op : Operation) (over : Bool) → Given (WaitsSo (StandingCall.Listen place)) (bind (if over then Give (Err InvalidState, (op, r.inner)) else listen_goes_on op r.inner) (λ done. Give (listen_polled r done)))
+listened_so : (op : Operation) (r : TcpRecord) (socket : Socket) (ended : End × List Item) → IsTold ended → ListensSo (listen_polled r (listen_ended op.who socket ended))
+listened_so op r socket (Waits, items) k = k
+listened_so op r socket (Done given, items) k = (refl, tt)
+listened_so op r socket (Refused c given, items) k = tt
+
+begun_listening : (r : TcpRecord) (op : Operation) (over : Bool) → Given ListensSo (bind (if over then Give (Err InvalidState, (op, r.inner)) else listen_goes_on op r.inner) (λ done. Give (listen_polled r done)))
 unfolding bind
-begun_listening place r op true = tt
-begun_listening place r op false = from_goes (given_along IsTold (λ done. WaitsSo (StandingCall.Listen place) (listen_polled r done)) (poll_asks op) (λ ended. Give (listen_ended op.who r.inner ended)) (told_first 63 op.who op.left) (λ ended k. listened_so place op r r.inner ended k))
+begun_listening r op true = tt
+begun_listening r op false = from_goes (given_along IsTold (λ done. ListensSo (listen_polled r done)) (poll_asks op) (λ ended. Give (listen_ended op.who r.inner ended)) (told_first 63 op.who op.left) (λ ended k. listened_so op r r.inner ended k))
   where
-    from_goes : Given (λ done. WaitsSo (StandingCall.Listen place) (listen_polled r done)) (listen_goes_on op r.inner) → Given (WaitsSo (StandingCall.Listen place)) (bind (listen_goes_on op r.inner) (λ done. Give (listen_polled r done)))
-    from_goes k = given_along (λ done. WaitsSo (StandingCall.Listen place) (listen_polled r done)) (WaitsSo (StandingCall.Listen place)) (listen_goes_on op r.inner) (λ done. Give (listen_polled r done)) k (λ done w. w)
+    from_goes : Given (λ done. ListensSo (listen_polled r done)) (listen_goes_on op r.inner) → Given ListensSo (bind (listen_goes_on op r.inner) (λ done. Give (listen_polled r done)))
+    from_goes k = given_along (λ done. ListensSo (listen_polled r done)) ListensSo (listen_goes_on op r.inner) (λ done. Give (listen_polled r done)) k (λ done w. w)
 
-pub listen_given : (place : ℕ) (r : TcpRecord) → Given (WaitsSo (StandingCall.Listen place)) (poll_listen_asks r)
-listen_given place r = by_side (side_of r.inner)
+pub listen_given : (r : TcpRecord) → Given ListensSo (poll_listen_asks r)
+listen_given r = by_side (side_of r.inner)
   where
-    by_listening : (l : Listening) → Given (WaitsSo (StandingCall.Listen place)) (poll_listening r l)
-    by_listening (Begins op) = begun_listening place r op (is_over op)
+    by_listening : (l : Listening) → Given ListensSo (poll_listening r l)
+    by_listening (Begins op) = begun_listening r op (is_over op)
     by_listening _ = tt
 
-    by_side : (o : Option OpId) → Given (WaitsSo (StandingCall.Listen place)) (closed_listening r o)
+    by_side : (o : Option OpId) → Given ListensSo (closed_listening r o)
     by_side None = by_listening r.listening
     by_side (Some side) = tt
 
-pub begun_listen_given : (place : ℕ) (op : OpId) (r : TcpRecord) → Given (WaitsSo (StandingCall.Listen place)) (begin_listen_asks op r)
-begun_listen_given place op r = given_on (WaitsSo (StandingCall.Listen place)) (λ b. listen_bound op (with_inner r b.1) b.0) (λ b. by_bound (with_inner r b.1) b.0) (bound_asks op r.inner)
+pub once_given : (op : OpId) (r : TcpRecord) (l : Listening) → Given ListensSo (listen_once op r l)
+once_given op r Not = given_on ListensSo (listen_begun r) begun (listen_asks op r.inner)
   where
-    begun : (now : TcpRecord) (start : Result Operation ErrorCode × Socket) → Given (WaitsSo (StandingCall.Listen place)) (listen_begun now start)
-    begun now (Ok o, socket) = listen_given place (record now { inner = socket; listening = Begins o })
-    begun now (Err c, socket) = tt
+    begun : (start : Result Operation ErrorCode × Socket) → Given ListensSo (listen_begun r start)
+    begun (Ok o, socket) = listen_given (record r { inner = socket; listening = Begins o })
+    begun (Err c, socket) = tt
+once_given op r _ = tt
 
-    by_listening : (now : TcpRecord) (l : Listening) → Given (WaitsSo (StandingCall.Listen place)) (listen_once op now l)
-    by_listening now Not = given_on (WaitsSo (StandingCall.Listen place)) (listen_begun now) (begun now) (listen_asks op now.inner)
-    by_listening now _ = tt
-
-    by_bound : (now : TcpRecord) (b : Bool) → Given (WaitsSo (StandingCall.Listen place)) (listen_bound op now b)
-    by_bound now true = by_listening now now.listening
+pub begun_listen_given : (op : OpId) (r : TcpRecord) → Given ListensSo (begin_listen_asks op r)
+begun_listen_given op r = given_on ListensSo (λ b. listen_bound op (with_inner r b.1) b.0) (λ b. by_bound (with_inner r b.1) b.0) (bound_asks op r.inner)
+  where
+    by_bound : (now : TcpRecord) (b : Bool) → Given ListensSo (listen_bound op now b)
+    by_bound now true = once_given op now now.listening
     by_bound now false = tt
+
+-- one that listens, or is about to, is refused
+abbrev pub IsRefused : Result (Answer (Unit {0})) ErrorCode × TcpRecord → Type 0
+IsRefused (Ok answer, r) = ⊥
+IsRefused (Err c, r) = ⊤
+
+abbrev pub IsNot : Listening → Type 0
+IsNot Not = ⊤
+IsNot _ = ⊥
+
+pub once_refused : (op : OpId) (r : TcpRecord) (l : Listening) → (IsNot l → ⊥) → Given IsRefused (listen_once op r l)
+once_refused op r Not other = absurd (other tt)
+once_refused op r _ other = tt
+
+pub begun_refused : (op : OpId) (r : TcpRecord) → (IsNot r.listening → ⊥) → Given IsRefused (begin_listen_asks op r)
+begun_refused op r other = given_on IsRefused (λ b. listen_bound op (with_inner r b.1) b.0) (λ b. by_bound (with_inner r b.1) b.0 other) (bound_asks op r.inner)
+  where
+    by_bound : (now : TcpRecord) (b : Bool) → (IsNot now.listening → ⊥) → Given IsRefused (listen_bound op now b)
+    by_bound now true other = once_refused op now now.listening other
+    by_bound now false other = tt
 
 -- the tests of a bind
 module _ {contexts : List WasiSocketsCtx} {line : ℕ} {origin : Step} {law : Law contexts line origin} {h : Here} {place : ℕ} (here : HasRecord h place) (at : h.at ≡ Some (place, line)) (a : IpSocketAddress) (to : IsBindTo a origin) (free : h.own ≡ Unused) (r : TcpRecord) where
@@ -303,7 +329,7 @@ module _ {contexts : List WasiSocketsCtx} {line : ℕ} {origin : Step} {law : La
   -- == options
   get_where_walks : (r : TcpRecord) (option : Opt) (u : Result OpId ErrorCode) → n ≡ line → IsGetOf option origin → ((side : OpId) → u ≡ Ok side → side_of r.inner ≡ Some side) → Walks law (put h place r) (λ done. put h place r) (get_where (own_of n) r.inner option u)
   unfolding bind
-  get_where_walks r option (Ok side) own is k = ask here r at (OfSocket (k side refl)) (refl, own, is) (λ told fits. give _)
+  get_where_walks r option (Ok side) own is k = ask here r at (OfSocket (k side refl)) ((refl, own, is), tt) (λ told fits. give _)
   get_where_walks r option (Err c) own is k = give _
 
   pub get_walks : (r : TcpRecord) (option : Opt) → n ≡ line → IsGetOf option origin → Walks law (put h place r) (λ done. put h place r) (get_option_asks (own_of n) r.inner option)
@@ -312,7 +338,7 @@ module _ {contexts : List WasiSocketsCtx} {line : ℕ} {origin : Step} {law : La
   set_of_side_walks : (r : TcpRecord) (side : OpId) (option : Opt) (value : ℕ) (zero : Bool) → n ≡ line → IsSetTo option (value_set option value) origin → side_of r.inner ≡ Some side
       → Walks law (put h place r) (λ done. put h place r) (if zero then Give (Err InvalidArgument) else ask_set_option (own_of n) side option (value_set option value))
   set_of_side_walks r side option value true own is e = give _
-  set_of_side_walks r side option value false own is e = ask here r at (OfSocket e) (refl, own, is) (λ told fits. give _)
+  set_of_side_walks r side option value false own is e = ask here r at (OfSocket e) ((refl, own, is), tt) (λ told fits. give _)
 
   set_where_walks : (r : TcpRecord) (option : Opt) (value : ℕ) (u : Result OpId ErrorCode) → n ≡ line → IsSetTo option (value_set option value) origin → ((side : OpId) → u ≡ Ok side → side_of r.inner ≡ Some side) → Walks law (put h place r) (λ done. put h place r) (set_where (own_of n) r.inner option value u)
   set_where_walks r option value (Ok side) own is k = and_then (set_of_side_walks r side option value (refused_after (zero_test option) value) own is (k side refl)) (λ answer. give _)
@@ -322,15 +348,15 @@ module _ {contexts : List WasiSocketsCtx} {line : ℕ} {origin : Step} {law : La
   set_walks r option value own is = by_if (refused_before (zero_test option) value) (λ refused. give _) (λ allowed. set_where_walks r option value (usable_side r.inner.state) own is (usable r.inner.state))
 
   -- == what a socket says of itself
-  told_walks : (r : TcpRecord) (u : Result OpId ErrorCode) → ((side : OpId) → u ≡ Ok side → side_of r.inner ≡ Some side) → Walks law (put h place r) (Inner h place r) (local_from (own_of n) r.inner u)
+  told_walks : (r : TcpRecord) (u : Result OpId ErrorCode) → ((side : OpId) → u ≡ Ok side → (side_of r.inner ≡ Some side) × (r.inner.bound ≡ true)) → Walks law (put h place r) (Inner h place r) (local_from (own_of n) r.inner u)
   unfolding bind
-  told_walks r (Ok side) k = ask here r at (OfSocket (k side refl)) refl (λ told fits. give _)
+  told_walks r (Ok side) k = let its = k side refl in ask here r at (OfSocket its.0) (refl, its.1) (λ told fits. give _)
   told_walks r (Err c) k = give _
 
   peer_walks : (r : TcpRecord) (c : Connection) (o : Option IpSocketAddress) → Walks law (In h place r r.inner (TcpState.Connected c)) (λ done. In h place r r.inner (TcpState.Connected done.1)) (peer_known (own_of n) c o)
   unfolding bind
   peer_walks r c (Some a) = give _
-  peer_walks r c None = ask here (with_inner r (with_state r.inner (TcpState.Connected c))) at (OfSocket refl) refl (λ told fits. known (told_addr told))
+  peer_walks r c None = ask here (with_inner r (with_state r.inner (TcpState.Connected c))) at (OfSocket refl) (refl, tt) (λ told fits. known (told_addr told))
     where
       known : (told : Result IpSocketAddress ErrorCode) → Walks law (In h place r r.inner (TcpState.Connected c)) (λ done. In h place r r.inner (TcpState.Connected done.1)) (Give (after_peer c told))
       known (Ok a) = let old = with_inner r (with_state r.inner (TcpState.Connected c)) in on here old _ (Reconnects _ _ _ c (record c { peer = Some a }) (found here old) refl refl (λ t. t) (λ e. (refl, refl))) (give _)
@@ -346,7 +372,7 @@ module _ {contexts : List WasiSocketsCtx} {line : ℕ} {origin : Step} {law : La
 module _ {contexts : List WasiSocketsCtx} {line : ℕ} {origin : Step} {law : Law contexts line origin} {h : Here} {place : ℕ} (here : HasRecord h place) (at : h.at ≡ Some (place, line)) where
   -- == a bind
   is_bound : (r : TcpRecord) → ((side : OpId) → r.inner.state ≡ TcpState.Default side → ⊥) → Walks law (put h place r) (Inner h place r) (Give (true, record r.inner { bound = true }))
-  is_bound r other = on here r _ (Changes _ _ _ _ (found here r) (record { side = refl; streams = refl; listening = refl; does = refl; maker = refl; family = refl; bound = λ side d b. absurd (other side d); binds = inl refl; connects = λ e. inl e })) (give _)
+  is_bound r other = on here r _ (Changes _ _ _ _ (found here r) (record { side = refl; streams = refl; listening = refl; does = refl; maker = refl; family = refl; bound = λ side d b. absurd (other side d); stays = λ b. absurd (cc); binds = inl refl; connects = λ e. inl e; dropped = inl refl })) (give _)
 
   bound_in : (r : TcpRecord) (s : TcpState) → r.inner.state ≡ s → Walks law (put h place r) (Inner h place r) (ask_bound (own_of line) r.inner s)
   unfolding bind
@@ -380,19 +406,19 @@ module _ {contexts : List WasiSocketsCtx} {line : ℕ} {origin : Step} {law : La
       and_given (KnowsBound r.inner) (bound_given (own_of line) r.inner) (bound_walks r) (λ b k. connect_if (with_inner r b.1) side a b.0 (is_connectable b.1 a) tt (k.1 ∙ e) to k.0 idle free)
   start_connect_walks r a _ e to idle free = gives _ (Spends _ free)
 
-  pub begin_connect_walks : (r : TcpRecord) (a : IpSocketAddress) → IsConnectTo a origin → is_nothing r.in_progress ≡ true → h.own ≡ Unused → Walks law (put h place r) (λ done. record (put h place done.1) { own = Used }) (begin_connect_asks (own_of line) r a)
-  begin_connect_walks r a to idle free = and_given BeginsSo (begun_given (own_of line) r.inner a r.inner.state) (start_connect_walks r a r.inner.state refl to idle free) begun
+  pub begin_connect_walks : (r : TcpRecord) (a : IpSocketAddress) → IsConnectTo a origin → is_nothing r.in_progress ≡ true → h.own ≡ Unused → IsOfOld h place → Walks law (put h place r) (λ done. record (put h place done.1) { own = Used }) (begin_connect_asks (own_of line) r a)
+  begin_connect_walks r a to idle free old = and_given BeginsSo (begun_given (own_of line) r.inner a r.inner.state) (start_connect_walks r a r.inner.state refl to idle free) begun
     where
       begun : (done : Result (Unit {0}) ErrorCode × Socket) → BeginsSo done → Walks law (Spent h place r done) (λ d. record (put h place d.1) { own = Used }) (Give (connect_begun r done))
-      begun (Ok d, socket) so = on (spent here) (with_inner r socket) _ (Changes _ _ _ _ (found (spent here) (with_inner r socket)) (record { side = refl; streams = refl; listening = refl; does = refl; maker = refl; family = refl; bound = λ side d b. b; binds = inr (idle_settles r.in_progress idle, tt); connects = λ e. inr so })) (give _)
+      begun (Ok d, socket) so = on (spent here) (with_inner r socket) _ (Changes _ _ _ _ (found (spent here) (with_inner r socket)) (record { side = refl; streams = refl; listening = refl; does = refl; maker = refl; family = refl; bound = λ side d b. b; stays = λ b. b; binds = inr (idle_settles r.in_progress idle, tt); connects = λ e. inr (so, record { handle = old.handle; socket = old.socket }); dropped = inl refl })) (give _)
       begun (Err c, socket) so = give _
 
   pub local_walks : (r : TcpRecord) → Walks law (put h place r) (λ done. put h place done.1) (tell_local_asks (own_of line) r)
-  local_walks r = and_then (and_then (bound_walks r) (λ b. told_walks here at (with_inner r b.1) (local_side b.1 b.0) (usable_if b.1.state b.0))) (λ done. give _)
+  local_walks r = and_then (and_given (KnowsBound r.inner) (bound_given (own_of line) r.inner) (bound_walks r) (λ b k. told_walks here at (with_inner r b.1) (local_side b.1 b.0) (λ side e. (usable_if b.1.state b.0 side e, k.0 (usable_known b.1.state b.0 side e))))) (λ done. give _)
 
 -- == the backlog, and whether it is ready
-backlog_kept : (r : TcpRecord) (b : ℕ) → Plain r (with_inner r (with_backlog r.inner b))
-backlog_kept r b = record { side = refl; streams = refl; listening = refl; does = refl; maker = refl; family = refl; bound = λ side d e. e; binds = inl refl; connects = λ e. inl e }
+backlog_kept : {goes begins : Type 0} (r : TcpRecord) (b : ℕ) → Plain goes begins r (with_inner r (with_backlog r.inner b))
+backlog_kept r b = record { side = refl; streams = refl; listening = refl; does = refl; maker = refl; family = refl; bound = λ side d e. e; stays = λ b. b; binds = inl refl; connects = λ e. inl e; dropped = inl refl }
 
 module _ {contexts : List WasiSocketsCtx} {line : ℕ} {origin : Step} {law : Law contexts line origin} {h : Here} {place : ℕ} (here : HasRecord h place) (at : h.at ≡ Some (place, line)) where
   backlog_told : (r : TcpRecord) (b : ℕ) (told : Result (Unit {0}) ErrorCode) → Walks law (put h place r) (Inner h place r) (Give (after_backlog r.inner b told))
@@ -438,22 +464,27 @@ Listened h place r (Ok op, socket) = record (put h place (record r { inner = soc
 Listened h place r (Err c, socket) = record (put h place (with_inner r socket)) { own = Used }
 
 module _ {contexts : List WasiSocketsCtx} {line : ℕ} {origin : Step} {law : Law contexts line origin} {h : Here} {place : ℕ} (here : HasRecord h place) (at : h.at ≡ Some (place, line)) (is : IsListenStep origin) (free : h.own ≡ Unused) (quiet : NoStart h) where
-  starts_listen : (r : TcpRecord) (s : TcpState) → r.inner.state ≡ s → r.listening ≡ Not → r.inner.bound ≡ true → is_nothing r.in_progress ≡ true → Walks law (put h place r) (Listened h place r) (Give (listen_start (own_of line) r.inner true s))
-  starts_listen r (TcpState.Default side) e none bound idle = move (BeginsListen (put h place r) place r side at (found here r) e bound none is idle free) (from (ap (λ (x : Here). record x { own = Used }) (sym (put_put h place r (beginning_listen (own_of line) side r)))) (give _))
-  starts_listen r _ e none bound idle = gives _ (Spends _ free)
-
-  starts_known : (r : TcpRecord) (b : Bool × Socket) → (b.0 ≡ true) × (b.1 ≡ r.inner) → r.listening ≡ Not → r.inner.bound ≡ true → is_nothing r.in_progress ≡ true → Walks law (put h place (with_inner r b.1)) (Listened h place r) (Give (listen_start (own_of line) b.1 b.0 b.1.state))
-  starts_known r b k none bound idle =
-      let T : Bool × Socket → Type 0 = λ x. Walks law (put h place (with_inner r x.1)) (Listened h place r) (Give (listen_start (own_of line) x.1 x.0 x.1.state)) in
-      subst (λ (x : Bool). T (x, b.1)) (sym k.0) (subst (λ (y : Socket). T (true, y)) (sym k.1) (starts_listen r r.inner.state refl none bound idle))
+  starts_listen : (r : TcpRecord) (socket : Socket) (bound : Bool) (s : TcpState) → socket.state ≡ s → r.listening ≡ Not → (bound ≡ true → socket.bound ≡ true) → (bound ≡ false → BindsAnywhere origin × ListensForHandle h.made × (socket.bound ≡ false)) → is_nothing r.in_progress ≡ true
+      → Walks law (put h place (with_inner r socket)) (Listened h place r) (Give (listen_start (own_of line) socket bound s))
+  starts_listen r socket bound (TcpState.Default side) e none known un idle =
+      let now : TcpRecord = with_inner r socket in
+      move (BeginsListen (put h place now) place now side bound at (found here now) e known un none is idle free) (from (ap (λ (x : Here). record x { own = Used }) (sym (put_put h place now (beginning_listen (own_of line) side now bound)))) (give _))
+  starts_listen r socket bound _ e none known un idle = gives _ (Spends _ free)
 
   listened_walks : (r : TcpRecord) (start : Result Operation ErrorCode × Socket) → Walks law (Listened h place r start) (λ done. record (put h place done.1) { own = Used }) (listen_begun r start)
   listened_walks r (Ok op, socket) = poll_listen_walks (spent here) quiet (record r { inner = socket; listening = Begins op })
   listened_walks r (Err c, socket) = give _
 
+  -- of one that is known to be bound, and of any, which a listen of 0.3 binds
   once_walks : (r : TcpRecord) (l : Listening) → r.listening ≡ l → r.inner.bound ≡ true → is_nothing r.in_progress ≡ true → Walks law (put h place r) (λ done. record (put h place done.1) { own = Used }) (listen_once (own_of line) r l)
-  once_walks r Not e bound idle = and_then (and_given (λ b. (b.0 ≡ true) × (b.1 ≡ r.inner)) (known_given (own_of line) r.inner bound) (bound_walks here at r) (λ b k. starts_known r b k e bound idle)) (listened_walks r)
+  once_walks r Not e bound idle =
+      and_then (and_given (λ b. (b.0 ≡ true) × (b.1 ≡ r.inner)) (known_given (own_of line) r.inner bound) (bound_walks here at r) (λ b k. starts_listen r b.1 b.0 b.1.state refl e (λ t. ap (λ (x : Socket). x.bound) k.1 ∙ bound) (λ f. absurd (let p : true ≡ false = sym k.0 ∙ f in cc)) idle)) (listened_walks r)
   once_walks r _ e bound idle = gives _ (Spends _ free)
+
+  pub any_walks : BindsAnywhere origin → (r : TcpRecord) (l : Listening) → (IsNot l → ListensForHandle h.made) → r.listening ≡ l → is_nothing r.in_progress ≡ true → Walks law (put h place r) (λ done. record (put h place done.1) { own = Used }) (listen_once (own_of line) r l)
+  any_walks un r Not marks e idle =
+      and_then (and_given (KnowsBound r.inner) (bound_given (own_of line) r.inner) (bound_walks here at r) (λ b k. starts_listen r b.1 b.0 b.1.state refl e k.0 (λ f. (un, marks tt, k.2 f)) idle)) (listened_walks r)
+  any_walks un r _ marks e idle = gives _ (Spends _ free)
 
   if_bound_walks : (r : TcpRecord) (b : Bool) → (b ≡ true → r.inner.bound ≡ true) → is_nothing r.in_progress ≡ true → Walks law (put h place r) (λ done. record (put h place done.1) { own = Used }) (listen_bound (own_of line) r b)
   if_bound_walks r true k idle = once_walks r r.listening refl (k refl) idle
@@ -461,50 +492,3 @@ module _ {contexts : List WasiSocketsCtx} {line : ℕ} {origin : Step} {law : La
 
   pub begin_listen_walks : (r : TcpRecord) → is_nothing r.in_progress ≡ true → Walks law (put h place r) (λ done. record (put h place done.1) { own = Used }) (begin_listen_asks (own_of line) r)
   begin_listen_walks r idle = and_given (KnowsBound r.inner) (bound_given (own_of line) r.inner) (bound_walks here at r) (λ b k. if_bound_walks (with_inner r b.1) b.0 k.0 idle)
-
--- == an accept
-same_accept : (h : Here) (place : ℕ) (r : TcpRecord) (l : Listener) (a : Accepting) → r.listening ≡ Accepts l → l.accept ≡ a → put h place (accepting_now r l a) ≡ put h place r
-same_accept h place r l a e q = ap (λ (x : Accepting). put h place (accepting_now r l x)) (sym q) ∙ ap (λ (x : Listening). put h place (with_listening r x)) (sym e)
-
-module _ {contexts : List WasiSocketsCtx} {line : ℕ} {origin : Step} {law : Law contexts line origin} {h : Here} {place : ℕ} (here : HasRecord h place) where
-  accepting_walks : {A : Type 0} {end : A → Here} (r : TcpRecord) (l : Listener) (ends : Accepting → A) → ((now : Accepting) → Walks law (put h place (accepting_now r l now)) end (Give (ends now))) → (a : Accepting) → Walks law (put h place (accepting_now r l a)) end (accept_asks ends a)
-  accepting_walks r l ends k (Accepting.Asking op) = and_then (await here (accepting_now r l (Accepting.Asking op)) (with_accept l (Accepting.Asking op)) op refl refl) (λ ended. k (accept_ended op.who ended))
-  accepting_walks r l ends k s = k s
-
-module _ {contexts : List WasiSocketsCtx} {line : ℕ} {origin : Step} {law : Law contexts line origin} {h : Here} {place : ℕ} (here : HasRecord h place) (at : h.at ≡ Some (place, line)) where
-  -- an accept begins, by the next name of the line
-  begins_accept_walks : {A : Type 0} {end : A → Here} (r : TcpRecord) (l : Listener) (ends : Accepting → A) (part : ℕ) → r.listening ≡ Accepts l → l.accept ≡ Accepting.Idle → h.own ≡ Names part
-      → ((now : Accepting) → Walks law (record (put h place (accepting_now r l now)) { own = Names (part + 1) }) end (Give (ends now))) → Walks law (put h place r) end (accept_asks ends (new_accept (part_of line part) l))
-  begins_accept_walks r l ends part e q free k =
-      let new = new_accept (part_of line part) l in
-      move (BeginsAccept (put h place r) place part r l at (found here r) e q free)
-      (from (ap (λ (x : Here). record x { own = Names (part + 1) }) (sym (put_put h place r (accepting_now r l new)))) (accepting_walks (owning here (Names (part + 1))) r l ends k new))
-
-module _ {contexts : List WasiSocketsCtx} {line : ℕ} {origin : Step} {law : Law contexts line origin} {h : Here} {place n : ℕ} (here : HasRecord h place) (at : h.at ≡ Some (place, n)) where
-  -- a call of a listener, which may begin its accept
-  pub listener_walks : {A : Type 0} {end : A → Here} (r : TcpRecord) (l : Listener) (ends : Accepting → A) (part : ℕ) (a : Accepting) → r.listening ≡ Accepts l → l.accept ≡ a → MayBegin line n part h.own (not (has_accept a))
-      → ((now : Accepting) → Walks law (record (put h place (accepting_now r l now)) { own = after h.own part (not (has_accept a)) }) end (Give (ends now))) → Walks law (put h place r) end (accept_asks ends (accept_begun l.side l.maker (record { line = n; next_part = part }) a))
-  listener_walks {end = end} r l ends part Accepting.Idle e q may k =
-      let its = may refl in
-      subst (λ (x : ℕ). Walks law (put h place r) end (accept_asks ends (new_accept (part_of x part) l))) (sym its.0) (begins_accept_walks here (at ∙ ap (λ (x : ℕ). Some (place, x)) its.0) r l ends part e q its.1 k)
-  listener_walks r l ends part s e q may k = from (same_accept h place r l s e q) (accepting_walks here r l ends k s)
-
--- what was taken joins the records, with its streams
-abbrev pub joined_if : Here → ℕ → TcpRecord → Result (Unit {0}) Stop × TcpRecord → Here
-joined_if h place r (Ok done, now) = joining h (tcp2_put h.machine.store.records place r) now
-joined_if h place r (Err stop, now) = put h place r
-
-abbrev pub Took : Here → ℕ → Result (Answer Socket) ErrorCode × TcpRecord → Here
-Took h place (Ok (Ready socket), r) = joined_if h place r (accepted_record socket)
-Took h place (Ok Pending, r) = put h place r
-Took h place (Err c, r) = put h place r
-
-module _ {contexts : List WasiSocketsCtx} {line : ℕ} {origin : Step} {law : Law contexts line origin} {h : Here} {place : ℕ} (here : HasRecord h place) (c handle : ℕ) (is : origin ≡ Step.Call c (GuestCall.TcpAccept handle)) (of : record_of (kind_at h.machine.table handle) ≡ Some place) (unmade : h.made ≡ Unmade) where
-  pub takes_walks : (r : TcpRecord) (l : Listener) (now : Accepting) → Walks law (put h place (accepting_now r l now)) (λ done. Took h place (Ok done.0, with_listening r (Accepts done.1))) (Give (accept_end l now))
-  takes_walks r l (Accepting.Arrived new peer) =
-      let old : TcpRecord = accepting_now r l (Accepting.Arrived new peer) in
-      let idle : TcpRecord = accepting_now r l Accepting.Idle in
-      move (Joins (put h place old) c handle place old (with_accept l (Accepting.Arrived new peer)) new peer is of unmade (found here old) refl refl)
-      (from (ap (λ (xs : List Record). joining h xs (joined l new peer)) (sym (put_twice tcp_sort h.machine.store.records place old idle))) (give _))
-  takes_walks r l (Accepting.Failed why) = let old : TcpRecord = accepting_now r l (Accepting.Failed why) in on here old _ (Forgets _ _ _ (with_accept l (Accepting.Failed why)) why (found here old) refl refl) (give _)
-  takes_walks r l _ = give _

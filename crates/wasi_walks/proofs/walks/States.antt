@@ -10,9 +10,9 @@ use Rattle.wasi_walks.proofs.Words.{ask_made, bind, call_of, eqb-true, false, if
 use Rattle.wasi_walks.proofs.Words.{length, name_of, output_of, place_of, refl, subst, sym, table_parent, true}
 use Rattle.wasi_walks.proofs.Words.{watch_of, watched_by, with_handle, with_records, ℕ, ⊤, ◌==◌, ◌∙◌, ◌≡◌}
 use Rattle.wasi_world.specs.declared.ids.Ids.{Ids}
-use Rattle.wasi_walks.proofs.walks.Moves.{Interface, Own, Used, Here, put, Found, NoStartStands, record_of, udp_record_of, tcp_place, udp_place, Made, Awaited, Emptied, Numbered, Past, Unmade, Joined}
-use Rattle.wasi_host.specs.declared.kind.Kind.TheVariants.{Tcp3, Udp2, Udp3, PlainInput, PlainOutput, Incoming, Outgoing, Lookup}
-use Rattle.wasi_host.specs.Kinds.{tcp3_of, udp3_of, udp_of, incoming_of, outgoing_of}
+use Rattle.wasi_walks.proofs.walks.Moves.{Interface, P2, ToListen, Own, Used, Here, put, Found, NoStartStands, record_of, udp_record_of, tcp_place, udp_place, Made, Awaited, Emptied, Numbered, Past, Unmade, Joined}
+use Rattle.wasi_host.specs.declared.kind.Kind.TheVariants.{Listen3, Tcp3, Udp2, Udp3, PlainInput, PlainOutput, Incoming, Outgoing, Lookup}
+use Rattle.wasi_host.specs.Kinds.{listen3_of, tcp3_of, udp3_of, udp_of, incoming_of, outgoing_of}
 use Rattle.wasi_walks.proofs.Lists.{value_front}
 use Rattle.wasi_walks.proofs.walks.Law.{HasRecord, Given, given_then}
 use Rattle.wasi_records.specs.Records.{tcp2_at, tcp2_put}
@@ -36,6 +36,14 @@ At n m place more = record { machine = m; at = Some (place, n); made = Past; own
 abbrev pub Put : {A : Type 0} → ℕ → Machine → ℕ → A × Records → Here
 Put n m place done = At n (record m { store = done.1 }) place Used
 
+-- with these records nothing is worked on any more
+abbrev pub OverIn : {A : Type 0} → Machine → A × Records → Here
+OverIn m done = Over (record m { store = done.1 })
+
+-- it listens on the record of this place
+abbrev pub Listens : ℕ → Machine → Option ℕ → ℕ → Own → Here
+Listens n m marks place own = record (At n m place own) { made = ToListen n marks place }
+
 -- and its record is that of a socket that is dropped
 abbrev pub Emptying : ℕ → Machine → ℕ → Kind → Own → Here
 Emptying n m place kind own = record (At n m place own) { made = Emptied kind }
@@ -55,6 +63,14 @@ socket_record _ place e = absurd (cc)
 pub tcp3_record : (k : Option Kind) (place : ℕ) → tcp3_of k ≡ Some place → record_of k ≡ Some place
 tcp3_record (Some (Tcp3 n)) place e = e
 tcp3_record _ place e = absurd (cc)
+
+pub tcp3_kind : (k : Option Kind) (place : ℕ) → tcp3_of k ≡ Some place → k ≡ Some (Tcp3 place)
+tcp3_kind (Some (Tcp3 n)) place e = cc
+tcp3_kind _ place e = absurd (cc)
+
+pub listen3_record : (k : Option Kind) (place : ℕ) → listen3_of k ≡ Some place → record_of k ≡ Some place
+listen3_record (Some (Listen3 n)) place e = e
+listen3_record _ place e = absurd (cc)
 
 pub socket_kind : (k : Option Kind) (place : ℕ) → place_of k ≡ Some place → k ≡ Some (Tcp2 place)
 socket_kind (Some (Tcp2 n)) place e = cc
@@ -96,7 +112,7 @@ abbrev pub Watching : ℕ → Machine → ℕ → Own → Here
 Watching line m place own = record { machine = m; at = Some (place, line); made = Unmade; own = own }
 
 abbrev pub AcceptedSo : ℕ → Machine → ℕ → Result ℕ Stop × Records → Here
-AcceptedSo line m place (Ok p, store) = Between None (Joined p) (record m { store = store })
+AcceptedSo line m place (Ok p, store) = Between None (Joined P2 p) (record m { store = store })
 AcceptedSo line m place (Err why, store) = Between (Some (place, line)) Unmade (record m { store = store })
 
 -- with these records

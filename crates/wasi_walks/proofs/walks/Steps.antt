@@ -1,8 +1,8 @@
 -- A pending call continues; each step is made of moves, and so is a line while a call is pending.
 use Rattle.wasi_walks.proofs.Words.{Answer, Err, Give, InProgress, IsBacklogSet, List, Machine, None, Ok, Option, Records, Result, Some, Standing}
-use Rattle.wasi_walks.proofs.Words.{StandingCall, GuestCall, Step, Stop, TcpRecord, TcpSetting, TheBacklog, WasiSocketsCtx, asks_while, call_of, call_place}
+use Rattle.wasi_walks.proofs.Words.{StandingCall, GuestCall, Step, Stop, TcpSetting, TheBacklog, WasiSocketsCtx, asks_while, call_of, call_place}
 use Rattle.wasi_walks.proofs.Words.{chosen, context_at, false, get_option_asks, go_on, inl, is_bind}
-use Rattle.wasi_walks.proofs.Words.{is_guest_call, is_held_up, is_listen, kind_at, own_of, refl, relisten_at}
+use Rattle.wasi_walks.proofs.Words.{is_guest_call, is_held_up, is_listen, kind_at, own_of, refl}
 use Rattle.wasi_walks.proofs.Words.{resume_call, resumed, socket_at, step_asks, subst, sym, true, unstood}
 use Rattle.wasi_walks.proofs.Words.{watched_by, with_store, ℕ, ◌≡◌}
 use Rattle.wasi_world.specs.declared.ids.Ids.{Ids}
@@ -15,13 +15,18 @@ use Rattle.std.specs.Prelude.{⊤, ◌⊎◌}
 use Rattle.wasi_walks.proofs.walks.Writes.{may, AsLet}
 use Rattle.wasi_walks.proofs.Words.{ap}
 use Rattle.wasi_walks.proofs.walks.Here.{ConnectStands, takes_none}
-use Rattle.wasi_walks.proofs.walks.Moves.{ToConnect, CallsHandles, Here, IsStreamCall, NoStartStands, OfStreams, RecallsCall, IsSettled, Own, Unused, ANetwork, Spends, Used, Leaves, RecallsConnect, RecallsStreams, Resumes, Unstands}
-use Rattle.wasi_walks.proofs.walks.Law.{BeginsWrites, Law, Walks, give, and_then, and_given, by_if, move, gives, mark, create, put_same, from}
-use Rattle.wasi_walks.proofs.walks.Sockets.{WaitsSo, get_walks, listen_given, poll_bind_walks, poll_listen_walks, polled_given}
-use Rattle.wasi_walks.proofs.walks.Streams.{subscribe_walks, drop_walks, turn_walks, drop_output_walks}
-use Rattle.wasi_walks.proofs.walks.States.{At, Over, OverWith, udp_record, Put, Starts, socket_record, stands_so, there, none_stands}
-use Rattle.wasi_walks.proofs.walks.SocketSteps.{finish_started_walks, local_address_walks, shutdown_at_walks, start_connect_walks, start_bind_walks, looked_walks, set_chosen_walks, remote_address_walks, on_socket, finish_connect_walks, as_left, answered_walks}
-use Rattle.wasi_walks.proofs.walks.ListenSteps.{accept_on_walks, start_listen_at_walks}
+use Rattle.wasi_walks.proofs.walks.Moves.{ToConnect, CallsHandles, Here, IsStreamCall, NoStartStands, OfStreams, RecallsCall, IsSettled, Own, Unused, ANetwork, Spends, Used, Leaves, RecallsConnect, RecallsListen, RecallsStreams, Resumes, Unstands}
+use Rattle.wasi_walks.proofs.walks.Law.{BeginsWrites, Law, Walks, give, and_then, by_if, move, gives, mark, create, from}
+use Rattle.wasi_walks.proofs.walks.Sockets.{get_walks}
+use Rattle.wasi_walks.proofs.walks.Streams.{subscribe_walks, turn_walks}
+use Rattle.wasi_walks.proofs.walks.Releases.{drop_output_walks}
+use Rattle.wasi_walks.proofs.walks.Drops.{drop_walks}
+use Rattle.wasi_walks.proofs.walks.States.{At, Listens, Over, OverIn, OverWith, udp_record, Put, Starts, socket_record, stands_so, none_stands}
+use Rattle.wasi_walks.proofs.walks.SocketSteps.{finish_started_walks, local_address_walks, shutdown_at_walks, start_connect_walks, start_bind_walks, looked_walks, set_chosen_walks, remote_address_walks, on_socket, finish_connect_walks, as_left}
+use Rattle.wasi_walks.proofs.walks.ListenSteps.{accept_on_walks, relisten_walks, start_listen_walks}
+use Rattle.wasi_walks.proofs.walks.P3Streams.{p3_read_walks, p3_receive_walks, p3_result_walks, p3_send_walks, p3_write_walks}
+use Rattle.wasi_machine.specs.Machine.{slot_reply}
+use Rattle.wasi_walks.proofs.walks.P3Listens.{p3_accept_walks, p3_listen_walks, p3_relisten_walks}
 use Rattle.wasi_records.specs.Records.{tcp2_at, open_at, udp2_at}
 use Rattle.wasi_host.specs.declared.pending.Outcome.{Outcome}
 use Rattle.wasi_host.specs.Machine.{udp_socket_at, outgoing_at, lookup_number}
@@ -49,7 +54,9 @@ use Rattle.wasi_host.specs.Machine.{code_told, same_told}
 use Rattle.wasi_p3.specs.Tcp as p3
 use Rattle.wasi_walks.proofs.walks.Binds.{p3_bind_walks, p3_udp_bind_walks, rebind_walks, udp_rebind_walks}
 use Rattle.wasi_host.specs.Beside.{beside_of}
-use Rattle.wasi_walks.proofs.walks.Connects.{p3_connect_walks, resume_beside_walks}
+use Rattle.wasi_walks.proofs.walks.Beside.{resume_beside_walks}
+use Rattle.wasi_walks.proofs.walks.Connects.{p3_connect_walks}
+use Rattle.wasi_walks.proofs.walks.Resolves.{p3_resolve_walks}
 use Rattle.wasi_walks.proofs.walks.UdpConnects.{p3_udp_connect_walks, udp_reconnect_walks}
 use Rattle.wasi_walks.proofs.walks.P3Steps.{p3_get_walks, p3_local_walks, p3_remote_walks, p3_set_walks}
 use Rattle.wasi_walks.proofs.walks.Moves.{AwaitsCreate, Interface, P2, P3, Recalled}
@@ -57,8 +64,9 @@ use Rattle.wasi_walks.proofs.walks.Cancels.{cancel_walks}
 use Rattle.wasi_walks.proofs.walks.Pipes.{input_pipe_walks, output_pipe_walks, plain_walks}
 use Rattle.wasi_walks.proofs.walks.Splices.{splice_walks}
 
--- it makes no handle
+-- it makes no handle, and is no listen
 abbrev MakesNoHandle : StandingCall → Type 0
+MakesNoHandle (StandingCall.Listen place marks) = ⊥
 MakesNoHandle (StandingCall.UdpCreate place face) = ⊥
 MakesNoHandle (StandingCall.UdpConnect place handle) = ⊥
 MakesNoHandle (StandingCall.UdpConnect3 place) = ⊥
@@ -101,12 +109,6 @@ dropped_so m (answer, store) = refl
 module _ {contexts : List WasiSocketsCtx} {line : ℕ} {origin : Step} {law : Law contexts line origin} where
   -- == a pending call continues
   module _ (ids : Ids) (m : Machine) (quiet : NoStartStands m.store.standing) where
-    relisten_walks : (place : ℕ) (o : Option TcpRecord) → tcp2_at m.store.records place ≡ o → Walks law (At ids.line m place Used) (Put ids.line m place) (relisten_at m.store ids place o)
-    relisten_walks place None g = give _
-    relisten_walks place (Some r) g =
-        from (put_same (At ids.line m place Used) place r g)
-        (and_given (WaitsSo (StandingCall.Listen place)) (listen_given place r) (poll_listen_walks (there g) quiet r) (λ done w. answered_walks m ids (StandingCall.Listen place) quiet done (there g) w))
-
     -- what was answered, and nothing is worked on any more
     gone_on_walks : (place : ℕ) (done : Result (Answer (Unit {0})) Stop × Records) → Walks law (Put ids.line m place done) OverWith (Give (gone_on (with_store m done)))
     gone_on_walks place (Ok answer, store) = gives _ (Leaves _)
@@ -122,7 +124,7 @@ module _ {contexts : List WasiSocketsCtx} {line : ℕ} {origin : Step} {law : La
     -- a call that makes no handle works on the record of its place
     go_on_walks : (call : StandingCall) → MakesNoHandle call → Walks law (At ids.line m (call_place call) Used) OverWith (go_on m ids call)
     go_on_walks (StandingCall.Bind place face) k = and_then (rebind_walks m ids quiet face place) (bound_on_walks face place)
-    go_on_walks (StandingCall.Listen place) k = and_then (relisten_walks place (tcp2_at m.store.records place) refl) (gone_on_walks place)
+    go_on_walks (StandingCall.Listen place marks) k = absurd k
     go_on_walks (StandingCall.DropOutput place) k = and_then (drop_output_walks ids place m quiet (tcp2_at m.store.records place) refl) (λ done. gone_on_walks place (allowed_answer done))
     go_on_walks (StandingCall.UdpBind place face) k = and_then (udp_rebind_walks m ids quiet face place) (bound_on_walks face place)
     go_on_walks (StandingCall.DropOutgoing place) k = drop_outgoing_walks ids m place quiet (λ done. gone_on (with_store m (allowed_answer done))) (dropped_so m)
@@ -130,6 +132,15 @@ module _ {contexts : List WasiSocketsCtx} {line : ℕ} {origin : Step} {law : La
     go_on_walks (StandingCall.UdpConnect place handle) k = absurd k
     go_on_walks (StandingCall.UdpConnect3 place) k = absurd k
     go_on_walks (StandingCall.Blocking call) k = absurd k
+
+    -- a listen works under the handle that its listener gets
+    listened_walks : (done : Result (Answer (Unit {0})) Stop × Records) → Walks law (OverIn m done) OverWith (Give (gone_on (with_store m done)))
+    listened_walks (Ok answer, store) = give _
+    listened_walks (Err why, store) = give _
+
+    listen_goes_on : (place : ℕ) (marks : Option ℕ) → Walks law (Listens ids.line m marks place Used) OverWith (go_on m ids (StandingCall.Listen place marks))
+    listen_goes_on place None = and_then (relisten_walks m ids place quiet (tcp2_at m.store.records place) refl) listened_walks
+    listen_goes_on place (Some handle) = and_then (p3_relisten_walks m ids place handle quiet) (answered_on_walks handle_outcome P3)
 
     streamed_walks : (done : Result (Answer (ℕ × ℕ)) Stop × Machine) → Walks law (Over done.1) OverWith (Give (streams_on done))
     streamed_walks (Ok answer, m) = give _
@@ -171,12 +182,12 @@ module _ {contexts : List WasiSocketsCtx} {line : ℕ} {origin : Step} {law : La
   taken_walks m ids (StandingCall.UdpConnect3 place) lets e = move (Resumes _ (standing_as ids (StandingCall.UdpConnect3 place)) e tt) (move (RecallsConnect _ ids place e refl) (move (Unstands _ (λ p k. ap (λ (x : ℕ). ToConnect x) (subst (λ (o : Option Standing). ConnectStands o p) e k))) (connect_goes_on ids (record m { store = unstood m.store }) tt place)))
   taken_walks m ids (StandingCall.DropOutgoing place) lets e = move (Resumes _ (standing_as ids (StandingCall.DropOutgoing place)) e tt) (move (Unstands _ (takes_none m.store.standing ids (StandingCall.DropOutgoing place) Unused e tt)) (move (Spends _ refl) (go_on_walks ids (record m { store = unstood m.store }) tt (StandingCall.DropOutgoing place) tt)))
   taken_walks m ids (StandingCall.Bind place face) lets e = move (Resumes _ (standing_as ids (StandingCall.Bind place face)) e tt) (move (Unstands _ (takes_none m.store.standing ids (StandingCall.Bind place face) Unused e tt)) (move (Spends _ refl) (go_on_walks ids (record m { store = unstood m.store }) tt (StandingCall.Bind place face) tt)))
-  taken_walks m ids (StandingCall.Listen place) lets e = move (Resumes _ (standing_as ids (StandingCall.Listen place)) e tt) (move (Unstands _ (takes_none m.store.standing ids (StandingCall.Listen place) Unused e tt)) (move (Spends _ refl) (go_on_walks ids (record m { store = unstood m.store }) tt (StandingCall.Listen place) tt)))
+  taken_walks m ids (StandingCall.Listen place marks) lets e = move (Resumes _ (standing_as ids (StandingCall.Listen place marks)) e tt) (move (RecallsListen _ ids place marks e) (move (Unstands _ (takes_none m.store.standing ids (StandingCall.Listen place marks) Unused e tt)) (move (Spends _ refl) (listen_goes_on ids (record m { store = unstood m.store }) tt place marks))))
   taken_walks m ids (StandingCall.DropOutput place) lets e = move (Resumes _ (standing_as ids (StandingCall.DropOutput place)) e tt) (move (Unstands _ (takes_none m.store.standing ids (StandingCall.DropOutput place) Unused e tt)) (move (Spends _ refl) (go_on_walks ids (record m { store = unstood m.store }) tt (StandingCall.DropOutput place) tt)))
   taken_walks m ids (StandingCall.UdpBind place face) lets e = move (Resumes _ (standing_as ids (StandingCall.UdpBind place face)) e tt) (move (Unstands _ (takes_none m.store.standing ids (StandingCall.UdpBind place face) Unused e tt)) (move (Spends _ refl) (go_on_walks ids (record m { store = unstood m.store }) tt (StandingCall.UdpBind place face) tt)))
 
   pub resume_walks : (m : Machine) (n : ℕ) (o : Option Standing) → call_of m.store.standing n ≡ o → BeginsWrites law ⊎ ResumesSimply m.store.standing → Walks law (Starts m Unused) OverWith (resume_call m n o)
-  resume_walks m n None e lets = resume_beside_walks m n (beside_of m.store n)
+  resume_walks m n None e lets = resume_beside_walks m n (beside_of m.store n) refl
   resume_walks m n (Some s) e lets =
       let stands = (stands_so m.store.standing n s e).0 in
       and_then (taken_walks m s.ids s.call (elim lets [ inl begins ↦ inl begins | inr simple ↦ inr (subst ResumesSimply stands simple) ]) stands) resumed_walks
@@ -219,7 +230,7 @@ step_walks line (Step.Call c (GuestCall.TcpStartBind s n a)) m b f = and_then (s
 step_walks line (Step.Call c (GuestCall.TcpFinishBind s)) m b f = as_left (finish_started_walks m is_bind bind_settles (socket_at m s))
 step_walks line (Step.Call c (GuestCall.TcpStartConnect s n a)) m b f = and_then (start_connect_walks m s n a (inl refl) refl) (λ done. give _)
 step_walks line (Step.Call c (GuestCall.TcpFinishConnect s)) m b f = and_then (finish_connect_walks c s m (inl refl) refl) (λ done. give _)
-step_walks line (Step.Call c (GuestCall.TcpStartListen s)) m b f = and_then (on_socket m s (socket_at m s) (inl refl) (socket_record (kind_at m.table s)) (λ place. start_listen_at_walks m place (tcp2_at m.store.records place) refl tt (none_stands (f refl)))) (λ done. give _)
+step_walks line (Step.Call c (GuestCall.TcpStartListen s)) m b f = and_then (start_listen_walks m s (socket_at m s) refl (inl refl) tt tt (none_stands (f refl))) (λ done. give _)
 step_walks line (Step.Call c (GuestCall.TcpFinishListen s)) m b f = as_left (finish_started_walks m is_listen listen_settles (socket_at m s))
 step_walks line (Step.Call c (GuestCall.TcpAccept s)) m b f = and_then (accept_on_walks c s m (socket_at m s) refl (inl refl) refl) (λ done. give _)
 step_walks line (Step.Call c (GuestCall.TcpLocalAddress s)) m b f = and_then (local_address_walks m s (inl refl)) (λ done. give _)
@@ -232,6 +243,13 @@ step_walks line (Step.Call c (GuestCall.TcpShutdown s how)) m b f = and_then (on
 step_walks {contexts} line (Step.Call c (GuestCall.P3TcpCreate family)) m b f = and_then (create p3.handle_told p3.code_told P3 (context_at contexts c) family (refl, refl, refl) refl refl refl) (λ done. give _)
 step_walks line (Step.Call c (GuestCall.P3TcpBind s a)) m b f = and_then (p3_bind_walks m s a (inl refl) refl (none_stands (f refl))) (λ done. give _)
 step_walks line (Step.Call c (GuestCall.P3TcpConnect s a)) m b f = and_then (p3_connect_walks m s a (inl refl) refl) (λ done. give _)
+step_walks line (Step.Call c (GuestCall.P3TcpListen s)) m b f = and_then (p3_listen_walks m s (inl refl) tt tt refl (none_stands (f refl))) (λ done. give _)
+step_walks line (Step.Call c (GuestCall.P3Accept listener remaining)) m b f = and_then (p3_accept_walks m c listener remaining (inl refl) refl) (λ done. give _)
+step_walks line (Step.Call c (GuestCall.P3TcpReceive s)) m b f = and_then (p3_receive_walks m c s refl) (λ done. give _)
+step_walks line (Step.Call c (GuestCall.P3TcpSend s)) m b f = and_then (p3_send_walks m c s refl) (λ done. give _)
+step_walks line (Step.Call c (GuestCall.P3Read end len)) m b f = and_then (p3_read_walks m end len (inl refl) (f refl)) (λ done. give _)
+step_walks line (Step.Call c (GuestCall.P3Write end bytes)) m b f = and_then (p3_write_walks m c end bytes (inl refl) refl (f refl)) (λ done. give _)
+step_walks line (Step.Call c (GuestCall.P3Result slot)) m b f = p3_result_walks (λ done. (slot_reply done.0, done.1)) (λ done. refl) m slot (f refl)
 step_walks line (Step.Call c (GuestCall.P3TcpLocalAddress s)) m b f = and_then (p3_local_walks m s (inl refl)) (λ done. give _)
 step_walks line (Step.Call c (GuestCall.P3TcpRemoteAddress s)) m b f = and_then (p3_remote_walks m s (inl refl)) (λ done. give _)
 step_walks line (Step.Call c (GuestCall.P3TcpIsListening s)) m b f = gives _ (Spends _ refl)
@@ -247,6 +265,7 @@ step_walks line (Step.Call c (GuestCall.P3UdpRemoteAddress s)) m b f = gives _ (
 step_walks line (Step.Call c (GuestCall.P3UdpAddressFamily s)) m b f = gives _ (Spends _ refl)
 step_walks line (Step.Call c (GuestCall.P3UdpGet s option)) m b f = and_then (p3_udp_get_walks m s (udp_opt option) (inl refl) refl) (λ done. give _)
 step_walks line (Step.Call c (GuestCall.P3UdpSet s setting)) m b f = and_then (p3_udp_set_walks m s (udp_chosen setting).0 (udp_chosen setting).1 (inl refl) (refl, refl)) (λ done. give _)
+step_walks line (Step.Call c (GuestCall.P3Resolve name)) m b f = and_then (p3_resolve_walks m c name refl) (λ done. give _)
 step_walks {contexts} line (Step.Call c (GuestCall.UdpCreate family)) m b f = and_then (and_then (create_udp_walks P2 m (context_at contexts c) family (refl, refl, refl) (f refl)) (λ done. give _)) (λ done. give _)
 step_walks line (Step.Call c (GuestCall.UdpStartBind s n a)) m b f = and_then (start_udp_bind_walks m s n a (inl refl) refl (none_stands (f refl))) (λ done. give _)
 step_walks line (Step.Call c (GuestCall.UdpFinishBind s)) m b f = as_left (finish_udp_bind_walks m (udp_socket_at m s))
