@@ -1,4 +1,4 @@
--- A poll of a connect that stands beside other calls.
+-- A poll of a call that stands beside other calls: of a connect, and of a lookup.
 use Rattle.wasi_causes.proofs.Words.{◌≡◌, ℕ, true, false, List, [], Some, None, Result, Ok, Err}
 use Rattle.wasi_causes.proofs.Words.{refl, sym, subst, inl, inr, IsSomeAnd, Answer, Pending, Ready, Entry, ErrorCode}
 use Rattle.wasi_causes.proofs.Words.{InvalidState, Item, End, Waits, Done, Refused, Machine, Operation, Reply, TcpRecord, TcpState}
@@ -12,7 +12,7 @@ use Rattle.wasi_records.specs.Sockets.{inner_answered}
 use Rattle.wasi_records.specs.Stops.{Code}
 use Rattle.wasi_host.specs.declared.beside.Beside.{Beside}
 use Rattle.wasi_host.specs.declared.beside.BesideCall.{BesideCall}
-use Rattle.wasi_host.specs.declared.beside.BesideCall.TheVariants.{Connect}
+use Rattle.wasi_host.specs.declared.beside.BesideCall.TheVariants.{Connect, Resolve}
 use Rattle.wasi_host.specs.declared.kind.Interface.TheVariants.{P3}
 use Rattle.wasi_host.specs.declared.pending.Outcome.{Outcome as Given}
 use Rattle.wasi_host.specs.BaseStops.{BaseStop}
@@ -27,6 +27,7 @@ use Rattle.wasi_walks.specs.Answered.{ConnectsOn}
 use Rattle.wasi_walks.specs.Waiting.{call_over, left_missing}
 use Rattle.wasi_causes.proofs.Beside.{beside_call, is_beside, none_of, not_both}
 use Rattle.wasi_causes.proofs.operations.ConnectEnds.{ConnectEnd, connect_ends_so}
+use Rattle.wasi_causes.proofs.resolving.P3ResolvePolls.{lookup_resumes}
 use Rattle.wasi_causes.proofs.tables.Meets.{Meets, Rows, ends, granted, onto, widen}
 use Rattle.wasi_causes.proofs.tables.Routes.{apart, calls, finds, put_same}
 use Rattle.wasi_causes.specs.Outcomes.{BlockedGoesOn, Outcome}
@@ -72,13 +73,13 @@ module _ (contexts : List WasiSocketsCtx) (m : Machine) (line n : ℕ) (other : 
       done_row es now why =
           let after : Machine = call_over (putting m place now) n in
           let polled = over_row es (reply.Ok no_fields) now OverDone (there es (reply.Ok no_fields) after why) in
-          ((apart (λ e. cc) (λ none. not_both (stands_under m.store n) on none), λ stands. absurd (cc), no_blocking es (reply.Ok no_fields) after, λ b. polled), (inl (inl tt), inr (beside, refl)))
+          ((apart (λ e. cc) (λ none. not_both (stands_under m.store n) on none), λ stands. absurd (cc), no_blocking es (reply.Ok no_fields) after, λ b. polled), (inl (inl tt), inr (beside, rw is (rw call refl))))
 
       refused_row : (es : List Entry) (code : ErrorCode) (now : TcpRecord) → let after : Machine = call_over (putting m place now) n in Socket es (reply.Err (p3_word code)) after → Row es (reply.Err (p3_word code), after)
       refused_row es code now why =
           let after : Machine = call_over (putting m place now) n in
           let polled = over_row es (reply.Err (p3_word code)) now (OverRefused code) (there es (reply.Err (p3_word code)) after why) in
-          ((apart (λ e. cc) (λ none. not_both (stands_under m.store n) on none), λ stands. absurd (cc), no_blocking es (reply.Err (p3_word code)) after, λ b. polled), (inr (record { code = code; is = refl }), (inr beside, refl)))
+          ((apart (λ e. cc) (λ none. not_both (stands_under m.store n) on none), λ stands. absurd (cc), no_blocking es (reply.Err (p3_word code)) after, λ b. polled), (inr (inl (record { code = code; is = refl })), (inr beside, refl)))
 
       waits_row : (es : List Entry) (now : TcpRecord) → let after : Machine = putting m place now in Socket es (reply.Pending n) after → Row es (reply.Pending n, after)
       waits_row es now why =
@@ -140,6 +141,7 @@ module _ (contexts : List WasiSocketsCtx) (m : Machine) (line n : ℕ) (other : 
 
   by_call : (b : Beside) → beside_of m.store n ≡ Some b → (call : BesideCall) → b.call ≡ call → Meets GoneRow [] (go_on_beside m n call)
   by_call b is (Connect place) call = onto _ (onto _ (its b is place call))
+  by_call b is (Resolve host) call = lookup_resumes contexts m line n other no_blocking b is host call
 
   pub resumes_beside : (b : Beside) → beside_of m.store n ≡ Some b → Meets GoneRow [] (go_on_beside m n b.call)
   resumes_beside b is = by_call b is b.call refl

@@ -1,5 +1,5 @@
--- What is released: by a shutdown, by a drop of a handle, and what a drop leaves.
-use Rattle.wasi_causes.proofs.Words.{◌≡◌, Bool, true, false, if◌then◌else◌, List, [], ◌∷◌, ◌++◌, Option, Some, None, refl, sym, ap, ◌∙◌, ⊤, ◌⊎◌, append-nil, append_assoc, ℕ, Result, inl, inr, Ok, Err, subst, ◌≢◌, IsSome, IpSocketAddress, ShutdownType, Receive, Send, Both, give_streams_up, gone, release_asks, released, release_at, Stop, Trap, kind_at, output_of, has_no_child, without_handle, taken_out, place_of, give_up_asks, socket_at, own_of, with_store, answered, at_once, drop_kind, drop_taken, drop_asks, shut_streams, shut_record, shutdown_at, Records, Kind, Tcp2, Output, Listening, Machine, Streams, TcpRecord, shutdown_on, record_at, putting, record_in, OfRecord, done_reply, answer_reply, Each, no_fields, OutputWaits, WritesOn, ToldToWait, WriterWaits, Field, Reply, in_hand, refuse_in, Job, is_over, held_side, give_up_in, reader_shutdown_asks, Socket, side_of, writer_side, writer_shutdown_asks, side_up_asks, Accepting, ReadState, WriteState, Give, bind, End, Done, Who, Operation, ask_close, Entry, OpId, Answer, Ready, Pending, HasChildren, NoSuchHandle, Full, NotPermitted, WasiSocketsCtx}
+-- What a shutdown and a drop of a handle release, and what a drop leaves.
+use Rattle.wasi_causes.proofs.Words.{◌≡◌, Bool, true, false, if◌then◌else◌, List, [], ◌∷◌, ◌++◌, Option, Some, None, refl, sym, ap, ◌∙◌, ⊤, ◌⊎◌, append_assoc, ℕ, Result, inl, inr, Ok, Err, subst, ◌≢◌, IsSome, ShutdownType, gone, released, release_at, Stop, Trap, kind_at, output_of, has_no_child, without_handle, taken_out, place_of, socket_at, own_of, with_store, answered, at_once, drop_kind, drop_taken, drop_asks, shut_record, shutdown_at, Records, Kind, Tcp2, Output, Machine, Streams, TcpRecord, shutdown_on, record_at, putting, record_in, OfRecord, done_reply, answer_reply, Each, no_fields, OutputWaits, WritesOn, ToldToWait, WriterWaits, Field, Reply, side_of, WriteState, Give, bind, Entry, OpId, Answer, Ready, Pending, HasChildren, NoSuchHandle, Full, NotPermitted, WasiSocketsCtx}
 use Rattle.wasi_machine.specs.Machine.{first_ids}
 use Rattle.wasi_records.specs.Records.{tcp2_at, udp2_at, open_at, lookup_at, input_pipe_at, output_pipe_at}
 use Rattle.wasi_host.specs.NameLookupCalls.{drop_lookup_at}
@@ -18,15 +18,16 @@ use Rattle.wasi_causes.proofs.GivenBack.{no_job, put_gone}
 use Rattle.wasi_host.specs.UdpCalls as calls
 use Rattle.wasi_records.specs.declared.records.Record.{Record}
 use Rattle.wasi_causes.proofs.streams.Halves.{OutputRow, outputs}
-use Rattle.wasi_causes.proofs.tables.Meets.{Rows, Meets, ends, asks, chain, onto, told_so, widen}
+use Rattle.wasi_causes.proofs.tables.Meets.{Rows, Meets, ends, asks, chain, onto, shifted, told_so, widen}
 use Rattle.wasi_causes.proofs.tables.Routes.{Replied, Says, put_back, Names, its, on_record, apart, none_has}
-use Rattle.wasi_causes.specs.GivenUp.{LetsGo, receive_given_up, send_given_up, streams_given_up, side_closed, arrival_given_up, accept_given_up, listen_given_up, listening_given_up, socket_given_up, ended_side, shut_at_once, last_write, shut_writer, shutdown_entries, shut_down, HasLiveChildren, without, LooksOnce, NoLook, OneLook, IsDropped, GoesAtOnce, IsGone}
-use Rattle.wasi_causes.specs.Outcomes.{Outcome, AsksOnce, AreLike, Gone, SocketGone, Socket3Gone, UdpGone}
-use Rattle.wasi_records.specs.Holding.{drop_socket_asks, is_held, let_go_by, without_socket}
+use Rattle.wasi_causes.specs.GivenUp.{LetsGo, ListenerGoes, streams_given_up, side_closed, listening_given_up, socket_given_up, HasLiveChildren, without, LooksOnce, NoLook, OneLook, IsDropped, GoesAtOnce, IsGone}
+use Rattle.wasi_causes.specs.Gone.{AsksOnce, Gone, ListenerGone, SocketGone, Socket3Gone, UdpGone}
+use Rattle.wasi_causes.specs.Outcomes.{Outcome, AreLike}
+use Rattle.wasi_records.specs.Holding.{drop_listener_asks, drop_socket_asks, is_held, let_go_by, without_socket}
 use Rattle.wasi_host.specs.Dropping.{left_so, let_go_at}
-use Rattle.wasi_host.specs.Store.{with_socket}
 use Rattle.wasi_host.specs.Kinds.{none_in, outgoing_of}
-use Rattle.wasi_records.specs.Shutdowns.{shut_receive, shut_send, with_streams}
+use Rattle.wasi_records.specs.Listening.{with_listening}
+use Rattle.wasi_records.specs.Shutdowns.{with_streams}
 use Rattle.wasi_host.specs.TcpCalls.{shut_put}
 use Rattle.wasi_records.specs.declared.tcp_listening.Listening.TheVariants as listening
 use Rattle.wasi_steps.specs.declared.reply.CodeWord.TheVariants as word
@@ -34,11 +35,6 @@ use Rattle.wasi_steps.specs.declared.reply.Reply.TheVariants as reply
 use Rattle.wasi_steps.specs.declared.guest_call.GuestCall.TheVariants as guest
 use Rattle.wasi_steps.specs.declared.step.Step.TheVariants as step
 use Rattle.wasi_table.specs.Table.{children_of}
-use Rattle.wasi_tcp.specs.Closing.{close_in}
-use Rattle.wasi_tcp.specs.Job.{finish_in}
-use Rattle.wasi_tcp.specs.declared.listener.Accepting.TheVariants as accepting
-use Rattle.wasi_tcp.specs.declared.reader.ReadState.TheVariants as reading
-use Rattle.wasi_tcp.specs.declared.writer.WriteState.TheVariants as writing
 use Rattle.wasi_world.specs.declared.call.Call.TheVariants as call
 use Rattle.wasi_world.specs.declared.call.Told.TheVariants as told
 use Rattle.wasi_world.specs.declared.outcome.TrapKind.TheVariants.{Capacity, StreamsAlive, EmptyList, TooLong}
@@ -47,105 +43,13 @@ use Rattle.wasi_host.specs.declared.kind.PlainInput.TheVariants as plain_input
 use Rattle.wasi_host.specs.declared.kind.PlainOutput.TheVariants as plain_output
 use Rattle.wasi_host.specs.PlainStreams.{drop_input_pipe_at, drop_output_pipe_at}
 use Rattle.wasi_walks.proofs.Places.{put_again, udp_sort}
-
-abbrev Adds : {A : Type 0} → List Entry → List Entry → Rows A
-Adds es more fs done = fs ≡ es ++ more
-
-then_so : (es one two fs gs : List Entry) → fs ≡ es ++ one → gs ≡ fs ++ two → gs ≡ es ++ (one ++ two)
-then_so es one two fs gs e h = h ∙ (ap (λ (xs : List Entry). xs ++ two) e ∙ append_assoc es one two)
-
--- == what a socket listens by
-refuses : (who : Who) (o : Option IpSocketAddress) → Meets (λ es done. es ≡ arrival_given_up who o) [] (refuse_in who o)
-unfolding bind
-refuses who (Some peer) = asks (λ t fits. ends (told_so who.id [] (call.Refuse who.side peer) t fits))
-refuses who None = ends refl
-
-accept_up : (a : Accepting) → Meets (λ es done. es ≡ accept_given_up a) [] (give_up_in a)
-unfolding bind
-accept_up (accepting.Asking op) = refuses op.who (in_hand op.left)
-accept_up (accepting.Arrived new peer) = asks (λ t fits. ends (told_so new [] (call.Close new) t fits))
-accept_up _ = ends refl
-
-cancels : (op : Operation) (over : Bool) → is_over op ≡ over → Meets (λ es done. es ≡ listen_given_up op (held_side op)) [] (if over then Give tt else ask_close op.who.id op.who.side)
-unfolding bind
-cancels op true e = ends (rw e refl)
-cancels op false e = asks (λ t fits. ends (rw e (told_so op.who.id [] (call.Close op.who.side) t fits)))
-
-pub listening_up : (l : Listening) → Meets (λ es done. es ≡ listening_given_up l) [] (give_up_asks l)
-unfolding bind
-listening_up listening.Not = ends refl
-listening_up (listening.Begins op) = cancels op (is_over op) refl
-listening_up (listening.Accepts l) = accept_up l.accept
-listening_up (listening.Unclosed side) = asks (λ t fits. ends (told_so side [] (call.Close side) t fits))
-
-module _ (own : OpId) where
-  -- == the halves
-  reader_up : (es : List Entry) (reader : ReadState) → Meets (λ fs done. Adds es (receive_given_up own reader) fs done × (done.1 ≡ reading.Closed)) es (reader_shutdown_asks own reader)
-  unfolding bind
-  reader_up es (reading.Open half) = asks (λ t fits. ends (told_so own es (call.Shutdown half.side Receive) t fits, refl))
-  reader_up es reading.Closed = ends (sym (append-nil es), refl)
-
-  side_up : (es : List Entry) (side : Option OpId) → Meets (Adds es (send_given_up own side)) es (side_up_asks own side)
-  side_up es (Some side) = asks (λ t fits. ends (told_so own es (call.Shutdown side Send) t fits))
-  side_up es None = ends (sym (append-nil es))
-
-  -- == a socket that goes
-  streams_up : (es : List Entry) (o : Option Streams) → Meets (Adds es (streams_given_up own o)) es (give_streams_up own o)
-  streams_up es None = ends (sym (append-nil es))
-  streams_up es (Some s) = chain (reader_up es s.reader) (λ fs done k. widen (λ gs done h. then_so es (receive_given_up own s.reader) (send_given_up own (writer_side s.writer)) fs gs k.0 h) (side_up fs (writer_side s.writer)))
-
-  closes : (es : List Entry) (socket : Socket) (side : Option OpId) → side_of socket ≡ side → Meets (λ fs done. Adds es (side_closed own side) fs done × (side_of done.1 ≡ None)) es (close_in own socket side)
-  unfolding bind
-  closes es socket None e = ends (sym (append-nil es), e)
-  closes es socket (Some side) e = asks (λ t fits. ends (told_so own es (call.Close side) t fits, refl))
-
-  -- of the record only its place is left, with a socket that has no network socket
-  pub record Released (r : TcpRecord) (es : List Entry) (now : TcpRecord) : Type 0 where
-    pub socket : Socket
-    pub asked : es ≡ socket_given_up own r
-    pub no_side : side_of socket ≡ None
-    pub is : now ≡ gone r socket
-
-  pub releases : (r : TcpRecord) → Meets (λ es done. Released r es done.1) [] (release_asks own r)
-  releases r =
-      chain (listening_up r.listening) (λ es done first. chain (streams_up es r.streams) (λ fs done second. onto _ (widen (λ gs closed third. record {
-        socket = closed.1;
-        asked = third.0 ∙ (ap (λ (xs : List Entry). xs ++ side_closed own (side_of r.inner)) second ∙ ap (λ (xs : List Entry). xs ++ streams_given_up own r.streams ++ side_closed own (side_of r.inner)) first);
-        no_side = third.1;
-        is = refl;
-      }) (closes fs r.inner (side_of r.inner) refl))))
-
-  -- == a shutdown
-  finishes : (es : List Entry) (job : Job) (end : End) → Meets (λ fs done. Adds es (send_given_up own (ended_side job end)) fs done × (done.1 ≡ last_write job end)) es (finish_in own job end)
-  unfolding bind
-  finishes es job (Done given) = asks (λ t fits. ends (told_so own es (call.Shutdown job.write.who.side Send) t fits, refl))
-  finishes es job _ = ends (sym (append-nil es), refl)
-
-  writer_up : (es : List Entry) (writer : WriteState) → Meets (λ fs done. Adds es (send_given_up own (shut_at_once writer)) fs done × (done.1 ≡ shut_writer writer)) es (writer_shutdown_asks own writer)
-  unfolding bind
-  writer_up es (writing.Ready half permit) = asks (λ t fits. ends (told_so own es (call.Shutdown half.side Send) t fits, refl))
-  writer_up es (writing.Writing job) = onto _ (widen (λ fs done k. (k.0, ap writing.Closing k.1)) (finishes es job job.end))
-  writer_up es _ = ends (sym (append-nil es), refl)
-
-  abbrev pub ShutSo : ShutdownType → Streams → Rows (Unit {0} × Streams)
-  ShutSo how s es done = (es ≡ shutdown_entries own how s) × (done.1 ≡ shut_down how s)
-
-  receives : (s : Streams) → Meets (ShutSo Receive s) [] (shut_receive own s)
-  receives s = onto _ (widen (λ es done k. (k.0, ap (λ (reader : ReadState). let now : Streams = record s { reader = reader } in now) k.1)) (reader_up [] s.reader))
-
-  sends : (s : Streams) (es : List Entry) → Meets (λ fs done. Adds es (send_given_up own (shut_at_once s.writer)) fs done × (done.1 ≡ shut_down Send s)) es (shut_send own s)
-  sends s es = onto _ (widen (λ fs done k. (k.0, ap (λ (writer : WriteState). let now : Streams = record s { writer = writer } in now) k.1)) (writer_up es s.writer))
-
-  -- the sending half of streams that are those of s but for the reader
-  then_sends : (s : Streams) (es : List Entry) (done : Unit {0} × Streams) → ShutSo Receive s es done → Meets (ShutSo Both s) es (shut_send own done.1)
-  then_sends s es (done, now) k =
-      let same : now ≡ shut_down Receive s = k.1 in
-      rw same (widen (λ fs done h. (h.0 ∙ ap (λ (gs : List Entry). gs ++ send_given_up own (shut_at_once s.writer)) k.0, h.1)) (sends (shut_down Receive s) es))
-
-  pub shuts : (how : ShutdownType) (s : Streams) → Meets (ShutSo how s) [] (shut_streams own how s)
-  shuts Receive s = receives s
-  shuts Send s = sends s []
-  shuts Both s = chain {Mid = ShutSo Receive s} (receives s) (then_sends s)
+use Rattle.wasi_causes.proofs.streams.EndsClosed.{read_end_goes, write_end_goes}
+use Rattle.wasi_causes.specs.P3Streams.{IsLetGo, ReadEndGoes, WriteEndGoes}
+use Rattle.wasi_host.specs.ConnectionEnds.{drop_slot_in}
+use Rattle.wasi_host.specs.declared.kind.ConnectionEnd.{ConnectionEnd}
+use Rattle.wasi_records.specs.Slots.{slot_at}
+use Rattle.wasi_records.specs.declared.slot.Slot.{Slot}
+use Rattle.wasi_causes.proofs.Releases.{Released, listening_up, releases, shuts}
 
 none_there : (hs : List ℕ) → none_in hs ≡ true → hs ≡ []
 none_there [] e = refl
@@ -193,6 +97,9 @@ module _ (contexts : List WasiSocketsCtx) (m : Machine) (line c handle : ℕ) wh
   asks_none (Some (kinds.Tcp3 place)) = tt
   asks_none (Some (Udp2 place)) = tt
   asks_none (Some (kinds.Udp3 place)) = tt
+  asks_none (Some (kinds.Listen3 place)) = tt
+  asks_none (Some (kinds.Receive3 end)) = tt
+  asks_none (Some (kinds.Send3 end)) = tt
   asks_none (Some (Output place)) = NoLook
   asks_none _ = refl
 
@@ -227,6 +134,52 @@ module _ (contexts : List WasiSocketsCtx) (m : Machine) (line c handle : ℕ) wh
       by_handle : (o : Option TcpRecord) → tcp2_at m.store.records place ≡ o → Meets (λ es done. DropRow es (answered (with_store (without m handle) (at_once done)))) [] (let_go_at m.store place (drop_socket_asks own) o)
       by_handle None at = ends (its_drop [] m.store (λ r there. absurd (cc)))
       by_handle (Some r) at = onto _ (lets_go r at (is_held (without_socket r)) refl)
+
+    -- == of a listener
+    module _ (place : ℕ) (is : IsKind (kinds.Listen3 place)) where
+      listener_drop : (es : List Entry) (store : Records) → ListenerGone m line handle place es (record (without m handle) { store = store }) → DropRow es (answered (with_store (without m handle) (at_once (tt, store))))
+      listener_drop es store gone = ((apart (λ e. cc) no_children, rw is tt), (tt, (refl, rw is gone)))
+
+      listener_goes : (r : TcpRecord) → tcp2_at m.store.records place ≡ Some r → (es : List Entry) (after : Machine) → ListenerGoes m line handle place r es after → ListenerGone m line handle place es after
+      listener_goes r at es after k = λ q there. let its : r ≡ q = cc in subst (λ (x : TcpRecord). ListenerGoes m line handle place x es after) its k
+
+      module _ (r : TcpRecord) (at : tcp2_at m.store.records place ≡ Some r) where
+        abbrev deaf : TcpRecord
+        deaf = with_listening r listening.Not
+
+        abbrev DeafRow : Rows (Bool × TcpRecord)
+        DeafRow es done = DropRow es (answered (with_store (without m handle) (at_once (left_so m.store place done))))
+
+        -- with what it listens by, it is what the whole socket releases
+        all_up : (rest es : List Entry) → rest ≡ socket_given_up own deaf → es ≡ listening_given_up r.listening ++ rest → es ≡ socket_given_up own r
+        all_up rest es asked cut = cut ∙ (ap (λ (xs : List Entry). listening_given_up r.listening ++ xs) asked ∙ sym (append_assoc (listening_given_up r.listening) (streams_given_up own r.streams) (side_closed own (side_of r.inner))))
+
+        deaf_goes : (held : Bool) → is_held deaf ≡ held → Meets DeafRow (listening_given_up r.listening) (let_go_by own deaf held)
+        deaf_goes true e = ends (listener_drop _ _ (listener_goes r at _ _ (rw e (refl, refl))))
+        deaf_goes false e =
+            onto _ (widen (λ es done k. listener_drop es _ (listener_goes r at es _ (rw e (all_up k.rest es k.row.asked k.cut, record { left = put_gone (without m handle) place (Record.Tcp done.1); job = no_job place m.store.jobs }))))
+            (shifted (listening_given_up r.listening) (releases own deaf)))
+
+        listener_lets_go : Meets DeafRow [] (drop_listener_asks own r)
+        listener_lets_go = chain (listening_up r.listening) (λ es done first. subst (λ (fs : List Entry). Meets DeafRow fs (let_go_by own deaf (is_held deaf))) (sym first) (deaf_goes (is_held deaf) refl))
+
+      by_listener : (o : Option TcpRecord) → tcp2_at m.store.records place ≡ o → Meets (λ es done. DropRow es (answered (with_store (without m handle) (at_once done)))) [] (let_go_at m.store place (drop_listener_asks own) o)
+      by_listener None at = ends (listener_drop [] m.store (λ r there. absurd (cc)))
+      by_listener (Some r) at = onto _ (listener_lets_go r at)
+
+    -- == of an end of a stream of 0.3
+    read_end_left : (end : ConnectionEnd) → IsKind (kinds.Receive3 end) → (es : List Entry) (store : Records) → ReadEndGoes (without m handle) own end es (record (without m handle) { store = store })
+        → DropRow es (answered (with_store (without m handle) (at_once (tt, store))))
+    read_end_left end is es store k = ((apart (λ e. cc) no_children, rw is tt), (tt, (refl, rw is k)))
+
+    write_end_left : (end : ConnectionEnd) → IsKind (kinds.Send3 end) → (es : List Entry) (store : Records) → WriteEndGoes (without m handle) own end es (record (without m handle) { store = store })
+        → DropRow es (answered (with_store (without m handle) (at_once (tt, store))))
+    write_end_left end is es store k = ((apart (λ e. cc) no_children, rw is tt), (tt, (refl, rw is k)))
+
+    -- and of its slot
+    slot_left : (place : ℕ) → IsKind (kinds.Result3 place) → (o : Option Slot) → slot_at m.store.records place ≡ o → DropRow [] (Ok (Ready tt), record (without m handle) { store = drop_slot_in place m.store o })
+    slot_left place is None at = ((apart (λ e. cc) no_children, asks_none (kind_at m.table handle)), (tt, (refl, rw is (λ s there. absurd (cc)))))
+    slot_left place is (Some s) at = ((apart (λ e. cc) no_children, asks_none (kind_at m.table handle)), (tt, (refl, rw is (λ q there. record { left = refl; job = no_job place m.store.jobs }))))
 
     -- == of a UDP socket
     module _ (place : ℕ) (kind : Kind) (is : IsKind kind) (free : (es : List Entry) → AsksOnce line (Some kind) es) (its_gone : (es : List Entry) (after : Machine) → UdpGone m line handle place es after → Gone m line handle (Some kind) es after) where
@@ -317,6 +270,10 @@ module _ (contexts : List WasiSocketsCtx) (m : Machine) (line c handle : ℕ) wh
     by_kind (kinds.Tcp3 place) is = onto _ (by_handle place is (tcp2_at m.store.records place) refl)
     by_kind (Udp2 place) is = onto _ (udp_by_record place (Udp2 place) is (λ es. tt) (λ es after k. k) (udp2_at m.store.records place) refl)
     by_kind (kinds.Udp3 place) is = onto _ (udp_by_record place (kinds.Udp3 place) is (λ es. tt) (λ es after k. k) (udp2_at m.store.records place) refl)
+    by_kind (kinds.Listen3 place) is = onto _ (by_listener place is (tcp2_at m.store.records place) refl)
+    by_kind (kinds.Receive3 end) is = onto _ (widen (λ es done k. read_end_left end is es done.1 k) (read_end_goes (without m handle) own end))
+    by_kind (kinds.Send3 end) is = onto _ (widen (λ es done k. write_end_left end is es done.1 k) (write_end_goes (without m handle) own end))
+    by_kind (kinds.Result3 place) is = ends (slot_left place is (slot_at m.store.records place) refl)
     by_kind (Output place) is = onto _ (widen (of_output place is) (outputs m.store (first_ids line) place (tcp2_at m.store.records place) refl))
     by_kind (Incoming place) is = ends (incoming_left place is (open_at m.store.records place) refl)
     by_kind (Outgoing place) is = ends (outgoing_by place is (open_at m.store.records place) refl)
@@ -362,6 +319,9 @@ module _ (contexts : List WasiSocketsCtx) (m : Machine) (line c handle : ℕ) wh
   done_ok kind is other free es (reply.Err w) after row = absurd row.1.0
   done_ok kind is other free es reply.Closed after row = absurd row.1.0
   done_ok kind is other free es (reply.Failed w h) after row = absurd row.1.0.0
+  done_ok kind is other free es reply.Cancelled after row = absurd row.1.0
+  done_ok kind is other free es reply.Dropped after row = absurd row.1.0
+  done_ok kind is other free es reply.Unfilled after row = absurd row.1.0
   done_ok kind is other free es reply.NoSuchCall after row = elim row.1.0 [ inl p ↦ absurd p | inr c ↦ absurd c ]
   done_ok kind is other free es _ after row = absurd row.1
 
@@ -388,6 +348,41 @@ module _ (contexts : List WasiSocketsCtx) (m : Machine) (line c handle : ℕ) wh
       → LetsGo m line handle place (without_socket r) es after
   tcp3_gone place r is at es fields after row = rw is at row.1.1.1 r at
 
+  pub listener_ok : (place : ℕ) → kind_at m.table handle ≡ Some (kinds.Listen3 place) → children_of m.table.live handle ≡ [] → (es : List Entry) (r : Reply) (after : Machine) → DropSays es r after → r ≡ reply.Ok no_fields
+  listener_ok place is = done_ok (kinds.Listen3 place) is (no_wait (kinds.Listen3 place) tt)
+
+  pub listener_gone : (place : ℕ) (r : TcpRecord) → kind_at m.table handle ≡ Some (kinds.Listen3 place) → tcp2_at m.store.records place ≡ Some r
+      → (es : List Entry) (fields : List Field) (after : Machine) → DropSays es (reply.Ok fields) after
+      → ListenerGoes m line handle place r es after
+  listener_gone place r is at es fields after row = rw is at row.1.1.1 r at
+
+  -- of an end of 0.3, and of its slot
+  abbrev pub IsEnd : Kind → Type 0
+  IsEnd (kinds.Receive3 end) = ⊤
+  IsEnd (kinds.Send3 end) = ⊤
+  IsEnd (kinds.Result3 place) = ⊤
+  IsEnd _ = ⊥
+
+  end_no_out : (kind : Kind) → IsEnd kind → IsNoOut kind
+  end_no_out (Output place) end = end
+  end_no_out (Outgoing place) end = end
+  end_no_out _ end = tt
+
+  pub end_ok : (kind : Kind) → IsEnd kind → kind_at m.table handle ≡ Some kind → children_of m.table.live handle ≡ [] → (es : List Entry) (r : Reply) (after : Machine) → DropSays es r after → r ≡ reply.Ok no_fields
+  end_ok kind end is = done_ok kind is (no_wait kind (end_no_out kind end))
+
+  pub read_end_gone : (end : ConnectionEnd) → kind_at m.table handle ≡ Some (kinds.Receive3 end) → (es : List Entry) (fields : List Field) (after : Machine) → DropSays es (reply.Ok fields) after
+      → ReadEndGoes (without m handle) (own_of line) end es after
+  read_end_gone end is es fields after row = rw is at row.1.1.1
+
+  pub write_end_gone : (end : ConnectionEnd) → kind_at m.table handle ≡ Some (kinds.Send3 end) → (es : List Entry) (fields : List Field) (after : Machine) → DropSays es (reply.Ok fields) after
+      → WriteEndGoes (without m handle) (own_of line) end es after
+  write_end_gone end is es fields after row = rw is at row.1.1.1
+
+  pub result_gone : (place : ℕ) (s : Slot) → kind_at m.table handle ≡ Some (kinds.Result3 place) → slot_at m.store.records place ≡ Some s
+      → (es : List Entry) (fields : List Field) (after : Machine) → DropSays es (reply.Ok fields) after → (es ≡ []) × IsLetGo (without m handle) place after
+  result_gone place s is at es fields after row = (rw is at row.0.1, rw is at row.1.1.1 s at)
+
   pub udp_ok : (place : ℕ) → kind_at m.table handle ≡ Some (Udp2 place) → children_of m.table.live handle ≡ [] → (es : List Entry) (r : Reply) (after : Machine) → DropSays es r after → r ≡ reply.Ok no_fields
   udp_ok place is = done_ok (Udp2 place) is (no_wait (Udp2 place) tt)
 
@@ -412,6 +407,9 @@ module _ (contexts : List WasiSocketsCtx) (m : Machine) (line c handle : ℕ) wh
   asks_nothing (kinds.Tcp3 place) plain es h = absurd plain
   asks_nothing (Udp2 place) plain es h = absurd plain
   asks_nothing (kinds.Udp3 place) plain es h = absurd plain
+  asks_nothing (kinds.Listen3 place) plain es h = absurd plain
+  asks_nothing (kinds.Receive3 end) plain es h = absurd plain
+  asks_nothing (kinds.Send3 end) plain es h = absurd plain
   asks_nothing (Output place) plain es h = absurd plain
   asks_nothing (Incoming place) plain es h = absurd plain
   asks_nothing (Outgoing place) plain es h = absurd plain
@@ -425,6 +423,10 @@ module _ (contexts : List WasiSocketsCtx) (m : Machine) (line c handle : ℕ) wh
   plain_left (kinds.Tcp3 place) plain es after h = absurd plain
   plain_left (Udp2 place) plain es after h = absurd plain
   plain_left (kinds.Udp3 place) plain es after h = absurd plain
+  plain_left (kinds.Listen3 place) plain es after h = absurd plain
+  plain_left (kinds.Receive3 end) plain es after h = absurd plain
+  plain_left (kinds.Send3 end) plain es after h = absurd plain
+  plain_left (kinds.Result3 place) plain es after h = absurd plain
   plain_left (Output place) plain es after h = absurd plain
   plain_left (Incoming place) plain es after h = absurd plain
   plain_left (Outgoing place) plain es after h = absurd plain

@@ -8,11 +8,12 @@ use Rattle.wasi_jobs.specs.declared.job.HostJob.{HostJob}
 use Rattle.wasi_host.specs.GivingBack.{is_on, other_jobs}
 use Rattle.wasi_records.specs.Numbered.{record_gone}
 use Rattle.wasi_records.specs.Records.{input_pipe_at, input_pipe_of, lookup_at, lookup_of, output_pipe_at, output_pipe_of, tcp2_at, tcp2_of, udp2_at, udp2_of}
+use Rattle.wasi_records.specs.Slots.{slot_at, slot_of}
 use Rattle.wasi_records.specs.declared.records.Record.{Record}
 use Rattle.wasi_records.specs.declared.udp.OpenUdp.{OpenUdp}
 use Rattle.wasi_records.specs.declared.udp.UdpRecord.{UdpRecord}
 use Rattle.wasi_walks.proofs.GoneLists.{stays_there}
-use Rattle.wasi_walks.proofs.walks.Moves.{Here, IsLeft, OfInput, OfLookup, OfOutput, OfTcp, OfUdp, OfUnnamed}
+use Rattle.wasi_walks.proofs.walks.Moves.{Here, IsLeft, OfInput, OfLookup, OfOutput, OfSlot, OfTcp, OfUdp, OfUnnamed}
 
 -- a UDP socket is given back where it is closed
 pub left_udp : (h : Here) (place : ℕ) → IsLeft h place → (u : UdpRecord) → udp2_at h.machine.store.records place ≡ Some u → (side : OpId) × (u ≡ UdpRecord.Closed side)
@@ -20,6 +21,7 @@ left_udp h place (OfUdp side g) u e = (side, cc)
 left_udp h place (OfTcp q made g) u e = let n : tcp2_at h.machine.store.records place ≡ None = ap tcp2_of (udp_sort.it (slice_get h.machine.store.records place) u e) in absurd (cc)
 left_udp h place (OfLookup l made g) u e = let n : lookup_at h.machine.store.records place ≡ None = ap lookup_of (udp_sort.it (slice_get h.machine.store.records place) u e) in absurd (cc)
 left_udp h place (OfUnnamed l made g) u e = let n : lookup_at h.machine.store.records place ≡ None = ap lookup_of (udp_sort.it (slice_get h.machine.store.records place) u e) in absurd (cc)
+left_udp h place (OfSlot s made g) u e = let n : slot_at h.machine.store.records place ≡ None = ap slot_of (udp_sort.it (slice_get h.machine.store.records place) u e) in absurd (cc)
 left_udp h place (OfInput bytes made g) u e = let n : input_pipe_at h.machine.store.records place ≡ None = ap input_pipe_of (udp_sort.it (slice_get h.machine.store.records place) u e) in absurd (cc)
 left_udp h place (OfOutput pipe made g) u e = let n : output_pipe_at h.machine.store.records place ≡ None = ap output_pipe_of (udp_sort.it (slice_get h.machine.store.records place) u e) in absurd (cc)
 

@@ -4,9 +4,11 @@ pub mod operations
 pub mod udp_streams
 pub mod receiving
 pub mod resolving
+pub mod resuming
 pub mod sockets
 pub mod streams
 pub mod pollables
+pub mod Releases
 pub mod Ending
 pub mod Machine
 pub mod Beside
@@ -16,6 +18,7 @@ pub mod Slots
 pub mod GivenBack
 pub mod ReceivesGo
 pub mod Derived
+pub mod NoConnects
 pub mod Steady
 pub mod UdpConnects
 pub mod StreamsLive
@@ -23,5 +26,7 @@ pub mod StreamHandles
 pub mod Pending
 pub mod Runs
 pub mod Watching
+pub mod BoundListens
 pub mod ListensClosed
 pub mod NamedRecords
+pub mod Children

@@ -6,6 +6,7 @@ use Rattle.wasi_host.specs.declared.store.StandingCall.TheVariants as standing
 use Rattle.wasi_tcp.specs.declared.socket.TcpState.TheVariants as state
 use Rattle.wasi_addr.specs.declared.code.ErrorCode.TheVariants.{Other}
 use Rattle.wasi_world.specs.declared.ids.Ids.{Ids}
+use Rattle.wasi_causes.proofs.operations.PendingListens.{it_listens}
 use Rattle.wasi_causes.proofs.Words.{Answered, CallFails, CodeWord, Entry, ErrorCode, Give, HoldsCall, IfSome}
 use Rattle.wasi_causes.proofs.Words.{IsListening, IsSomeAnd, Left, List, ListenFailed, Listening, Machine, None, Option}
 use Rattle.wasi_causes.proofs.Words.{Reply, Some, Standing, StandingCall, Step, TcpRecord, TcpState, WasiSocketsCtx}
@@ -46,11 +47,11 @@ module _ (contexts : List WasiSocketsCtx) (steps : List Step) (log : List Entry)
   left_closed place r at begins after left = rw left (rw (put_finds tcp_sort m.store.records place r (with_listening r listening.Not) at) (begins_closed place r at begins, refl))
 
   -- it failed
-  failed_closed : (entries : List Entry) (call : StandingCall) (place : ℕ) → call ≡ standing.Listen place
+  failed_closed : (entries : List Entry) (call : StandingCall) (place : ℕ) (marks : Option ℕ) → call ≡ standing.Listen place marks
       → (c : ErrorCode) (why : CallFails m entries call c) (after : Machine) → after ≡ left_failed m why
       → IsClosedByListen after place × ListensNoMore after place
-  failed_closed entries _ place same c (ListenFailed its r op _ at is ends) after left = let e : its ≡ place = cc in subst (λ k. IsClosedByListen after k × ListensNoMore after k) e (left_closed its r at (subst IsBeginning (sym is) tt) after left)
-  failed_closed entries _ place same c _ after left = absurd (cc)
+  failed_closed entries _ place marks same c (ListenFailed its other r op _ at is ends) after left = let e : its ≡ place = cc in subst (λ k. IsClosedByListen after k × ListensNoMore after k) e (left_closed its r at (subst IsBeginning (sym is) tt) after left)
+  failed_closed entries _ place marks same c _ after left = absurd (cc)
 
   stands_its : (ids : Ids) (call : StandingCall) → m.store.standing ≡ Some (standing_as ids call) → stands_as m.store.standing ids.line ≡ true
   stands_its ids call stands = ap (λ (o : Option Standing). stands_as o ids.line) stands ∙ eq-eqb ids.line ids.line refl
@@ -58,26 +59,26 @@ module _ (contexts : List WasiSocketsCtx) (steps : List Step) (log : List Entry)
   same_call : (x y : Standing) → Some x ≡ Some y → x.call ≡ y.call
   same_call x y e = let same : x ≡ y = cc in ap (λ (s : Standing). s.call) same
 
-  pub fails_closed : (line place : ℕ) (ids : Ids) (entries : List Entry) (word : CodeWord) (after : Machine)
-      → m.store.standing ≡ Some (standing_as ids (standing.Listen place))
+  pub fails_closed : (line place : ℕ) (marks : Option ℕ) (ids : Ids) (entries : List Entry) (word : CodeWord) (after : Machine)
+      → m.store.standing ≡ Some (standing_as ids (standing.Listen place marks))
       → Answered contexts m line (step.Poll ids.line) entries (reply.Err word) after
       → IsClosedByListen after place × ListensNoMore after place
-  fails_closed line place ids entries word after stands w =
-      let stood = stands_its ids (standing.Listen place) stands in
+  fails_closed line place marks ids entries word after stands w =
+      let stood = stands_its ids (standing.Listen place marks) stands in
       let fails : FailureLeaves m ids.line entries word after = elim (its_own contexts m line (step.Poll ids.line) entries (reply.Err word) after w (λ e. cc)).1.1.0 [ inl why ↦ why (runs_bind contexts steps log replies m ran) | inr beside ↦ absurd (not_beside m ids.line stood beside) ] in
-      let same : fails.fails.call ≡ standing.Listen place = same_call (record { ids = fails.fails.ids; call = fails.fails.call }) (standing_as ids (standing.Listen place)) (sym fails.fails.stands ∙ stands) in
-      failed_closed entries fails.fails.call place same fails.fails.code fails.fails.cause after fails.left
+      let same : fails.fails.call ≡ standing.Listen place marks = same_call (record { ids = fails.fails.ids; call = fails.fails.call }) (standing_as ids (standing.Listen place marks)) (sym fails.fails.stands ∙ stands) in
+      failed_closed entries fails.fails.call place marks same fails.fails.code fails.fails.cause after fails.left
 
   -- it was cancelled
-  module _ (line place : ℕ) (ids : Ids) (entries : List Entry) (fields : List Field) (after : Machine) (stands : m.store.standing ≡ Some (standing_as ids (standing.Listen place))) where
+  module _ (line place : ℕ) (marks : Option ℕ) (ids : Ids) (entries : List Entry) (fields : List Field) (after : Machine) (stands : m.store.standing ≡ Some (standing_as ids (standing.Listen place marks))) where
     begun_at : (o : Option TcpRecord) → tcp2_at m.store.records place ≡ o
-        → IfSome o (λ r. IsListening r.inner.state r.listening) → CancelsBy m entries after (standing.Listen place)
+        → IfSome o (λ r. IsListening r.inner.state r.listening) → CancelsBy m entries after (standing.Listen place marks)
         → IsClosedByListen after place × ListensNoMore after place
-    begun_at None at held gives = absurd (let its = (fits contexts steps log replies m ran).stands (standing_as ids (standing.Listen place)) stands in let there = its.at in cc)
+    begun_at None at held gives = absurd (let its = (fits contexts steps log replies m ran).stands (standing_as ids (standing.Listen place marks)) stands in let there = its.at in cc)
     begun_at (Some r) at held gives = left_closed place r at (is_begun r.inner.state r.listening held) after (gives r at).left
 
     pub cancels_closed : Answered contexts m line (step.Cancel ids.line) entries (reply.Ok fields) after
         → IsClosedByListen after place × ListensNoMore after place
     cancels_closed w =
-        let gives : IsSomeAnd m.store.standing (λ s. CancelsBy m entries after s.call) = elim (unheld contexts m line (step.Cancel ids.line) (other_free contexts m line (step.Cancel ids.line) refl refl) entries (reply.Ok fields) after w).1.1 [ inl left ↦ left.0 | inr beside ↦ absurd (not_beside m ids.line (stands_its ids (standing.Listen place) stands) beside.0) ] in
-        begun_at (tcp2_at m.store.records place) refl (subst (λ (o : Option Standing). IfSome o (λ s. HoldsCall m s.call)) stands (runs_bind contexts steps log replies m ran)) (subst (λ (o : Option Standing). IsSomeAnd o (λ s. CancelsBy m entries after s.call)) stands gives)
+        let gives : IsSomeAnd m.store.standing (λ s. CancelsBy m entries after s.call) = elim (unheld contexts m line (step.Cancel ids.line) (other_free contexts m line (step.Cancel ids.line) refl refl) entries (reply.Ok fields) after w).1.1 [ inl left ↦ left.0 | inr beside ↦ absurd (not_beside m ids.line (stands_its ids (standing.Listen place marks) stands) beside.0) ] in
+        begun_at (tcp2_at m.store.records place) refl (it_listens m place marks (subst (λ (o : Option Standing). IfSome o (λ s. HoldsCall m s.call)) stands (runs_bind contexts steps log replies m ran))) (subst (λ (o : Option Standing). IsSomeAnd o (λ s. CancelsBy m entries after s.call)) stands gives)

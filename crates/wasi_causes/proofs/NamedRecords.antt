@@ -6,8 +6,9 @@ use Rattle.wasi_causes.proofs.Words.{ap, call_place, first_state, is_some, kind_
 use Rattle.std.proofs.Common.{slice_set, suc, zero}
 use Rattle.wasi_tcp.specs.declared.listener.Accepting.TheVariants as accepting
 use Rattle.wasi_udp.specs.Create.{Create, after_create as udp_after_create}
+use Rattle.wasi_records.specs.Slots.{slot_of}
 use Rattle.wasi_records.specs.Records.{input_pipe_of, lookup_of, output_pipe_of, tcp2_at, tcp2_of, tcp2_put, udp2_at, udp2_of}
-use Rattle.wasi_host.specs.declared.kind.Kind.TheVariants.{Incoming, Input, Lookup, Network, Outgoing, Output, PlainInput, PlainOutput, Pollable, Tcp3, Udp2, Udp3}
+use Rattle.wasi_host.specs.declared.kind.Kind.TheVariants.{Incoming, Input, Lookup, Network, Outgoing, Output, PlainInput, PlainOutput, Pollable, Tcp3, Udp2, Udp3, Listen3, Receive3, Send3, Result3}
 use Rattle.wasi_host.specs.declared.kind.PlainInput.TheVariants as plain_input
 use Rattle.wasi_host.specs.declared.kind.PlainOutput.TheVariants as plain_output
 use Rattle.wasi_records.specs.declared.name_lookup.LookupOp.{LookupOp}
@@ -20,10 +21,10 @@ use Rattle.wasi_walks.proofs.walks.Moves as walk
 use Rattle.wasi_walks.proofs.walks.Moves.{GoesOn, Held, Here, Move, SameSockets, put, put_udp, udp_begun, with_records}
 use Rattle.wasi_walks.proofs.walks.Runs.{run_ends}
 use Rattle.wasi_walks.proofs.walks.Steps.{machine_walks}
-use Rattle.wasi_causes.proofs.Derived.{runs_own}
+use Rattle.wasi_causes.proofs.Derived.{its_record, runs_own}
 use Rattle.wasi_causes.specs.NamedRecords.{IsGivenBack, call_names, record_named}
 use Rattle.wasi_causes.proofs.GivenBack.{no_job}
-use Rattle.wasi_causes.proofs.Words.{Bool, false, if◌then◌else◌, inl, inr, ◌⊎◌}
+use Rattle.wasi_causes.proofs.Words.{Bool, false, if◌then◌else◌, IsSome, inl, inr, ◌⊎◌}
 use Rattle.std.proofs.lemmas.Bool.{eq-eqb}
 use Rattle.wasi_host.specs.GivingBack.{is_on, other_jobs}
 use Rattle.wasi_records.specs.Numbered.{record_gone}
@@ -56,6 +57,10 @@ output_kept : (o : Option Record) → is_some (output_pipe_of o) ≡ true → Is
 output_kept (Some (Record.OutputPipe pipe)) e = tt
 output_kept _ e = absurd (cc)
 
+slot_kept : (o : Option Record) → is_some (slot_of o) ≡ true → IsRecord o
+slot_kept (Some (Record.Slot s)) e = tt
+slot_kept _ e = absurd (cc)
+
 kept_set : (xs : List Record) (i : ℕ) (now : Record) (k : ℕ) → IsRecord (Some now) → IsRecord (slice_get xs k)
     → IsRecord (slice_get (slice_set xs i now) k)
 kept_set xs i now k new s = elim (set_at xs i now k) [
@@ -84,6 +89,7 @@ kept_same old now k same = by_record (slice_get old k) refl
     by_record (Some (Record.Lookup l)) e s = lookup_kept (slice_get now k) (same.stays k (ap (λ (x : Option Record). is_some (lookup_of x)) e))
     by_record (Some (Record.InputPipe bytes)) e s = input_kept (slice_get now k) (same.inputs k (ap (λ (x : Option Record). is_some (input_pipe_of x)) e))
     by_record (Some (Record.OutputPipe pipe)) e s = output_kept (slice_get now k) (same.outputs k (ap (λ (x : Option Record). is_some (output_pipe_of x)) e))
+    by_record (Some (Record.Slot slot)) e s = slot_kept (slice_get now k) (same.slots k (ap (λ (x : Option Record). is_some (slot_of x)) e))
     by_record (Some Record.Gone) e s = absurd s
     by_record None e s = absurd s
 
@@ -158,10 +164,14 @@ fewer_in records place jobs i job l = kept_gone records place (job_place job) (�
 -- a call that comes to be pending is of a record that is there
 goes_in : (records : List Record) (call : StandingCall) (r : TcpRecord) → tcp2_at records (call_place call) ≡ Some r → GoesOn call r → CallIn records call
 goes_in records (StandingCall.Bind n face) r g k place e = let same : n ≡ place = cc in subst (λ (x : ℕ). IsRecord (slice_get records x)) same (tcp_kept (slice_get records n) r g)
-goes_in records (StandingCall.Listen n) r g k place e = let same : n ≡ place = cc in subst (λ (x : ℕ). IsRecord (slice_get records x)) same (tcp_kept (slice_get records n) r g)
 goes_in records (StandingCall.DropOutput n) r g k place e = let same : n ≡ place = cc in subst (λ (x : ℕ). IsRecord (slice_get records x)) same (tcp_kept (slice_get records n) r g)
 goes_in records _ r g k place e = absurd k
 
+-- and so is a listen
+listen_in : (records : List Record) (n : ℕ) (r : TcpRecord) → tcp2_at records n ≡ Some r → (place : ℕ) → Some n ≡ Some place → IsRecord (slice_get records place)
+listen_in records n r g place e = let same : n ≡ place = cc in subst (λ (x : ℕ). IsRecord (slice_get records x)) same (tcp_kept (slice_get records n) r g)
+
+-- or of a UDP socket's
 udp_goes_in : (records : List Record) (n : ℕ) (u : UdpRecord) → udp2_at records n ≡ Some u → (place : ℕ) → Some n ≡ Some place → IsRecord (slice_get records place)
 udp_goes_in records n u g place e = let same : n ≡ place = cc in subst (λ (x : ℕ). IsRecord (slice_get records x)) same (udp_kept (slice_get records n) u g)
 
@@ -173,10 +183,12 @@ module _ (contexts : List WasiSocketsCtx) (line : ℕ) (origin : Step) where
   moves_in _ _ (walk.IsGone h place r q g e) i = put_in h place _ i
   moves_in _ _ (walk.Reconnects h place r c now g e s t u) i = put_in h place _ i
   moves_in _ _ (walk.Opens h place r c d g e n) i = put_in h place _ i
+  moves_in _ _ (walk.TakesEnd h handle place r now of g takes) i = put_in h place now i
+  moves_in _ _ (walk.AddsSlot h s) i = push_in h.machine.store.records (Record.Slot s) h.machine.store.jobs h.machine.store.standing i
   moves_in _ _ (walk.BeginsConnect h place r side a bound at g d to known idle own) i = put_in h place _ i
   moves_in _ _ (walk.BeginsBind h place r side a at g d to own) i = put_in h place _ i
   moves_in _ _ (walk.BeginsWrite h place n r s half permit bytes at g e w within own) i = put_in h place _ i
-  moves_in _ _ (walk.BeginsListen h place r side at g d bound none to idle own) i = put_in h place _ i
+  moves_in _ _ (walk.BeginsListen h place r side bound at g d known free none to idle own) i = put_in h place _ i
   moves_in _ _ (walk.BeginsAccept h place n r l at g e a own) i = put_in h place _ i
   moves_in _ _ (walk.Unlistens h place r op q g e c o) i = put_in h place _ i
   moves_in _ _ (walk.Forgets h place r l c g e a) i = put_in h place _ i
@@ -189,9 +201,12 @@ module _ (contexts : List WasiSocketsCtx) (line : ℕ) (origin : Step) where
   moves_in _ _ (walk.CancelsUdpBind h place o op q g e) i = put_udp_in h place _ i
   moves_in _ _ (walk.CancelsUdpConnect h place o q g) i = put_udp_in h place _ i
   moves_in _ _ (walk.Joins h c handle place r l new peer is of u g e a) i = push_in (tcp2_put h.machine.store.records place (walk.accepting_now r l accepting.Idle)) (Record.Tcp (walk.joined l new peer)) h.machine.store.jobs h.machine.store.standing (put_in h place (walk.accepting_now r l accepting.Idle) i)
+  moves_in _ _ (walk.JoinsPlain h c listener remaining place r l new peer is of u g e a) i = push_in (tcp2_put h.machine.store.records place (walk.accepting_now r l accepting.Idle)) (Record.Tcp (walk.joined_plain l new peer)) h.machine.store.jobs h.machine.store.standing (put_in h place (walk.accepting_now r l accepting.Idle) i)
+  moves_in _ _ (walk.JoinsFault h place r l c u g e a) i = push_in (tcp2_put h.machine.store.records place (walk.accepting_now r l accepting.Idle)) (Record.Tcp (walk.faulted l c)) h.machine.store.jobs h.machine.store.standing (put_in h place (walk.accepting_now r l accepting.Idle) i)
   moves_in _ _ (walk.Finds h records same) i = same_in h records same i
   moves_in _ _ (walk.Unstands h over) i = (tt, i.1)
   moves_in _ _ (walk.Stands h ids call r quiet at g k) i = (goes_in h.machine.store.records call r g k, i.1)
+  moves_in _ _ (walk.StandsListen h ids place marks r quiet at made g k) i = (listen_in h.machine.store.records place r g, i.1)
   moves_in _ _ (walk.StandsUdpBind h ids place face o op quiet at g e) i = (udp_goes_in h.machine.store.records place (UdpRecord.Open o) g, i.1)
   moves_in _ _ (walk.StandsUdpCreate h ids place face create quiet made g) i = (udp_goes_in h.machine.store.records place (UdpRecord.Creating create) g, i.1)
   moves_in _ _ (walk.StandsConnect h ids place o op quiet at past g e) i = (udp_goes_in h.machine.store.records place (UdpRecord.Open o) g, i.1)
@@ -217,7 +232,7 @@ module _ (contexts : List WasiSocketsCtx) (line : ℕ) (origin : Step) where
   becomes_in : (h now : Here) → Becomes contexts line origin h now → In h → In now
   becomes_in h _ (Learnt place r side told at g e) i = put_in h place _ i
   becomes_in h _ (IsClosed place r side q g e) i = put_in h place _ i
-  becomes_in h _ (GivenUp place r q g) i = put_in h place _ i
+  becomes_in h _ (GivenUp place r q goes g) i = put_in h place _ i
   becomes_in h _ (UdpLearnt place o socket g e) i = put_udp_in h place _ i
   becomes_in h _ (UdpIsClosed place o q g) i = put_udp_in h place _ i
   becomes_in h _ (UdpGivenUp place create q g) i = put_udp_in h place _ i
@@ -245,37 +260,52 @@ module _ (contexts : List WasiSocketsCtx) (line : ℕ) (origin : Step) where
   line_stands m es i = (machine_walks line origin {law = of_state in_state} (begins_state in_state) m m.store.standing refl).along es i
 
 -- == of a run
--- a handle names what the law of owners says it does
-same_name : (kind : Kind) → record_named kind ≡ named_by kind
-same_name Network = refl
-same_name (Tcp2 place) = refl
-same_name (Tcp3 place) = refl
-same_name (Udp2 place) = refl
-same_name (Udp3 place) = refl
-same_name (Input place) = refl
-same_name (Output place) = refl
-same_name (PlainInput (plain_input.Pipe place)) = refl
-same_name (PlainInput plain_input.Closed) = refl
-same_name (PlainOutput (plain_output.Pipe place)) = refl
-same_name (PlainOutput plain_output.Sink) = refl
-same_name (PlainOutput plain_output.Closed) = refl
-same_name (Incoming place) = refl
-same_name (Outgoing place) = refl
-same_name (Lookup place) = refl
-same_name ErrorValue = refl
-same_name (Pollable (Watched.Socket place)) = refl
-same_name (Pollable (Watched.Input place)) = refl
-same_name (Pollable (Watched.Output place)) = refl
-same_name (Pollable (Watched.Udp place)) = refl
-same_name (Pollable (Watched.Incoming place)) = refl
-same_name (Pollable (Watched.Outgoing place)) = refl
-same_name (Pollable (Watched.Lookup place)) = refl
-same_name (Pollable Watched.Plain) = refl
+-- a handle that names no result slot names what the law of owners says it does
+abbrev IsNoResult : Kind → Type 0
+IsNoResult (Result3 place) = ⊥
+IsNoResult _ = ⊤
+
+same_name : (kind : Kind) → IsNoResult kind → record_named kind ≡ named_by kind
+same_name Network plain = refl
+same_name (Tcp2 place) plain = refl
+same_name (Tcp3 place) plain = refl
+same_name (Udp2 place) plain = refl
+same_name (Udp3 place) plain = refl
+same_name (Listen3 place) plain = refl
+same_name (Receive3 end) plain = refl
+same_name (Send3 end) plain = refl
+same_name (Input place) plain = refl
+same_name (Output place) plain = refl
+same_name (PlainInput (plain_input.Pipe place)) plain = refl
+same_name (PlainInput plain_input.Closed) plain = refl
+same_name (PlainOutput (plain_output.Pipe place)) plain = refl
+same_name (PlainOutput plain_output.Sink) plain = refl
+same_name (PlainOutput plain_output.Closed) plain = refl
+same_name (Incoming place) plain = refl
+same_name (Outgoing place) plain = refl
+same_name (Lookup place) plain = refl
+same_name ErrorValue plain = refl
+same_name (Pollable (Watched.Socket place)) plain = refl
+same_name (Pollable (Watched.Input place)) plain = refl
+same_name (Pollable (Watched.Output place)) plain = refl
+same_name (Pollable (Watched.Udp place)) plain = refl
+same_name (Pollable (Watched.Incoming place)) plain = refl
+same_name (Pollable (Watched.Outgoing place)) plain = refl
+same_name (Pollable (Watched.Lookup place)) plain = refl
+same_name (Pollable Watched.Plain) plain = refl
+same_name (Result3 place) plain = absurd plain
 
 module _ (contexts : List WasiSocketsCtx) (steps : List Step) (es : List Entry) (replies : List Reply) (m : Machine) (w : Left (run contexts [] first_state 1 steps) es (Give (replies, m))) where
+  by_name : (handle place : ℕ) (kind : Kind) → IsNoResult kind → kind_at m.table handle ≡ Some kind → record_named kind ≡ Some place → IsGivenBack m place → ⊥
+  by_name handle place kind plain e named gone =
+      let k = named_record m.table m.store.records (runs_own contexts steps es replies m w).0 handle place kind e (sym (same_name kind plain) ∙ named) in subst IsRecord gone k
+
   pub handles_name : (handle place : ℕ) (kind : Kind) → kind_at m.table handle ≡ Some kind → record_named kind ≡ Some place → IsGivenBack m place → ⊥
-  handles_name handle place kind e named gone =
-      let k = named_record m.table m.store.records (runs_own contexts steps es replies m w) handle place kind e (sym (same_name kind) ∙ named) in subst IsRecord gone k
+  handles_name handle place (Result3 slot) e named gone =
+      let s = its_record m (runs_own contexts steps es replies m w) handle slot (Result3 slot) e (inl refl) in
+      let same : slot ≡ place = cc in
+      subst IsRecord gone (slot_kept (slice_get m.store.records place) (subst (λ (x : ℕ). IsSome (slot_of (slice_get m.store.records x))) same s))
+  handles_name handle place kind e named gone = by_name handle place kind tt e named gone
 
   all_in : MachineIn m
   all_in = (run_ends contexts Anything (λ line fs now. MachineIn now) (λ line s now fs i. line_stands contexts line s now fs i) (tt, λ job l. absurd l) steps es replies m w).1

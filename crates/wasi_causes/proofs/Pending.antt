@@ -12,12 +12,13 @@ use Rattle.wasi_world.specs.declared.ids.Ids.{Ids}
 use Rattle.wasi_streams.specs.Streams.{zeros}
 use Rattle.wasi_host.specs.declared.blocking.BlockingCall.{BlockingCall}
 use Rattle.wasi_host.specs.declared.blocking.BlockingCall.TheVariants as blocking
-use Rattle.wasi_host.specs.Kinds.{udp_of, input_of, is_readable, is_writable, plain_input_of}
+use Rattle.wasi_host.specs.Kinds.{tcp3_of, udp_of, input_of, is_readable, is_writable, plain_input_of}
 use Rattle.wasi_host.specs.declared.kind.Kind.TheVariants.{PlainInput}
 use Rattle.wasi_udp.specs.Create.{Create, after_create as udp_after_create}
 use Rattle.wasi_walks.proofs.fits.Law.{whatever}
 use Rattle.wasi_walks.proofs.fits.Polls.{Anything}
-use Rattle.wasi_walks.proofs.walks.Moves.{Numbers, AwaitsCreate, CallKind, CallsHandles, Empties, GoesOn, Here, IsCall, IsStreamCall, Joins, LooksAtPollables, OfPollables, OfStreams, Leaves, Made, Move, RecallsCall, RecallsStreams, RemembersStreams, Stands, StandsBlocking, StandsConnect, StandsDropOutgoing, StandsUdpBind, StandsUdpConnect, StandsUdpCreate, Unstands, Watches, udp_begun}
+use Rattle.wasi_walks.proofs.walks.Moves.{AddsSlot, Numbers, AwaitsCreate, CallKind, CallsHandles, Empties, Frees, GoesOn, Here, IsCall, IsStreamCall, Joins, ListensFor, LooksAtPollables, OfPollables, OfStreams, Leaves, Made, Move, RecallsCall, RecallsStreams, RemembersStreams, Stands, StandsBlocking, StandsConnect, StandsDropOutgoing, StandsUdpBind, StandsUdpConnect, StandsUdpCreate, Unstands, Watches, udp_begun}
+use Rattle.wasi_walks.proofs.walks.Moves.{IsUnheld, JoinsFault, JoinsPlain, RecallsListen, RemembersListen, StandsListen}
 use Rattle.wasi_walks.proofs.walks.Runs.{run_ends}
 use Rattle.wasi_walks.proofs.walks.Steps.{machine_walks}
 use Rattle.wasi_steps.specs.Steps.{context_of}
@@ -31,9 +32,10 @@ use Rattle.wasi_causes.specs.PollableCalls.{AllPollables, BeginsToWait, ForNone,
 use Rattle.wasi_causes.proofs.streams.Kept.{PartsThere}
 use Rattle.wasi_causes.proofs.Beside.{one_of_three, polled_beside}
 use Rattle.wasi_causes.specs.P3Connects.{IsBeside}
-use Rattle.wasi_host.specs.Beside.{beside_of, stands_under}
+use Rattle.wasi_host.specs.Beside.{stands_under}
 use Rattle.wasi_walks.specs.Waiting.{call_over}
 use Rattle.wasi_causes.proofs.streams.Live.{HasInput, begun_live, blocked_live, check_free, flush_free, free_well, read_free, skip_free, splice_free, splice_live, write_free}
+use Rattle.wasi_causes.proofs.sockets.ListenLives.{listen_live}
 use Rattle.wasi_causes.proofs.streams.Missing.{missed_input, missed_output}
 use Rattle.wasi_causes.proofs.tables.Meets.{Meets, both, ends, met, onto, shifted, widen}
 use Rattle.wasi_causes.proofs.tables.Parts.{by_left}
@@ -42,7 +44,7 @@ use Rattle.wasi_causes.specs.Blocking.{BlockingCallStands, IsBlocking, SplicesOn
 use Rattle.wasi_causes.specs.Datagrams.{HasItsHandle, HasItsSocket, IsUdpStream, PendingHandleIsLive}
 use Rattle.wasi_causes.specs.Outcomes.{Outcome}
 use Rattle.wasi_causes.specs.Outcomes.{InputIsThere}
-use Rattle.wasi_causes.proofs.Derived.{OwnedIn, first_in, its_record, line_owned}
+use Rattle.wasi_causes.proofs.Derived.{OwnedIn, first_in, its_record, line_owned, streams_held}
 use Rattle.wasi_causes.proofs.Words.{Input, Kind, asks_while, record_in, streams_in}
 use Rattle.wasi_host.specs.Blocking.{blocking_splice_when}
 use Rattle.wasi_records.specs.Records.{input_pipe_at, open_at, tcp2_at}
@@ -55,6 +57,7 @@ use Rattle.wasi_walks.proofs.walks.Moves.{Past, ToSend}
 -- == no datagram streams, and no call that blocks, are pending
 abbrev NoStreamsIn : StandingCall → Type 0
 NoStreamsIn (StandingCall.UdpConnect place handle) = ⊥
+NoStreamsIn (StandingCall.Listen place (Some handle)) = ⊥
 NoStreamsIn (StandingCall.Blocking call) = ⊥
 NoStreamsIn _ = ⊤
 
@@ -66,6 +69,7 @@ NoStreamsStand (Some s) = NoStreamsIn s.call
 -- and the line makes none
 abbrev MakesNone : Made → Type 0
 MakesNone (Made.ToStream n handle place) = ⊥
+MakesNone (Made.ToListen n (Some handle) place) = ⊥
 MakesNone (Made.Calls kind n handles) = ⊥
 MakesNone _ = ⊤
 
@@ -73,19 +77,39 @@ MakesNone _ = ⊤
 abbrev NoStreams : Here → Type 0
 NoStreams h = NoStreamsStand h.machine.store.standing × MakesNone h.made
 
--- the line is one of datagram streams, or a call of a stream or on pollables
+-- the line is a listen of 0.3
+abbrev IsListen3 : Step → Type 0
+IsListen3 (step.Call ctx (guest.P3TcpListen socket)) = ⊤
+IsListen3 _ = ⊥
+
+-- it is that, or one of datagram streams, or a call of a stream or on pollables
 abbrev MayPend : Step → Type 0
-MayPend s = IsUdpStream s ⊎ (IsStreamCall s ⊎ LooksAtPollables s)
+MayPend s = IsListen3 s ⊎ (IsUdpStream s ⊎ (IsStreamCall s ⊎ LooksAtPollables s))
 
 may_call : (kind : CallKind) (s : Step) → IsCall kind s → MayPend s
-may_call OfStreams s k = inr (inl k)
-may_call OfPollables s k = inr (inr k)
+may_call OfStreams s k = inr (inr (inl k))
+may_call OfPollables s k = inr (inr (inr k))
 
 -- what goes on in a TCP record makes no streams
 goes_none : (call : StandingCall) (r : TcpRecord) → GoesOn call r → NoStreamsIn call
 goes_none (StandingCall.UdpConnect place handle) r k = k
+goes_none (StandingCall.Listen place marks) r k = absurd k
 goes_none (StandingCall.Blocking call) r k = k
 goes_none _ r k = tt
+
+-- a listen that marks no listener is that of another line than one of 0.3, and doesn't keep the handle of its socket
+listens_none : (marks : Option ℕ) (s : Step) → ListensFor marks s → (MayPend s → ⊥) → (n place : ℕ) → MakesNone (Made.ToListen n marks place)
+listens_none None s is plain n place = tt
+listens_none (Some handle) (step.Call c (guest.P3TcpListen socket)) is plain n place = absurd (plain (inl tt))
+listens_none (Some handle) _ is plain n place = absurd is
+
+recalls_none : (marks : Option ℕ) (n place : ℕ) → NoStreamsIn (StandingCall.Listen place marks) → MakesNone (Made.ToListen n marks place)
+recalls_none None n place k = tt
+recalls_none (Some handle) n place k = k
+
+stands_none : (marks : Option ℕ) (n place : ℕ) → MakesNone (Made.ToListen n marks place) → NoStreamsIn (StandingCall.Listen place marks)
+stands_none None n place k = tt
+stands_none (Some handle) n place k = k
 
 -- nor a create
 begun_none : (h : Here) (made : Result Create ErrorCode) → NoStreams h → NoStreams (udp_begun h made)
@@ -98,18 +122,26 @@ module _ (contexts : List WasiSocketsCtx) (line : ℕ) (origin : Step) (plain : 
   moves_none _ _ (Leaves h) i = (i.0, tt)
   moves_none _ _ (Watches h own) i = (i.0, tt)
   moves_none _ _ (Numbers h) i = (i.0, tt)
-  moves_none _ _ (Empties h handle kind e none) i = (i.0, tt)
+  moves_none _ _ (AddsSlot h s) i = (i.0, tt)
+  moves_none _ _ (Empties h handle kind q e none) i = (i.0, tt)
   moves_none _ _ (AwaitsCreate h place face create is g) i = (i.0, tt)
   moves_none _ _ (Joins h c handle place r l new peer is of u g e a) i = (i.0, tt)
+  moves_none _ _ (JoinsPlain h c listener remaining place r l new peer is of u g e a) i = (i.0, tt)
+  moves_none _ _ (JoinsFault h place r l c u g e a) i = (i.0, tt)
+  moves_none _ _ (Frees h place made) i = (i.0, tt)
+  moves_none _ _ (IsUnheld h place r g free) i = (i.0, tt)
   moves_none _ _ (Unstands h over) i = (tt, i.1)
   moves_none _ _ (Stands h ids call r quiet at g k) i = (goes_none call r k, i.1)
   moves_none _ _ (StandsUdpBind h ids place face o op quiet at g e) i = (tt, i.1)
   moves_none _ _ (StandsUdpCreate h ids place face create quiet made g) i = (tt, i.1)
   moves_none _ _ (StandsDropOutgoing h ids place o quiet at g e) i = (tt, i.1)
-  moves_none _ _ (RemembersStreams h c handle place remote is of o g none) i = absurd (plain (inl (subst IsUdpStream (sym is) tt)))
+  moves_none _ _ (RemembersStreams h c handle place remote is of o g none) i = absurd (plain (inr (inl (subst IsUdpStream (sym is) tt))))
   moves_none _ _ (RecallsStreams h ids place handle e own) i = absurd (subst NoStreamsStand e i.0)
   moves_none _ _ (StandsConnect h ids place o op quiet at past g e) i = (tt, i.1)
   moves_none _ _ (StandsUdpConnect h ids place handle o op quiet at made g e) i = absurd (subst MakesNone made i.1)
+  moves_none _ _ (RemembersListen h marks place r is under g none) i = (i.0, listens_none marks origin is plain line place)
+  moves_none _ _ (RecallsListen h ids place marks e) i = (i.0, recalls_none marks ids.line place (subst NoStreamsStand e i.0))
+  moves_none _ _ (StandsListen h ids place marks r quiet at made g k) i = (stands_none marks ids.line place (subst MakesNone made i.1), i.1)
   moves_none _ _ (CallsHandles h kind calls quiet) i = absurd (plain (may_call kind origin calls))
   moves_none _ _ (RecallsCall h ids call e) i = absurd (subst NoStreamsStand e i.0)
   moves_none _ _ (StandsBlocking h ids call handles made its) i = absurd (subst MakesNone made i.1)
@@ -158,6 +190,7 @@ of_none m (Some s) i = by_call s.call i
   where
     by_call : (call : StandingCall) → NoStreamsIn call → HasItsHandle m call
     by_call (StandingCall.UdpConnect place handle) i = absurd i
+    by_call (StandingCall.Listen place (Some handle)) i = absurd i
     by_call (StandingCall.Blocking call) i = absurd i
     by_call _ i = tt
 
@@ -175,6 +208,7 @@ module _ (m after : Machine) (table : after.table ≡ m.table) (there : PartsThe
 
   still_on : (call : StandingCall) → HasItsHandle m call → HasItsHandle after call
   still_on (StandingCall.UdpConnect place handle) k = subst (λ t. udp_of (kind_at t handle) ≡ Some place) (sym table) k
+  still_on (StandingCall.Listen place (Some handle)) k = subst (λ t. tcp3_of (kind_at t handle) ≡ Some place) (sym table) k
   still_on (StandingCall.Blocking call) k = still_there call k
   still_on _ k = tt
 
@@ -210,7 +244,7 @@ pub inputs_are_there : (m : Machine) → OwnedIn m → (handle : ℕ) → InputI
 inputs_are_there m i handle readable missing = by_kind (kind_at m.table handle) refl readable missing.0 missing.1
   where
     by_kind : (k : Option Kind) → kind_at m.table handle ≡ k → is_readable k ≡ true → streams_in (record_in m (input_of k)) ≡ None → MissesInputPipe m (plain_input_of k) → ⊥
-    by_kind (Some (Input place)) e r none pipe = let has : IsSome (streams_in (tcp2_at m.store.records place)) = its_record m i handle place (Input place) e (inr refl) in absurd (cc)
+    by_kind (Some (Input place)) e r none pipe = let has : IsSome (streams_in (tcp2_at m.store.records place)) = streams_held (tcp2_at m.store.records place) (its_record m i handle place (Input place) e (inr (inl refl))) in absurd (cc)
     by_kind (Some (PlainInput (plain_input.Pipe place))) e r none pipe = let has : is_some (input_pipe_at m.store.records place) ≡ true = its_record m i handle place (PlainInput (plain_input.Pipe place)) e (inl refl) in absurd (cc)
     by_kind (Some (PlainInput plain_input.Closed)) e r none pipe = pipe
     by_kind _ e r none pipe = absurd (cc)
@@ -256,6 +290,7 @@ module _ (contexts : List WasiSocketsCtx) (m : Machine) (line : ℕ) (inputs : (
       where
         by_call : (call : StandingCall) → (IsBlocking call → ⊥) → HasItsHandle m call → after.table ≡ m.table → HasItsHandle after call
         by_call (StandingCall.UdpConnect place handle) none k table = subst (λ t. udp_of (kind_at t handle) ≡ Some place) (sym table) k
+        by_call (StandingCall.Listen place (Some handle)) none k table = subst (λ t. tcp3_of (kind_at t handle) ≡ Some place) (sym table) k
         by_call (StandingCall.Blocking call) none k table = absurd (none tt)
         by_call _ none k table = tt
 
@@ -282,7 +317,7 @@ module _ (contexts : List WasiSocketsCtx) (m : Machine) (line : ℕ) (inputs : (
             let on : HasItsHandle m (StandingCall.Blocking call) = subst (λ (o : Option Standing). IfSome o (λ s. HasItsHandle m s.call)) its well in
             polled_blocking s.ids call its (by_line s e stands) on
         by_call (StandingCall.Bind place face) is = polled_other (no_blocking (StandingCall.Bind place face) is (λ k. k)) stands well
-        by_call (StandingCall.Listen place) is = polled_other (no_blocking (StandingCall.Listen place) is (λ k. k)) stands well
+        by_call (StandingCall.Listen place marks) is = polled_other (no_blocking (StandingCall.Listen place marks) is (λ k. k)) stands well
         by_call (StandingCall.DropOutput place) is = polled_other (no_blocking (StandingCall.DropOutput place) is (λ k. k)) stands well
         by_call (StandingCall.UdpCreate place face) is = polled_other (no_blocking (StandingCall.UdpCreate place face) is (λ k. k)) stands well
         by_call (StandingCall.UdpBind place face) is = polled_other (no_blocking (StandingCall.UdpBind place face) is (λ k. k)) stands well
@@ -336,6 +371,7 @@ module _ (contexts : List WasiSocketsCtx) (m : Machine) (line : ℕ) (inputs : (
     well_after (step.Poll n) free w row none well = polled_well n es r after free row well
     well_after (step.Cancel n) free w row none well = cancelled_well n es r after row well
     well_after (step.Call c (guest.UdpStream s remote)) free w row none well = row.0.1 (nothing_pending (step.Call c (guest.UdpStream s remote)) refl free m.store.standing refl)
+    well_after (step.Call c (guest.P3TcpListen s)) free w row none well = listen_live contexts m line c s es r after (nothing_pending (step.Call c (guest.P3TcpListen s)) refl free m.store.standing refl) row
     well_after (step.Call c (guest.Read input len)) free w row none well = free_well after (read_free contexts m (nothing_pending (step.Call c (guest.Read input len)) refl free m.store.standing refl) line c es r after input len w)
     well_after (step.Call c (guest.CheckWrite output)) free w row none well = free_well after (check_free contexts m (nothing_pending (step.Call c (guest.CheckWrite output)) refl free m.store.standing refl) line c es r after output w)
     well_after (step.Call c (guest.Write output bytes)) free w row none well = free_well after (write_free contexts m (nothing_pending (step.Call c (guest.Write output bytes)) refl free m.store.standing refl) line c es r after output bytes w)
@@ -352,7 +388,7 @@ module _ (contexts : List WasiSocketsCtx) (m : Machine) (line : ℕ) (inputs : (
     well_after (step.Call c (guest.Ready p)) free w row none well = free_well after (ready_free contexts m line c p (nothing_pending (step.Call c (guest.Ready p)) refl free m.store.standing refl) es r after w)
     well_after (step.Call c (guest.Block p)) free w row none well = let none = nothing_pending (step.Call c (guest.Block p)) refl free m.store.standing refl in block_live contexts c (first_ids line) m p First es r after none (row.0 none)
     well_after (step.Call c (guest.PollList ps)) free w row none well = begun_wait ps (nothing_pending (step.Call c (guest.PollList ps)) refl free m.store.standing refl) row.0
-    well_after s free w row none well = by_guest s after refl (λ h. elim h [ inl k ↦ k | inr k ↦ elim k [ inl j ↦ j | inr j ↦ j ] ]) free none
+    well_after s free w row none well = by_guest s after refl (λ h. elim h [ inl k ↦ k | inr k ↦ elim k [ inl j ↦ j | inr j ↦ elim j [ inl x ↦ x | inr x ↦ x ] ] ]) free none
 
   -- whatever it is answered
   by_answer : (s : Step) (es : List Entry) (r : Reply) (after : Machine) → Answered contexts m line s es r after → Answers contexts m line s es r after → KeepsNone s after → PendingHandleIsLive m → PendingHandleIsLive after

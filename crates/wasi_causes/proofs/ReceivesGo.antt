@@ -42,6 +42,7 @@ use Rattle.wasi_walks.proofs.walks.OfState.{UdpBegun}
 use Rattle.wasi_walks.proofs.walks.OfState.{UdpGivenUp, UdpIsClosed, UdpLearnt, Writing, begins_state, of_state}
 use Rattle.wasi_walks.proofs.walks.Runs.{run_ends}
 use Rattle.wasi_walks.proofs.walks.Steps.{machine_walks}
+use Rattle.wasi_walks.proofs.PipeLists.{slot_push_same}
 
 -- == one receive
 abbrev pub HasLeft : List Item → Type 0
@@ -187,18 +188,24 @@ module _ (contexts : List WasiSocketsCtx) (line : ℕ) (origin : Step) where
   moves_go _ _ (walk.IsGone h place r q g e) i = tcp_put h.machine.store.records i place _
   moves_go _ _ (walk.Reconnects h place r c now g e s t u) i = tcp_put h.machine.store.records i place _
   moves_go _ _ (walk.Opens h place r c d g e k) i = tcp_put h.machine.store.records i place _
+  moves_go _ _ (walk.TakesEnd h handle place r now of g takes) i = tcp_put h.machine.store.records i place now
+  moves_go _ _ (walk.AddsSlot h s) i = λ k u e. let same = slot_push_same {new = λ op. ⊥} h.machine.store.records s in i k u (sym (same.udp k) ∙ e)
   moves_go _ _ (walk.BeginsConnect h place r x a bound at g d to known idle own) i = tcp_put h.machine.store.records i
       place _
   moves_go _ _ (walk.BeginsBind h place r x a at g d to own) i = tcp_put h.machine.store.records i place _
   moves_go _ _ (walk.BeginsWrite h place n r s half permit bytes at g e w within own) i = tcp_put
       h.machine.store.records i place _
-  moves_go _ _ (walk.BeginsListen h place r x at g d bound none to idle own) i = tcp_put h.machine.store.records i place
+  moves_go _ _ (walk.BeginsListen h place r x bound at g d known free none to idle own) i = tcp_put h.machine.store.records i place
       _
   moves_go _ _ (walk.BeginsAccept h place n r l at g e a own) i = tcp_put h.machine.store.records i place _
   moves_go _ _ (walk.Unlistens h place r op q g e c o) i = tcp_put h.machine.store.records i place _
   moves_go _ _ (walk.Forgets h place r l c g e a) i = tcp_put h.machine.store.records i place _
   moves_go _ _ (walk.Joins h c handle place r l new peer is of u g e a) i = tcp_push _
       (tcp_put h.machine.store.records i place _) (joined l new peer)
+  moves_go _ _ (walk.JoinsPlain h c listener remaining place r l new peer is of u g e a) i = tcp_push _
+      (tcp_put h.machine.store.records i place _) (walk.joined_plain l new peer)
+  moves_go _ _ (walk.JoinsFault h place r l c u g e a) i = tcp_push _
+      (tcp_put h.machine.store.records i place _) (walk.faulted l c)
   moves_go _ _ (walk.UdpChanges h place o now g p keeps) i = udp_put h.machine.store.records i place
       (UdpRecord.Open now) (kept_goes _ _ p.receives (i place (UdpRecord.Open o) g))
   moves_go _ _ (walk.BeginsUdpBind h place o a at g to own) i = udp_put h.machine.store.records i place _
@@ -286,7 +293,7 @@ module _ (contexts : List WasiSocketsCtx) (line : ℕ) (origin : Step) where
   becomes_go : (h now : Here) → Becomes contexts line origin h now → Go h → Go now
   becomes_go h _ (Learnt place r side told at g e) i = tcp_put h.machine.store.records i place _
   becomes_go h _ (IsClosed place r side q g e) i = tcp_put h.machine.store.records i place _
-  becomes_go h _ (GivenUp place r q g) i = tcp_put h.machine.store.records i place _
+  becomes_go h _ (GivenUp place r q goes g) i = tcp_put h.machine.store.records i place _
   becomes_go h _ (UdpLearnt place o socket g e) i = udp_put h.machine.store.records i place _
       (i place (UdpRecord.Open o) g)
   becomes_go h _ (UdpIsClosed place o q g) i = udp_put h.machine.store.records i place _ tt

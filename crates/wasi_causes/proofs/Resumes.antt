@@ -1,31 +1,27 @@
 -- A poll of the pending call.
 use Rattle.wasi_host.specs.declared.blocking.BlockingCall.{BlockingCall}
 use Rattle.wasi_causes.proofs.pollables.Polls.{blocked_goes_on}
-use Rattle.wasi_causes.specs.Blocking.{IsBlocking}
-use Rattle.wasi_causes.specs.Outcomes.{BlockedGoesOn}
 use Rattle.wasi_records.specs.Records.{tcp2_at, udp2_at, open_at, open_of}
 use Rattle.wasi_records.specs.declared.tcp_binding.InProgress.TheVariants.{Binding}
 use Rattle.wasi_walks.proofs.walks.States.{stands_so as stands_under_it}
 use Rattle.wasi_host.specs.declared.beside.Beside.{Beside}
-use Rattle.wasi_host.specs.Beside.{beside_of, stands_under}
+use Rattle.wasi_host.specs.Beside.{beside_of}
 use Rattle.wasi_host.specs.Pending.{resume_beside}
-use Rattle.wasi_causes.proofs.Beside.{exclusive_call, no_call, not_beside, not_both}
+use Rattle.wasi_causes.proofs.Beside.{no_call}
 use Rattle.wasi_causes.proofs.ConnectPolls.{resumes_beside}
-use Rattle.wasi_causes.specs.P3Connects.{BesidePolled, IsBeside}
-use Rattle.wasi_causes.proofs.Words.{◌⊎◌, Answer, BindFailed, BindFails, BindWaits, Bool, CallFails, CallWaits, CodeWord, Done, End, EndsPending, Entry, Err, ErrorCode, Full, Give, IfSome, InProgress, InvalidState, IsBinding, IsListening, IsOnNothing, IsRestOfBind}
-use Rattle.wasi_causes.proofs.Words.{IsSome, IsSomeAnd, Item, List, ListenEnds, ListenFailed, ListenWaits, Listening, Machine, NoSuchHandle, None, Ok, OpId, Operation, Option, Pending, PendingCallsFit, Ready, Records, Refused, Reply, Result, Some}
-use Rattle.wasi_causes.proofs.Words.{Standing, StandingCall, Stop, TcpRecord, Waits, WasiSocketsCtx, [], allowed_answer, ap, bind, bind_ended, call_answered, call_of, call_place, closed_listening, entry, eq-eqb, false, go_on, if◌then◌else◌, inl}
-use Rattle.wasi_causes.proofs.Words.{inr, listen_ended, listen_polled, marks_in, no_fields, nothing_stands, name_of, number_fields, own_of, poll_begun, poll_binding, poll_listening, refl, relisten_at, resume_asks, resume_call, resumed}
-use Rattle.wasi_causes.proofs.Words.{resumed_reply, side_of, standing_as, stands_as, subst, sym, true, unstood, with_handle, with_socket, with_store, word_of_code, ℕ, ⊤, ◌++◌, ◌+◌, ◌==◌, ◌∙◌, ◌∷◌, ◌≡◌, ◌≢◌}
+use Rattle.wasi_causes.proofs.Words.{Answer, BindFailed, BindFails, BindWaits, Bool, CallWaits, Done, End, EndsPending, Entry, Err, ErrorCode, Full, Give, IfSome, InProgress, InvalidState, IsBinding, IsRestOfBind}
+use Rattle.wasi_causes.proofs.Words.{IsSome, IsSomeAnd, Item, List, Machine, NoSuchHandle, None, Ok, Operation, Option, Pending, PendingCallsFit, Ready, Records, Refused, Reply, Result, Some}
+use Rattle.wasi_causes.proofs.Words.{Standing, StandingCall, Stop, TcpRecord, Waits, WasiSocketsCtx, [], allowed_answer, ap, bind, bind_ended, call_of, entry, eq-eqb, false, go_on, if◌then◌else◌, inl}
+use Rattle.wasi_causes.proofs.Words.{inr, marks_in, nothing_stands, name_of, number_fields, own_of, poll_binding, refl, resume_asks, resume_call}
+use Rattle.wasi_causes.proofs.Words.{resumed_reply, standing_as, stands_as, subst, sym, true, with_handle, with_socket, with_store, ℕ, ◌++◌, ◌+◌, ◌==◌, ◌∙◌, ◌∷◌, ◌≡◌}
 use Rattle.wasi_world.specs.declared.ids.Ids.{Ids}
-use Rattle.wasi_causes.proofs.operations.Polls.{EndsFor, bind_ends as bind_polls, listen_ends as listen_polls}
+use Rattle.wasi_causes.proofs.operations.Polls.{EndsFor, bind_ends as bind_polls}
 use Rattle.wasi_causes.proofs.streams.Halves.{OutputRow, outputs}
-use Rattle.wasi_causes.proofs.tables.Meets.{Rows, Meets, ends, onto, widen, granted, branch}
-use Rattle.wasi_causes.proofs.tables.Routes.{full_so, apart, calls, code_word, finds}
-use Rattle.wasi_causes.specs.Outcomes.{Outcome, Always}
-use Rattle.wasi_causes.specs.Failed.{left_failed}
+use Rattle.wasi_causes.proofs.tables.Meets.{Rows, Meets, ends, onto, widen, granted}
+use Rattle.wasi_causes.proofs.tables.Routes.{full_so, calls, finds}
+use Rattle.wasi_causes.specs.Outcomes.{Outcome}
 use Rattle.wasi_causes.specs.Udp.{GivesBy}
-use Rattle.wasi_host.specs.Pending.{answered_on, gone_on, handle_outcome, outcome_of, streams_on}
+use Rattle.wasi_host.specs.Pending.{answered_on, handle_outcome, outcome_of, streams_on}
 use Rattle.wasi_causes.proofs.udp_streams.Makes.{makes_both, marks_of}
 use Rattle.wasi_causes.proofs.operations.ConnectPolls.{ConnectRow, udp_connect_gives}
 use Rattle.wasi_causes.proofs.operations.Marks.{poll_marks_none}
@@ -37,7 +33,7 @@ use Rattle.wasi_steps.specs.Reply.{pair_fields}
 use Rattle.wasi_causes.proofs.operations.Polls.{CreateFails, create_ends, udp_bind_ends}
 use Rattle.wasi_causes.proofs.sockets.UdpCreates.{marks_udp}
 use Rattle.wasi_causes.proofs.tables.Meets.{chain, both}
-use Rattle.wasi_causes.specs.Udp.{IsPendingCreate}
+use Rattle.wasi_causes.specs.Udp.{MakesOneHandle}
 use Rattle.wasi_records.specs.Udp.{opened_udp, poll_create_asks, udp_create_ended, udp_bind_ended, poll_udp_binding}
 use Rattle.wasi_host.specs.GivingBack.{given_back}
 use Rattle.wasi_records.specs.declared.records.Record.{Record}
@@ -54,7 +50,6 @@ use Rattle.wasi_host.specs.declared.kind.Interface.{Interface}
 use Rattle.wasi_host.specs.declared.kind.Interface.TheVariants.{P2, P3}
 use Rattle.wasi_records.specs.Stops.{Code}
 use Rattle.wasi_walks.specs.Waiting.{word_for}
-use Rattle.wasi_causes.specs.MayAnswer.{IsCodeWord, IsP3Word}
 use Rattle.wasi_records.specs.declared.udp.OpenUdp.{OpenUdp}
 use Rattle.wasi_records.specs.declared.udp.UdpRecord.{UdpRecord}
 use Rattle.wasi_records.specs.declared.udp.UdpRecord.TheVariants as udp
@@ -63,181 +58,43 @@ use Rattle.wasi_records.specs.declared.udp.UdpInProgress.TheVariants as doing
 use Rattle.wasi_udp.specs.Bind.{IsBind as IsUdpBind}
 use Rattle.wasi_udp.specs.Create.{Create, made_by, with_left}
 use Rattle.wasi_walks.specs.Waiting.{CreateFailed, CreateWaits, IsCreating, IsRestOfUdpConnect, IsUdpBinding, IsUdpConnecting, UdpConnect3Failed, UdpConnectFailed, UdpConnectWaits, UdpBindFailed, UdpBindFails, UdpBindWaits}
-use Rattle.wasi_records.specs.declared.tcp_listening.Listening.TheVariants as listening
 use Rattle.wasi_host.specs.declared.pending.Outcome.{Outcome as Given}
 use Rattle.wasi_udp.specs.Connect.{with_given}
 use Rattle.wasi_world.specs.Operation.{Given as GivenByConnect}
 use Rattle.wasi_host.specs.declared.store.StandingCall.TheVariants.{Bind, Listen, DropOutput}
 use Rattle.wasi_steps.specs.declared.reply.Reply.TheVariants as reply
 use Rattle.wasi_steps.specs.declared.step.Step.TheVariants as step
-use Rattle.wasi_tcp.specs.Listen.{is_over as listen_over}
 use Rattle.wasi_world.specs.declared.call.Call.TheVariants as call
 use Rattle.wasi_world.specs.declared.call.Told.TheVariants as told
 use Rattle.wasi_walks.proofs.Places.{put_finds, udp_sort}
-
--- it gives nothing where it is done
-abbrev pub IsOfNoCreate : StandingCall → Type 0
-IsOfNoCreate (StandingCall.UdpCreate place face) = ⊥
-IsOfNoCreate (StandingCall.UdpConnect place handle) = ⊥
-IsOfNoCreate (StandingCall.Blocking call) = ⊥
-IsOfNoCreate _ = ⊤
-
-pub gives_none : (m after : Machine) (call : StandingCall) → IsOfNoCreate call → after.table ≡ m.table → GivesBy m no_fields after call
-gives_none m after (StandingCall.UdpCreate place face) plain same = absurd plain
-gives_none m after (StandingCall.UdpConnect place handle) plain same = absurd plain
-gives_none m after (StandingCall.Blocking call) plain same = absurd plain
-gives_none m after (StandingCall.DropOutgoing place) plain same = (refl, same)
-gives_none m after (Bind place face) plain same = (refl, same)
-gives_none m after (Listen place) plain same = (refl, same)
-gives_none m after (DropOutput place) plain same = (refl, same)
-gives_none m after (StandingCall.UdpBind place face) plain same = (refl, same)
-gives_none m after (StandingCall.UdpConnect3 place) plain same = (refl, same)
-
--- the words of its codes: those of its interface
-may_word : (call : StandingCall) (code : ErrorCode) → IsCodeWord (word_for call code) ⊎ IsP3Word (word_for call code)
-may_word (Bind place P3) code = inr (record { code = code; is = refl })
-may_word (Bind place P2) code = inl (code_word code)
-may_word (StandingCall.UdpBind place P3) code = inr (record { code = code; is = refl })
-may_word (StandingCall.UdpBind place P2) code = inl (code_word code)
-may_word (StandingCall.UdpConnect3 place) code = inr (record { code = code; is = refl })
-may_word (StandingCall.UdpCreate place P3) code = inr (record { code = code; is = refl })
-may_word (StandingCall.UdpCreate place P2) code = inl (code_word code)
-may_word _ code = inl (code_word code)
-
-the_same : {x y : Standing} → Some x ≡ Some y → x ≡ y
-the_same e = cc
+use Rattle.wasi_causes.proofs.resuming.Rows as rows
+use Rattle.wasi_causes.proofs.resuming.Rows.{Due, done, fails, gives_none, it_ends, missing, waits}
+use Rattle.wasi_causes.proofs.resuming.Listens.{relistens, relists}
 
 module _ (contexts : List WasiSocketsCtx) (m : Machine) (line : ℕ) (ids : Ids) where
   -- its number
   abbrev n : ℕ
   n = ids.line
 
-  abbrev pub Row : Rows (Reply × Machine)
-  Row es done = Outcome contexts m line (step.Poll n) es done.0 done.1
+  abbrev Row : Rows (Reply × Machine)
+  Row = rows.Row contexts m line ids
 
-  abbrev pub ResumedRow : Rows (Result (Option (Answer Given)) Stop × Machine)
-  ResumedRow es done = Row es (resumed_reply n done.0, done.1)
+  abbrev GoneRow : Rows (Result (Answer Given) Stop × Machine)
+  GoneRow = rows.GoneRow contexts m line ids
 
-  abbrev pub GoneRow : Rows (Result (Answer Given) Stop × Machine)
-  GoneRow es done = ResumedRow es (resumed done)
+  abbrev CallRow : Rows (Result (Answer (Unit {0})) Stop × Records)
+  CallRow = rows.CallRow contexts m line ids
 
-  abbrev pub CallRow : Rows (Result (Answer (Unit {0})) Stop × Records)
-  CallRow es done = GoneRow es (gone_on (with_store (nothing_stands m) done))
+  abbrev Under : StandingCall → Type 0
+  Under = rows.Under contexts m line ids
 
-  abbrev pub Under : StandingCall → Type 0
-  Under call = m.store.standing ≡ Some (standing_as ids call)
-
-  -- nothing is pending any more
-  abbrev pub free : Records
-  free = unstood m.store
-
-  -- == a call is pending
-  module _ (call : StandingCall) (stands : Under call) (other_call : IsBlocking call → ⊥) where
-    its_on : stands_as m.store.standing n ≡ true
-    its_on = ap (λ (o : Option Standing). stands_as o n) stands ∙ eq-eqb n n refl
-
-    pub stands_so : stands_under m.store n ≡ false → ⊥
-    stands_so none = not_both (stands_under m.store n) (exclusive_call m n its_on) none
-
-    none_beside : (es : List Entry) (r : Reply) (after : Machine) → IsBeside m n → BesidePolled m n es r after
-    none_beside es r after beside = absurd (not_beside m n its_on beside)
-
-    -- it is no call that blocks
-    no_blocking : (es : List Entry) (r : Reply) (after : Machine) → BlockedGoesOn contexts m n es r after
-    no_blocking es r after c other its on same short = let is : call ≡ StandingCall.Blocking its = ap (λ (s : Standing). s.call) (the_same (sym stands ∙ on)) in absurd (other_call (subst IsBlocking (sym is) tt))
-
-    pub it_ends : (es : List Entry) (r : Reply) (after : Machine) → r ≢ reply.NoSuchCall → after.store.standing ≡ None → Always contexts m line (step.Poll n) es r after
-    it_ends es r after other none = (apart other stands_so, λ same. inr none, no_blocking es r after, none_beside es r after)
-
-    pub done : (es : List Entry) (after : Machine) → after.store.standing ≡ None → GivesBy m no_fields after call → Row es (reply.Ok no_fields, after)
-    done es after none gives = (it_ends es (reply.Ok no_fields) after (λ e. cc) none, (inl (inl tt), inl (subst (λ (o : Option Standing). IsSomeAnd o (λ s. GivesBy m no_fields after s.call)) (sym stands) gives)))
-
-    -- it failed with this code, and left this machine
-    abbrev pub FailsSo : List Entry → ErrorCode → Machine → Type 0
-    FailsSo es code after = (why : CallFails m es call code) × (after ≡ left_failed m why)
-
-    pub fails : (es : List Entry) (after : Machine) (code : ErrorCode) → after.store.standing ≡ None → after.table ≡ m.table → (PendingCallsFit m → FailsSo es code after) → Row es (reply.Err (word_for call code), after)
-    fails es after code none same cause = (
-      it_ends es (reply.Err (word_for call code)) after (λ e. cc) none,
-      (
-        may_word call code,
-        (
-          inl (λ fits. record { fails = record { ids = ids; call = call; code = code; stands = stands; number = refl; cause = (cause fits).0; word_is = refl }; left = (cause fits).1 }),
-          same,
-        ),
-      ),
-    )
-
-    pub waits : (es : List Entry) (after : Machine) → after.table ≡ m.table → after.store.standing ≡ Some (standing_as ids call) → (PendingCallsFit m → CallWaits m (own_of n) es call) → Row es (reply.Pending n, after)
-    waits es after same on cause = ((apart (λ e. cc) stands_so, λ same. inl refl, no_blocking es (reply.Pending n) after, none_beside es (reply.Pending n) after), ((refl, inl (rw on refl)), (inl (λ binds. subst (λ (o : Option Standing). IsSomeAnd o (λ s. CallWaits m (own_of n) es s.call)) (sym stands) (cause binds)), same, λ other. on ∙ sym stands)))
-
-    -- what is due for an answer that leaves this machine
-    abbrev pub Due : List Entry → Result (Answer (Unit {0})) ErrorCode → Machine → Type 0
-    Due es (Ok Pending) after = PendingCallsFit m → CallWaits m (own_of n) es call
-    Due es (Ok (Ready given)) after = Unit {0}
-    Due es (Err code) after = PendingCallsFit m → FailsSo es code after
-
-    pub answered_so : IsOfNoCreate call → ((code : ErrorCode) → word_for call code ≡ word_of_code code) → (es : List Entry) (begun : Result (Answer (Unit {0})) ErrorCode × TcpRecord) → Due es begun.0 (record m { store = with_socket free (call_place call) begun.1 }) → CallRow es (call_answered free ids call begun)
-    answered_so plain words es (Ok Pending, r) h = waits es (record m { store = record (with_socket free (call_place call) r) { standing = Some (standing_as ids call) } }) refl refl h
-    answered_so plain words es (Ok (Ready given), r) h = let left : Machine = record m { store = with_socket free (call_place call) r } in done es left refl (gives_none m left call plain refl)
-    answered_so plain words es (Err code, r) h =
-        let left : Machine = record m { store = with_socket free (call_place call) r } in
-        subst (λ (w : CodeWord). Row es (reply.Err w, left)) (words code) (fails es left code refl refl h)
-
-    pub missing : IsOnNothing m call → Row [] (reply.Trap NoSuchHandle, nothing_stands m)
-    missing nothing = (it_ends [] (reply.Trap NoSuchHandle) (nothing_stands m) (λ e. cc) refl, (inl (rw (stands, eq-eqb n n refl) nothing), λ live. (refl, rw (stands, eq-eqb n n refl) refl)))
+  abbrev free : Records
+  free = rows.free contexts m line ids
 
   -- == of a drop
   of_output : (place : ℕ) → Under (DropOutput place) → (es : List Entry) (done : Answer (Unit {0}) × Records) → OutputRow free ids place es done → CallRow es (allowed_answer done)
-  of_output place stands es (Ready given, store) k = done (DropOutput place) stands (λ k. k) es (record m { store = store }) k.1 (refl, refl)
-  of_output place stands es (Pending, store) k = waits (DropOutput place) stands (λ k. k) es (record m { store = store }) refl k.1 (λ binds. k.0 m refl)
-
-  -- == of a listen
-  module _ (place : ℕ) (stands : Under (Listen place)) where
-    module _ (r : TcpRecord) (at : tcp2_at m.store.records place ≡ Some r) where
-      abbrev ListenRow : Rows (Result (Answer (Unit {0})) ErrorCode × TcpRecord)
-      ListenRow es begun = CallRow es (call_answered free ids (Listen place) begun)
-
-      listens_on : PendingCallsFit m → IsListening r.inner.state r.listening
-      listens_on binds = let k : IfSome (tcp2_at m.store.records place) (λ q. IsListening q.inner.state q.listening) = rw stands at binds in rw at at k
-
-      -- a pending listen is in progress
-      unheld : {l : Listening} → r.listening ≡ l → (IsListening r.inner.state l → ⊥) → ListenRow [] (Err InvalidState, r)
-      unheld is none = answered_so (Listen place) stands (λ k. k) tt (λ code. refl) [] (Err InvalidState, r) (λ binds. absurd (none (subst (IsListening r.inner.state) is (listens_on binds))))
-
-      module _ (op : Operation) (is : r.listening ≡ listening.Begins op) where
-        is_listen : PendingCallsFit m → IsListening r.inner.state (listening.Begins op)
-        is_listen binds = subst (IsListening r.inner.state) is (listens_on binds)
-
-        listen_waits : (es : List Entry) → EndsPending op.who.id es → CallWaits m (own_of n) es (Listen place)
-        listen_waits es h = let k : ListenWaits r.listening es = rw is h in rw at k
-
-        listen_ends : (es : List Entry) (end : End × List Item) → (IsListening r.inner.state (listening.Begins op) → EndsFor op (ListenEnds op) es end) → ListenRow es (listen_polled r (listen_ended op.who r.inner end))
-        listen_ends es (Waits, items) h = answered_so (Listen place) stands (λ k. k) tt (λ code. refl) es (listen_polled r (listen_ended op.who r.inner (Waits, items))) (λ binds. listen_waits es (h (is_listen binds)))
-        listen_ends es (Done given, items) h = answered_so (Listen place) stands (λ k. k) tt (λ code. refl) es (listen_polled r (listen_ended op.who r.inner (Done given, items))) tt
-        listen_ends es (Refused code given, items) h = answered_so (Listen place) stands (λ k. k) tt (λ code. refl) es (listen_polled r (listen_ended op.who r.inner (Refused code given, items))) (λ binds. (ListenFailed place r op code at is (h (is_listen binds)), refl))
-
-        begun : Meets ListenRow [] (poll_begun r op)
-        begun =
-            onto _ (branch (listen_over op) (λ over. ends (answered_so (Listen place) stands (λ k. k) tt (λ code. refl) [] (listen_polled r (Err InvalidState, (op, r.inner))) (λ binds. let going = (is_listen binds).2 in absurd (cc))))
-            (λ on. onto _ (widen listen_ends (granted (λ k. listen_polls op (k.0, k.1))))))
-
-      relists_by : (l : Listening) → r.listening ≡ l → Meets ListenRow [] (poll_listening r l)
-      relists_by (listening.Begins op) is = begun op is
-      relists_by _ is = ends (unheld is (λ k. k))
-
-      -- a listen that was begun has taken the network socket
-      by_other : (of : OpId) → side_of r.inner ≡ Some of → (l : Listening) → r.listening ≡ l → ListenRow [] (Err InvalidState, r)
-      by_other of side (listening.Begins op) is = answered_so (Listen place) stands (λ k. k) tt (λ code. refl) [] (Err InvalidState, r) (λ binds. let none = (is_listen op is binds).3 in absurd (cc))
-      by_other of side _ is = unheld is (λ k. k)
-
-      by_side : (o : Option OpId) → side_of r.inner ≡ o → Meets ListenRow [] (closed_listening r o)
-      by_side None side = relists_by r.listening refl
-      by_side (Some of) side = ends (by_other of side r.listening refl)
-
-    relists : (o : Option TcpRecord) → tcp2_at m.store.records place ≡ o → Meets CallRow [] (relisten_at free ids place o)
-    relists None at = ends (missing (Listen place) stands (λ k. k) at)
-    relists (Some r) at = onto _ (by_side r at (side_of r.inner) refl)
+  of_output place stands es (Ready given, store) k = done contexts m line ids (DropOutput place) stands (λ k. k) es (record m { store = store }) k.1 (refl, refl)
+  of_output place stands es (Pending, store) k = waits contexts m line ids (DropOutput place) stands (λ k. k) es (record m { store = store }) refl k.1 (λ binds. k.0 m refl)
 
   -- == of a bind
   abbrev BoundRow : Interface → Rows (Result (Answer (Unit {0})) BaseStop × Records)
@@ -256,7 +113,7 @@ module _ (contexts : List WasiSocketsCtx) (m : Machine) (line : ℕ) (ids : Ids)
         by_face P3 row = row
 
     abbrev BindDue : Rows (Answered × TcpRecord)
-    BindDue es begun = Due bind_call stands (λ k. k) es begun.0 (record m { store = with_socket free place begun.1 })
+    BindDue es begun = Due contexts m line ids bind_call stands (λ k. k) es begun.0 (record m { store = with_socket free place begun.1 })
 
     -- what a bind that is done leaves is no matter
     bind_due : (es : List Entry) (begun : Answered × TcpRecord) → BindDue es begun → BindDue es (bind_told face begun)
@@ -265,8 +122,8 @@ module _ (contexts : List WasiSocketsCtx) (m : Machine) (line : ℕ) (ids : Ids)
     bind_due es (Err code, r) h = h
 
     bind_kept : (es : List Entry) (answer : Answer (Unit {0})) (r : TcpRecord) → BindDue es (Ok answer, r) → BoundRow face es (let so = stood (with_socket free place r) ids bind_call answer in (Ok so.0, so.1))
-    bind_kept es Pending r h = waits bind_call stands (λ k. k) es (record m { store = record (with_socket free place r) { standing = Some (standing_as ids bind_call) } }) refl refl h
-    bind_kept es (Ready given) r h = let left : Machine = record m { store = with_socket free place r } in done bind_call stands (λ k. k) es left refl (gives_none m left bind_call tt refl)
+    bind_kept es Pending r h = waits contexts m line ids bind_call stands (λ k. k) es (record m { store = record (with_socket free place r) { standing = Some (standing_as ids bind_call) } }) refl refl h
+    bind_kept es (Ready given) r h = let left : Machine = record m { store = with_socket free place r } in done contexts m line ids bind_call stands (λ k. k) es left refl (gives_none m left bind_call tt refl)
 
     module _ (r : TcpRecord) (at : tcp2_at m.store.records place ≡ Some r) where
       binds_on : PendingCallsFit m → IsBinding r.in_progress
@@ -290,9 +147,9 @@ module _ (contexts : List WasiSocketsCtx) (m : Machine) (line : ℕ) (ids : Ids)
 
     rebinds : Meets (BoundRow face) [] (rebind_of face ids place free)
     rebinds =
-        finds (λ r. goes_on (Call Code (λ store. r) (λ store now. with_socket store place now) (tcp_rebinds face)) (keeps ids bind_call)) (tcp2_at m.store.records place) (missing bind_call stands (λ k. k))
+        finds (λ r. goes_on (Call Code (λ store. r) (λ store now. with_socket store place now) (tcp_rebinds face)) (keeps ids bind_call)) (tcp2_at m.store.records place) (missing contexts m line ids bind_call stands (λ k. k))
         (λ r at. calls {Mid = BindDue} _ (onto _ (widen bind_due (rebinds_by r at r.in_progress refl)))
-        (λ es code r h. ends (bind_refused es (with_socket free place r) code (fails bind_call stands (λ k. k) es (record m { store = with_socket free place r }) code refl refl h)))
+        (λ es code r h. ends (bind_refused es (with_socket free place r) code (fails contexts m line ids bind_call stands (λ k. k) es (record m { store = with_socket free place r }) code refl refl h)))
         (λ es answer r h. ends (bind_kept es answer r h)))
 
   -- == of a create of a UDP socket
@@ -322,7 +179,7 @@ module _ (contexts : List WasiSocketsCtx) (m : Machine) (line : ℕ) (ids : Ids)
 
       -- a pending create is in progress
       uncreated : (IsCreating u → ⊥) → MadeRow [] (create_answered free place (Err InvalidState, u))
-      uncreated none = ends (refused_row [] (record m { store = udp_left free place u }) InvalidState (fails (StandingCall.UdpCreate place face) stands (λ k. k) [] (record m { store = udp_left free place u }) InvalidState (left_free u) refl (λ fits. absurd (none (creates_on fits)))))
+      uncreated none = ends (refused_row [] (record m { store = udp_left free place u }) InvalidState (fails contexts m line ids (StandingCall.UdpCreate place face) stands (λ k. k) [] (record m { store = udp_left free place u }) InvalidState (left_free u) refl (λ fits. absurd (none (creates_on fits)))))
 
     module _ (create : Create) (at : udp2_at m.store.records place ≡ Some (udp.Creating create)) where
       -- the socket is there
@@ -335,8 +192,8 @@ module _ (contexts : List WasiSocketsCtx) (m : Machine) (line : ℕ) (ids : Ids)
       abbrev mark : Entry
       mark = entry create.operation.who.side (call.Made m.table.next (name_of (udp_kind face place)) None (Some create.operation.who.side)) told.Done
 
-      is_create : IsSomeAnd m.store.standing (λ s. IsPendingCreate s.call)
-      is_create = subst (λ (o : Option Standing). IsSomeAnd o (λ s. IsPendingCreate s.call)) (sym stands) tt
+      is_create : IsSomeAnd m.store.standing (λ s. MakesOneHandle s.call)
+      is_create = subst (λ (o : Option Standing). IsSomeAnd o (λ s. MakesOneHandle s.call)) (sym stands) tt
 
       gives_handle : let after : Machine = record made_so { table = with_handle m.table (udp_kind face place) None } in IsSomeAnd m.store.standing (λ s. GivesBy m (number_fields m.table.next) after s.call)
       gives_handle =
@@ -345,15 +202,15 @@ module _ (contexts : List WasiSocketsCtx) (m : Machine) (line : ℕ) (ids : Ids)
 
       create_ended : (es : List Entry) (end : End × List Item) → (marks_in es ≡ 0) × (PendingCallsFit m → EndsFor create.operation (CreateFails create.operation) es end) → MadeRow es (create_answered free place (udp_create_ended create end))
       create_ended es (Waits, items) k =
-          ends (waits (StandingCall.UdpCreate place face) stands (λ k. k) es (record m { store = record (with_udp free place (udp.Creating (with_left create items))) { standing = Some (standing_as ids (StandingCall.UdpCreate place face)) } }) refl refl
+          ends (waits contexts m line ids (StandingCall.UdpCreate place face) stands (λ k. k) es (record m { store = record (with_udp free place (udp.Creating (with_left create items))) { standing = Some (standing_as ids (StandingCall.UdpCreate place face)) } }) refl refl
           (λ fits. subst (λ (o : Option UdpRecord). IsSomeAnd o (λ u. CreateWaits u es)) (sym at) (k.1 fits)))
       create_ended es (Done given, items) k =
           marks_udp face made_so place (opened_udp (made_by create)) there
-          (λ full. (it_ends (StandingCall.UdpCreate place face) stands (λ k. k) es (reply.Trap Full) made_so (λ e. cc) refl, (tt, full_so m made_so es full refl k.0, inl (full, is_create))))
-          (it_ends (StandingCall.UdpCreate place face) stands (λ k. k) (es ++ mark ∷ []) (reply.Ok (number_fields m.table.next)) (record made_so { table = with_handle m.table (udp_kind face place) None }) (λ e. cc) refl, (inl (inr (inl (tt, tt))), inl gives_handle))
+          (λ full. (it_ends contexts m line ids (StandingCall.UdpCreate place face) stands (λ k. k) es (reply.Trap Full) made_so (λ e. cc) refl, (tt, full_so m made_so es full refl k.0, inl (full, is_create))))
+          (it_ends contexts m line ids (StandingCall.UdpCreate place face) stands (λ k. k) (es ++ mark ∷ []) (reply.Ok (number_fields m.table.next)) (record made_so { table = with_handle m.table (udp_kind face place) None }) (λ e. cc) refl, (inl (inr (inl (tt, tt))), inl gives_handle))
       create_ended es (Refused code given, items) k =
           let left : Machine = record m { store = given_back place (with_udp free place (udp.Closed create.operation.who.side)) } in
-          ends (refused_row es left code (fails (StandingCall.UdpCreate place face) stands (λ k. k) es left code refl refl (λ fits. (CreateFailed place face create code at (k.1 fits), put_gone (nothing_stands m) place (Record.Udp (udp.Closed create.operation.who.side))))))
+          ends (refused_row es left code (fails contexts m line ids (StandingCall.UdpCreate place face) stands (λ k. k) es left code refl refl (λ fits. (CreateFailed place face create code at (k.1 fits), put_gone (nothing_stands m) place (Record.Udp (udp.Closed create.operation.who.side))))))
 
     recreates_by : (u : UdpRecord) → udp2_at m.store.records place ≡ Some u → Meets (λ es done. MadeRow es (create_answered free place done)) [] (poll_create_asks u)
     recreates_by (udp.Creating create) at = onto _ (widen (create_ended create at) (both (record { along = poll_marks_none create.operation }) (granted (λ fits. create_ends create.operation (creates_on (udp.Creating create) at fits)))))
@@ -361,7 +218,7 @@ module _ (contexts : List WasiSocketsCtx) (m : Machine) (line : ℕ) (ids : Ids)
     recreates_by (udp.Closed side) at = ends (uncreated (udp.Closed side) at (λ k. k))
 
     recreates_at : (o : Option UdpRecord) → udp2_at m.store.records place ≡ o → Meets MadeRow [] (poll_create_at free place o)
-    recreates_at None at = ends (ends (missing (StandingCall.UdpCreate place face) stands (λ k. k) at))
+    recreates_at None at = ends (ends (missing contexts m line ids (StandingCall.UdpCreate place face) stands (λ k. k) at))
     recreates_at (Some u) at = onto _ (recreates_by u at)
 
     recreates : Meets CreatedRow [] (create_on face (nothing_stands m) ids place)
@@ -380,7 +237,7 @@ module _ (contexts : List WasiSocketsCtx) (m : Machine) (line : ℕ) (ids : Ids)
         by_face P3 row = row
 
     abbrev UdpBindDue : Rows (Answered × OpenUdp)
-    UdpBindDue es begun = Due udp_bind_call stands (λ k. k) es begun.0 (record m { store = with_open_udp free place begun.1 })
+    UdpBindDue es begun = Due contexts m line ids udp_bind_call stands (λ k. k) es begun.0 (record m { store = with_open_udp free place begun.1 })
 
     udp_bind_due : (es : List Entry) (begun : Answered × OpenUdp) → UdpBindDue es begun → UdpBindDue es (udp_bind_told face begun)
     udp_bind_due es (Ok Pending, o) h = h
@@ -388,8 +245,8 @@ module _ (contexts : List WasiSocketsCtx) (m : Machine) (line : ℕ) (ids : Ids)
     udp_bind_due es (Err code, o) h = h
 
     udp_bind_kept : (es : List Entry) (answer : Answer (Unit {0})) (o : OpenUdp) → UdpBindDue es (Ok answer, o) → BoundRow face es (let so = stood (with_open_udp free place o) ids udp_bind_call answer in (Ok so.0, so.1))
-    udp_bind_kept es Pending o h = waits udp_bind_call stands (λ k. k) es (record m { store = record (with_open_udp free place o) { standing = Some (standing_as ids udp_bind_call) } }) refl refl h
-    udp_bind_kept es (Ready given) o h = done udp_bind_call stands (λ k. k) es (record m { store = with_open_udp free place o }) refl (refl, refl)
+    udp_bind_kept es Pending o h = waits contexts m line ids udp_bind_call stands (λ k. k) es (record m { store = record (with_open_udp free place o) { standing = Some (standing_as ids udp_bind_call) } }) refl refl h
+    udp_bind_kept es (Ready given) o h = done contexts m line ids udp_bind_call stands (λ k. k) es (record m { store = with_open_udp free place o }) refl (refl, refl)
 
     module _ (o : OpenUdp) (at : open_at m.store.records place ≡ Some o) where
       udp_goes_on : PendingCallsFit m → IsUdpBinding o.in_progress
@@ -413,9 +270,9 @@ module _ (contexts : List WasiSocketsCtx) (m : Machine) (line : ℕ) (ids : Ids)
 
     udp_rebinds : Meets (BoundRow face) [] (udp_rebind_of face ids place free)
     udp_rebinds =
-        finds (λ o. goes_on (Call Code (λ store. o) (λ store now. with_open_udp store place now) (its_rebinds face)) (keeps ids udp_bind_call)) (open_at m.store.records place) (missing udp_bind_call stands (λ k. k))
+        finds (λ o. goes_on (Call Code (λ store. o) (λ store now. with_open_udp store place now) (its_rebinds face)) (keeps ids udp_bind_call)) (open_at m.store.records place) (missing contexts m line ids udp_bind_call stands (λ k. k))
         (λ o at. calls {Mid = UdpBindDue} _ (onto _ (widen udp_bind_due (udp_rebinds_by o at o.in_progress refl)))
-        (λ es code o h. ends (udp_bind_refused es (with_open_udp free place o) code (fails udp_bind_call stands (λ k. k) es (record m { store = with_open_udp free place o }) code refl refl h)))
+        (λ es code o h. ends (udp_bind_refused es (with_open_udp free place o) code (fails contexts m line ids udp_bind_call stands (λ k. k) es (record m { store = with_open_udp free place o }) code refl refl h)))
         (λ es answer o h. ends (udp_bind_kept es answer o h)))
 
   -- == of datagram streams
@@ -437,12 +294,12 @@ module _ (contexts : List WasiSocketsCtx) (m : Machine) (line : ℕ) (ids : Ids)
     marked : (es : List Entry) (store : Records) → store.standing ≡ None → marks_in es ≡ 0 → (its : Option ℕ) → udp_socket_at m handle ≡ its → Meets PairRow es (mark_streams (record m { store = store }) (own_of n) handle)
     marked es store over unmarked None names =
         subst (λ (o : Option ℕ). Meets PairRow es (mark_streams_of (record m { store = store }) (own_of n) handle o)) (sym names)
-        (ends (it_ends the_call stands (λ k. k) es (reply.Trap NoSuchHandle) (record m { store = store }) (λ e. cc) over, (inl (rw (stands, eq-eqb n n refl) (inr names)), λ live. absurd (lost_handle names live))))
+        (ends (it_ends contexts m line ids the_call stands (λ k. k) es (reply.Trap NoSuchHandle) (record m { store = store }) (λ e. cc) over, (inl (rw (stands, eq-eqb n n refl) (inr names)), λ live. absurd (lost_handle names live))))
     marked es store over unmarked (Some its) names =
         let now : Machine = record m { store = store } in
         makes_both now (own_of n) handle its es names unmarked
-        (λ fs table full next lacks. (it_ends the_call stands (λ k. k) fs (reply.Trap Full) (record now { table = table }) (λ e. cc) over, (tt, (full, next), inr (inl (subst (λ (o : Option Standing). IsSomeAnd o (λ s. LacksRoomForStreams m s.call)) (sym stands) (rw names lacks)))))) (
-          it_ends the_call stands (λ k. k) (marks_of now (own_of n) handle its es) (reply.Ok (pair_fields m.table.next (m.table.next + 1))) (record now { table = with_both m.table its handle }) (λ e. cc) over,
+        (λ fs table full next lacks. (it_ends contexts m line ids the_call stands (λ k. k) fs (reply.Trap Full) (record now { table = table }) (λ e. cc) over, (tt, (full, next), inr (inl (subst (λ (o : Option Standing). IsSomeAnd o (λ s. LacksRoomForStreams m s.call)) (sym stands) (rw names lacks)))))) (
+          it_ends contexts m line ids the_call stands (λ k. k) (marks_of now (own_of n) handle its es) (reply.Ok (pair_fields m.table.next (m.table.next + 1))) (record now { table = with_both m.table its handle }) (λ e. cc) over,
           (inl (inr (inr (inl (tt, (tt, tt))))), inl (subst (λ (o : Option Standing). IsSomeAnd o (λ s. GivesBy m (pair_fields m.table.next (m.table.next + 1)) (record now { table = with_both m.table its handle }) s.call)) (sym stands) (refl, rw names refl))),
         )
 
@@ -459,18 +316,18 @@ module _ (contexts : List WasiSocketsCtx) (m : Machine) (line : ℕ) (ids : Ids)
 
         connect_ended : (es : List Entry) (end : End × List Item) → (marks_in es ≡ 0) × (PendingCallsFit m → ConnectRow op es end) → ConnectedRow es (udp_call_answered free ids the_call (udp_connect_ended op o end))
         connect_ended es (Waits, items) k =
-            ends (waits the_call stands (λ k. k) es (record m { store = record (with_open_udp free place (udp_connect_left op o (Waits, items))) { standing = Some (standing_as ids the_call) } }) refl refl (λ fits. connect_waits es (k.1 fits)))
+            ends (waits contexts m line ids the_call stands (λ k. k) es (record m { store = record (with_open_udp free place (udp_connect_left op o (Waits, items))) { standing = Some (standing_as ids the_call) } }) refl refl (λ fits. connect_waits es (k.1 fits)))
         connect_ended es (Done given, items) k = marked es (with_open_udp free place (udp_connect_left op o (Done given, items))) refl k.0 (udp_socket_at m handle) refl
         connect_ended es (Refused code given, items) k =
-            ends (fails the_call stands (λ k. k) es (record m { store = with_open_udp free place (udp_connect_left op o (Refused code given, items)) }) code refl refl
+            ends (fails contexts m line ids the_call stands (λ k. k) es (record m { store = with_open_udp free place (udp_connect_left op o (Refused code given, items)) }) code refl refl
             (λ fits. let it = k.1 fits in (UdpConnectFailed place handle o op code at is it.why, ap (λ (g : GivenByConnect). record m { store = with_open_udp free place (record o { inner = with_given o.inner g; connecting = None }) }) it.gives)))
 
       reconnects_by : (doing : Option Operation) → o.connecting ≡ doing → Meets (λ es done. ConnectedRow es (udp_call_answered free ids the_call done)) [] (poll_udp_connecting o doing)
       reconnects_by (Some op) is = onto _ (widen (connect_ended op is) (both (record { along = poll_marks_none op }) (granted (λ fits. udp_connect_gives op (is_connect op is fits) []))))
-      reconnects_by None is = ends (ends (fails the_call stands (λ k. k) [] (record m { store = with_open_udp free place o }) InvalidState refl refl (λ fits. let k = connects_on fits in absurd (rw is at k))))
+      reconnects_by None is = ends (ends (fails contexts m line ids the_call stands (λ k. k) [] (record m { store = with_open_udp free place o }) InvalidState refl refl (λ fits. let k = connects_on fits in absurd (rw is at k))))
 
     reconnects : (o : Option OpenUdp) → open_at m.store.records place ≡ o → Meets ConnectedRow [] (reconnect_udp_at free ids place handle o)
-    reconnects None at = ends (ends (missing the_call stands (λ k. k) (inl at)))
+    reconnects None at = ends (ends (missing contexts m line ids the_call stands (λ k. k) (inl at)))
     reconnects (Some o) at = onto _ (reconnects_by o at o.connecting refl)
 
     remakes : Meets PairRow [] (remake_streams_asks (nothing_stands m) ids place handle)
@@ -482,11 +339,11 @@ module _ (contexts : List WasiSocketsCtx) (m : Machine) (line : ℕ) (ids : Ids)
     connect_call = StandingCall.UdpConnect3 place
 
     abbrev ConnectDue : Rows (Answered × OpenUdp)
-    ConnectDue es begun = Due connect_call stands (λ k. k) es begun.0 (record m { store = with_open_udp free place begun.1 })
+    ConnectDue es begun = Due contexts m line ids connect_call stands (λ k. k) es begun.0 (record m { store = with_open_udp free place begun.1 })
 
     connect_kept : (es : List Entry) (answer : Answer (Unit {0})) (o : OpenUdp) → ConnectDue es (Ok answer, o) → BoundRow P3 es (let so = stood (with_open_udp free place o) ids connect_call answer in (Ok so.0, so.1))
-    connect_kept es Pending o h = waits connect_call stands (λ k. k) es (record m { store = record (with_open_udp free place o) { standing = Some (standing_as ids connect_call) } }) refl refl h
-    connect_kept es (Ready given) o h = done connect_call stands (λ k. k) es (record m { store = with_open_udp free place o }) refl (refl, refl)
+    connect_kept es Pending o h = waits contexts m line ids connect_call stands (λ k. k) es (record m { store = record (with_open_udp free place o) { standing = Some (standing_as ids connect_call) } }) refl refl h
+    connect_kept es (Ready given) o h = done contexts m line ids connect_call stands (λ k. k) es (record m { store = with_open_udp free place o }) refl (refl, refl)
 
     module _ (o : OpenUdp) (at : open_at m.store.records place ≡ Some o) where
       connect_holds : PendingCallsFit m → IsUdpConnecting o.connecting
@@ -511,25 +368,26 @@ module _ (contexts : List WasiSocketsCtx) (m : Machine) (line : ℕ) (ids : Ids)
 
     udp_reconnects : Meets (BoundRow P3) [] (udp_reconnect_of ids place free)
     udp_reconnects =
-        finds (λ o. goes_on (Call Code (λ store. o) (λ store now. with_open_udp store place now) udp_reconnect_asks) (keeps ids connect_call)) (open_at m.store.records place) (missing connect_call stands (λ k. k))
+        finds (λ o. goes_on (Call Code (λ store. o) (λ store now. with_open_udp store place now) udp_reconnect_asks) (keeps ids connect_call)) (open_at m.store.records place) (missing contexts m line ids connect_call stands (λ k. k))
         (λ o at. calls {Mid = ConnectDue} _ (reconnect_by o at o.connecting refl)
-        (λ es code o h. ends (fails connect_call stands (λ k. k) es (record m { store = with_open_udp free place o }) code refl refl h))
+        (λ es code o h. ends (fails contexts m line ids connect_call stands (λ k. k) es (record m { store = with_open_udp free place o }) code refl refl h))
         (λ es answer o h. ends (connect_kept es answer o h)))
 
   -- == of the drop of an outgoing datagram stream
   module _ (place : ℕ) (stands : Under (StandingCall.DropOutgoing place)) where
     goes_by : (o : OpenUdp) → open_at m.store.records place ≡ Some o → (b : Bool) → sends o.outgoing ≡ b → CallRow [] (allowed_answer (drop_outgoing_by free ids place o b))
-    goes_by o at true e = waits (StandingCall.DropOutgoing place) stands (λ k. k) [] (record m { store = record free { standing = Some (standing_as ids (StandingCall.DropOutgoing place)) } }) refl refl (λ fits. rw at (e, refl))
-    goes_by o at false e = done (StandingCall.DropOutgoing place) stands (λ k. k) [] (record m { store = with_open_udp free place (record o { outgoing = None }) }) refl (refl, refl)
+    goes_by o at true e = waits contexts m line ids (StandingCall.DropOutgoing place) stands (λ k. k) [] (record m { store = record free { standing = Some (standing_as ids (StandingCall.DropOutgoing place)) } }) refl refl (λ fits. rw at (e, refl))
+    goes_by o at false e = done contexts m line ids (StandingCall.DropOutgoing place) stands (λ k. k) [] (record m { store = with_open_udp free place (record o { outgoing = None }) }) refl (refl, refl)
 
     goes : (o : Option OpenUdp) → open_at m.store.records place ≡ o → CallRow [] (allowed_answer (drop_outgoing_at free ids place o))
-    goes None at = done (StandingCall.DropOutgoing place) stands (λ k. k) [] (record m { store = free }) refl (refl, refl)
+    goes None at = done contexts m line ids (StandingCall.DropOutgoing place) stands (λ k. k) [] (record m { store = free }) refl (refl, refl)
     goes (Some o) at = goes_by o at (sends o.outgoing) refl
 
   -- == by what is pending
   goes_on_as : (call : StandingCall) → Under call → Meets GoneRow [] (go_on (nothing_stands m) ids call)
   goes_on_as (Bind place face) stands = onto _ (rebinds place face stands)
-  goes_on_as (Listen place) stands = onto _ (relists place stands (tcp2_at m.store.records place) refl)
+  goes_on_as (Listen place None) stands = onto _ (relists contexts m line ids place stands (tcp2_at m.store.records place) refl)
+  goes_on_as (Listen place (Some handle)) stands = onto _ (relistens contexts m line ids place handle stands)
   goes_on_as (StandingCall.UdpCreate place face) stands = onto _ (recreates place face stands)
   goes_on_as (StandingCall.UdpBind place face) stands = onto _ (udp_rebinds place face stands)
   goes_on_as (StandingCall.UdpConnect place handle) stands = onto _ (remakes place handle stands)

@@ -2,7 +2,7 @@
 -- pending as a bind is a bind, as a listen a listen, and as a create a create; each live handle is of a record that is there, a
 -- connect in progress may be finished, and a socket that does nothing yet doesn't listen.
 use Rattle.wasi_records.specs.Records.{tcp2_at, udp2_at, open_at, open_of}
-use Rattle.wasi_host.specs.declared.kind.Kind.TheVariants.{Tcp3, Udp2, Udp3, Lookup, Incoming, Outgoing, PlainInput, PlainOutput, Network, ErrorValue}
+use Rattle.wasi_host.specs.declared.kind.Kind.TheVariants.{Tcp3, Udp2, Udp3, Listen3, Lookup, Incoming, Outgoing, PlainInput, PlainOutput, Network, ErrorValue, Receive3, Result3, Send3}
 use Rattle.wasi_host.specs.Kinds.{lookup_of}
 use Rattle.wasi_host.specs.Machine.{lookup_number}
 use Rattle.wasi_walks.specs.Answered.{lookup_in}
@@ -14,7 +14,16 @@ use Rattle.wasi_causes.specs.Lookups.{found_lookup}
 use Rattle.wasi_records.specs.declared.udp.OpenUdp.{OpenUdp}
 use Rattle.wasi_records.specs.declared.udp.UdpRecord.{UdpRecord}
 use Rattle.wasi_records.specs.declared.udp.UdpInProgress.{UdpInProgress}
-use Rattle.wasi_causes.specs.Udp.{IsPendingCreate}
+use Rattle.wasi_causes.proofs.sockets.P3ListenPolls.{listen_polled_so}
+use Rattle.wasi_causes.specs.P3Listens.{ListenPolled, ListenerAccepts}
+use Rattle.wasi_records.specs.Holding.{has_listener}
+use Rattle.wasi_walks.proofs.owners.Names.{listens_in}
+use Rattle.wasi_walks.specs.Listens.{HasNoListener}
+use Rattle.wasi_world.specs.Operation.{Operation}
+use Rattle.wasi_causes.specs.Udp.{MakesOneHandle}
+use Rattle.wasi_host.specs.Lines.{tcp_in}
+use Rattle.wasi_host.specs.Kinds.{listen3_of}
+use Rattle.wasi_host.specs.Machine.{listen3_at, tcp3_at}
 use Rattle.wasi_walks.specs.Waiting.{IsCreating, IsUdpBinding}
 use Rattle.wasi_records.specs.declared.tcp_binding.InProgress.TheVariants.{Binding}
 use Rattle.wasi_causes.proofs.Words.{AcceptsAt, AcceptsIn, Allows, Answered, Bool, CodeWord, ConnectsAt, Entry}
@@ -47,7 +56,7 @@ use Rattle.wasi_walks.specs.Answered.{AllOf, ConnectsOn}
 use Rattle.wasi_walks.specs.Listens.{RefusedListen}
 use Rattle.wasi_tcp.specs.Listen as listen
 use Rattle.wasi_tcp.specs.Socket.{side_in}
-use Rattle.wasi_walks.specs.Waiting.{IsAskLeft, IsAskOfListen, StartsTold}
+use Rattle.wasi_walks.specs.Waiting.{IsAskLeft, IsAskOfListen, IsOfBound, StartsTold}
 use Rattle.wasi_causes.proofs.Words.{HoldsConnect, wildcard}
 use Rattle.wasi_steps.specs.declared.reply.Reply.TheVariants as reply
 use Rattle.wasi_steps.specs.declared.guest_call.GuestCall.TheVariants as guest
@@ -65,7 +74,8 @@ use Rattle.wasi_causes.specs.PollableCalls.{WatchedAreThere}
 use Rattle.wasi_host.specs.declared.kind.PlainInput.TheVariants as plain_input
 use Rattle.wasi_host.specs.declared.kind.PlainOutput.TheVariants as plain_output
 use Rattle.wasi_causes.proofs.Steady.{AsksToConnect, AsksToListen, Steady, runs_are_steady}
-use Rattle.wasi_causes.proofs.Derived.{OwnedIn, its_record, watched_record}
+use Rattle.wasi_causes.proofs.BoundListens.{CallBound, StandsBound, begins_bound, runs_listen_bound}
+use Rattle.wasi_causes.proofs.Derived.{held, listens_held, streams_held, OwnedIn, its_record, watched_record}
 use Rattle.wasi_causes.proofs.Words.{streams_in}
 use Rattle.wasi_host.specs.Kinds.{place_of}
 use Rattle.wasi_causes.specs.Datagrams.{HasItsHandle, HasItsSocket, LacksRoomForStreams, PendingHandleIsLive}
@@ -82,9 +92,9 @@ accepts_so _ h = tt
 asks_left : (items : List Item) → listen.IsLeftOfListen items → StartsTold items → AllOf IsAskOfListen items → AllOf IsAskLeft items
 asks_left _ (listen.BoundBefore backlog) told asks = absurd told
 asks_left _ (listen.AddressTold a backlog) told asks = (tt, (tt, tt))
-asks_left _ (listen.Unbound wildcard backlog) told asks = absurd asks.0
-asks_left _ (listen.BindChecked wildcard backlog) told asks = absurd asks.1.0
-asks_left _ (listen.Checked wildcard backlog) told asks = absurd asks.0
+asks_left _ (listen.Unbound wildcard backlog) told asks = (tt, (tt, (tt, (tt, tt))))
+asks_left _ (listen.BindChecked wildcard backlog) told asks = (tt, (tt, (tt, tt)))
+asks_left _ (listen.Checked wildcard backlog) told asks = (tt, (tt, tt))
 asks_left _ (listen.Bound backlog) told asks = (tt, tt)
 asks_left _ (listen.ToClose c) told asks = absurd asks.0
 asks_left _ listen.Ended told asks = tt
@@ -115,28 +125,34 @@ module _ (m : Machine) (f : Fit (Over m)) (i : Steady m.store.records) where
   binds_so r (Binding op) e k b = (subst (FitProgress r.inner.state) e k.2).1
   binds_so r _ e k b = absurd b
 
-  by_call : (call : StandingCall) → FitCall m.store.records call → HoldsCall m call
-  by_call (standing.Bind place face) h = subst (λ (o : Option TcpRecord). IfSome o (λ r. IsBinding r.in_progress)) (sym h.at) (binds_so h.was h.was.in_progress refl (f.records place h.was h.at) h.goes)
-  by_call (standing.Listen place) h =
+  by_call : (call : StandingCall) → FitCall m.store.records call → CallBound m.store.records call → HoldsCall m call
+  by_call (standing.Bind place face) h b = subst (λ (o : Option TcpRecord). IfSome o (λ r. IsBinding r.in_progress)) (sym h.at) (binds_so h.was h.was.in_progress refl (f.records place h.was h.at) h.goes)
+  by_call (standing.Listen place None) h b =
+      let same : b.was ≡ h.was = (let p : Some b.was ≡ Some h.was = sym b.at ∙ h.at in cc) in
+      subst (λ (o : Option TcpRecord). IfSome o (λ r. IsListening r.inner.state r.listening × IsOfBound r.listening)) (sym h.at) (
+        listens_so h.was.inner.state h.was.listening (f.records place h.was h.at).1 (i place h.was h.at).2.1 h.goes,
+        subst (λ (r : TcpRecord). IsOfBound r.listening) same (begins_bound b.was.listening b.goes),
+      )
+  by_call (standing.Listen place (Some handle)) h b =
       subst (λ (o : Option TcpRecord). IfSome o (λ r. IsListening r.inner.state r.listening)) (sym h.at)
       (listens_so h.was.inner.state h.was.listening (f.records place h.was h.at).1 (i place h.was h.at).2.1 h.goes)
-  by_call (standing.DropOutput place) h = tt
-  by_call (standing.UdpCreate place face) h = subst (λ (o : Option UdpRecord). IfSome o IsCreating) (sym h.at) (f.udps place (UdpRecord.Creating h.was) h.at)
-  by_call (standing.UdpBind place face) h =
+  by_call (standing.DropOutput place) h b = tt
+  by_call (standing.UdpCreate place face) h b = subst (λ (o : Option UdpRecord). IfSome o IsCreating) (sym h.at) (f.udps place (UdpRecord.Creating h.was) h.at)
+  by_call (standing.UdpBind place face) h b =
       let bind : IsUdpBinding (UdpInProgress.Binding h.op) = (subst (FitUdpProgress h.was.inner.side) h.goes (f.udps place (UdpRecord.Open h.was) h.at).0).bind in
       subst (λ (o : Option OpenUdp). IfSome o (λ q. IsUdpBinding q.in_progress)) (sym (ap open_of h.at)) (subst IsUdpBinding (sym h.goes) bind)
-  by_call (standing.UdpConnect place handle) h =
+  by_call (standing.UdpConnect place handle) h b =
       let connect : IsUdpConnecting (Some h.op) = (subst (FitConnecting h.was.inner.side) h.goes (f.udps place (UdpRecord.Open h.was) h.at).1).connect in
       subst (λ (o : Option OpenUdp). IfSome o (λ q. IsUdpConnecting q.connecting)) (sym (ap open_of h.at)) (subst IsUdpConnecting (sym h.goes) connect)
-  by_call (standing.UdpConnect3 place) h =
+  by_call (standing.UdpConnect3 place) h b =
       let connect : IsUdpConnecting (Some h.op) = (subst (FitConnecting h.was.inner.side) h.goes (f.udps place (UdpRecord.Open h.was) h.at).1).connect in
       subst (λ (o : Option OpenUdp). IfSome o (λ q. IsUdpConnecting q.connecting)) (sym (ap open_of h.at)) (subst IsUdpConnecting (sym h.goes) connect)
-  by_call (standing.DropOutgoing place) h = tt
-  by_call (standing.Blocking call) h = tt
+  by_call (standing.DropOutgoing place) h b = tt
+  by_call (standing.Blocking call) h b = tt
 
-  stands_by : (o : Option Standing) → ((s : Standing) → o ≡ Some s → FitCall m.store.records s.call) → IfSome o (λ s. HoldsCall m s.call)
-  stands_by None h = tt
-  stands_by (Some s) h = by_call s.call (h s refl)
+  stands_by : (o : Option Standing) → ((s : Standing) → o ≡ Some s → FitCall m.store.records s.call) → StandsBound m.store.records o → IfSome o (λ s. HoldsCall m s.call)
+  stands_by None h b = tt
+  stands_by (Some s) h b = by_call s.call (h s refl) b
 
 -- what a handle needs of its record is more than that it is there
 with_streams : (o : Option TcpRecord) → IsSome (streams_in o) → IsSome o
@@ -155,20 +171,24 @@ module _ (m : Machine) (i : OwnedIn m) where
   udp_there place names = with_open (udp2_at m.store.records place) names
 
   of_its_record : (handle : ℕ) (kind : Kind) → kind_at m.table handle ≡ Some kind → OfItsRecord m kind
-  of_its_record handle (Tcp2 place) e = its_record m i handle place (Tcp2 place) e (inl refl)
-  of_its_record handle (Tcp3 place) e = its_record m i handle place (Tcp3 place) e (inl refl)
-  of_its_record handle (Input place) e = tcp_there place (its_record m i handle place (Input place) e (inr refl))
-  of_its_record handle (Output place) e = tcp_there place (its_record m i handle place (Output place) e (inr refl))
+  of_its_record handle (Tcp2 place) e = held (tcp2_at m.store.records place) (its_record m i handle place (Tcp2 place) e (inl refl))
+  of_its_record handle (Tcp3 place) e = held (tcp2_at m.store.records place) (its_record m i handle place (Tcp3 place) e (inl refl))
+  of_its_record handle (Input place) e = tcp_there place (streams_held (tcp2_at m.store.records place) (its_record m i handle place (Input place) e (inr (inl refl))))
+  of_its_record handle (Output place) e = tcp_there place (streams_held (tcp2_at m.store.records place) (its_record m i handle place (Output place) e (inr (inl refl))))
   of_its_record handle (Udp2 place) e = udp_there place (its_record m i handle place (Udp2 place) e (inl refl))
   of_its_record handle (Udp3 place) e = udp_there place (its_record m i handle place (Udp3 place) e (inl refl))
-  of_its_record handle (Incoming place) e = udp_there place (its_record m i handle place (Incoming place) e (inr refl))
-  of_its_record handle (Outgoing place) e = udp_there place (its_record m i handle place (Outgoing place) e (inr refl))
+  of_its_record handle (Listen3 place) e = listens_held (tcp2_at m.store.records place) (its_record m i handle place (Listen3 place) e (inr (inr refl)))
+  of_its_record handle (Receive3 end) e = tt
+  of_its_record handle (Send3 end) e = tt
+  of_its_record handle (Result3 place) e = its_record m i handle place (Result3 place) e (inl refl)
+  of_its_record handle (Incoming place) e = udp_there place (its_record m i handle place (Incoming place) e (inr (inl refl)))
+  of_its_record handle (Outgoing place) e = udp_there place (its_record m i handle place (Outgoing place) e (inr (inl refl)))
   of_its_record handle (Lookup place) e = its_record m i handle place (Lookup place) e (inl refl)
   of_its_record handle (PlainInput (plain_input.Pipe place)) e = its_record m i handle place (PlainInput (plain_input.Pipe place)) e (inl refl)
   of_its_record handle (PlainOutput (plain_output.Pipe place)) e = its_record m i handle place (PlainOutput (plain_output.Pipe place)) e (inl refl)
-  of_its_record handle (Pollable (Watched.Socket place)) e = watched_record m i handle place (Watched.Socket place) e refl
-  of_its_record handle (Pollable (Watched.Input place)) e = tcp_there place (watched_record m i handle place (Watched.Input place) e refl)
-  of_its_record handle (Pollable (Watched.Output place)) e = tcp_there place (watched_record m i handle place (Watched.Output place) e refl)
+  of_its_record handle (Pollable (Watched.Socket place)) e = held (tcp2_at m.store.records place) (watched_record m i handle place (Watched.Socket place) e refl)
+  of_its_record handle (Pollable (Watched.Input place)) e = tcp_there place (streams_held (tcp2_at m.store.records place) (watched_record m i handle place (Watched.Input place) e refl))
+  of_its_record handle (Pollable (Watched.Output place)) e = tcp_there place (streams_held (tcp2_at m.store.records place) (watched_record m i handle place (Watched.Output place) e refl))
   of_its_record handle (Pollable (Watched.Udp place)) e = udp_there place (watched_record m i handle place (Watched.Udp place) e refl)
   of_its_record handle (Pollable (Watched.Incoming place)) e = udp_there place (watched_record m i handle place (Watched.Incoming place) e refl)
   of_its_record handle (Pollable (Watched.Outgoing place)) e = udp_there place (watched_record m i handle place (Watched.Outgoing place) e refl)
@@ -200,7 +220,9 @@ module _ (m : Machine) (i : OwnedIn m) where
 module _ (m : Machine) (f : Fit (Over m)) (well : PendingHandleIsLive m) where
   on_nothing : (call : StandingCall) → FitCall m.store.records call → HasItsHandle m call → IsOnNothing m call → ⊥
   on_nothing (standing.Bind place face) h its none = let at = h.at in cc
-  on_nothing (standing.Listen place) h its none = let at = h.at in cc
+  on_nothing (standing.Listen place None) h its none = let at = h.at in cc
+  on_nothing (standing.Listen place (Some handle)) h its (inl none) = let at = h.at in cc
+  on_nothing (standing.Listen place (Some handle)) h its (inr none) = cc
   on_nothing (standing.DropOutput place) h its none = none
   on_nothing (standing.UdpCreate place face) h its none = let at = h.at in cc
   on_nothing (standing.UdpBind place face) h its none = let at : open_at m.store.records place ≡ Some h.was = ap open_of h.at in cc
@@ -268,11 +290,19 @@ module _ (contexts : List WasiSocketsCtx) (steps : List Step) (es : List Entry) 
   pub runs_accept : (handle : ℕ) → AcceptsAt m handle
   runs_accept handle = of_record m _ accepts_there (socket_at m handle)
 
+  -- the same of a listener of 0.3
+  pub runs_accept3 : (handle : ℕ) → ListenerAccepts m handle
+  runs_accept3 handle = by_number (listen3_at m handle)
+    where
+      by_number : (o : Option ℕ) → IfSome (tcp_in m o) (λ r. AcceptsIn r.listening)
+      by_number None = tt
+      by_number (Some place) = at_place m (λ r. AcceptsIn r.listening) accepts_there place (tcp2_at m.store.records place) refl
+
   pub runs_watch_accept : (pollable : ℕ) → WatchesAccept m pollable
   runs_watch_accept pollable = of_watched m _ accepts_there (watch_of (kind_at m.table pollable))
 
   pub runs_bind : PendingCallsFit m
-  runs_bind = stands_by m fits run_steady m.store.standing fits.stands
+  runs_bind = stands_by m fits run_steady m.store.standing fits.stands (runs_listen_bound contexts steps es replies m w)
 
   pub runs_have_records : (handle : ℕ) (kind : Kind) → kind_at m.table handle ≡ Some kind → OfItsRecord m kind
   runs_have_records = of_its_record m run_holds.1
@@ -299,9 +329,34 @@ module _ (contexts : List WasiSocketsCtx) (steps : List Step) (es : List Entry) 
   pub listens_refused_in_runs : (line ctx handle : ℕ) (entries : List Entry) (word : CodeWord) (after : Machine) → Answered contexts m line (step.Call ctx (guest.TcpStartListen handle)) entries (reply.Err word) after → RefusedListen m (own_of line) handle entries word after
   listens_refused_in_runs line ctx handle entries word after a = (its_own contexts m line (step.Call ctx (guest.TcpStartListen handle)) entries (reply.Err word) after a (λ e. cc)).1.1.0 (of_record m ListensLate runs_listen_late (socket_at m handle))
 
+  -- a poll of a pending listen of 0.3: what it needs is there
+  pub listens_polled_in_runs : (line place handle : ℕ) (ids : Ids) (r : TcpRecord) (op : Operation) (entries : List Entry) (said : Reply) (after : Machine) → m.store.standing ≡ Some (standing_as ids (standing.Listen place (Some handle)))
+      → tcp2_at m.store.records place ≡ Some r → r.listening ≡ listening.Begins op → Answered contexts m line (step.Poll ids.line) entries said after → ListenPolled m ids.line handle place r op entries said after
+  listens_polled_in_runs line place handle ids r op entries said after stands at is a =
+      let names : tcp3_at m handle ≡ Some place = subst (λ (o : Option Standing). IfSome o (λ s. HasItsHandle m s.call)) stands run_well in
+      let listens : IfSome (tcp2_at m.store.records place) (λ q. IsListening q.inner.state q.listening) = subst (λ (o : Option Standing). IfSome o (λ s. HoldsCall m s.call)) stands runs_bind in
+      let its : IsListening r.inner.state r.listening = subst (λ (o : Option TcpRecord). IfSome o (λ q. IsListening q.inner.state q.listening)) at listens in
+      listen_polled_so contexts m line ids place handle stands names r at op is (subst (IsListening r.inner.state) is its) entries said after a
+
+  -- an accept isn't refused: the socket of each live listener has one
+  pub accepts_never_refused : (line ctx handle remaining : ℕ) (entries : List Entry) (word : CodeWord) (after : Machine) → Answered contexts m line (step.Call ctx (guest.P3Accept handle remaining)) entries (reply.Err word) after → ⊥
+  accepts_never_refused line ctx handle remaining entries word after a =
+      let k = (its_own contexts m line (step.Call ctx (guest.P3Accept handle remaining)) entries (reply.Err word) after a (λ e. cc)).1.1 in
+      none_listens k.found.listening k.holds.0 (subst (λ (o : Option TcpRecord). listens_in o ≡ true) k.at (by_kind (kind_at m.table handle) refl k.place k.names))
+    where
+      by_kind : (o : Option Kind) → kind_at m.table handle ≡ o → (place : ℕ) → listen3_of o ≡ Some place → listens_in (tcp2_at m.store.records place) ≡ true
+      by_kind (Some (Listen3 its)) e place names =
+          let same : its ≡ place = cc in
+          subst (λ (p : ℕ). listens_in (tcp2_at m.store.records p) ≡ true) same (its_record m run_holds.1 handle its (Listen3 its) e (inr (inr refl)))
+      by_kind _ e place names = absurd (cc)
+
+      none_listens : (l : Listening) → HasNoListener l → has_listener l ≡ true → ⊥
+      none_listens (listening.Accepts l) none has = none
+      none_listens _ none has = absurd (cc)
+
   -- why a poll traps: there is no room for what it gives, or the socket of a call beside others is gone
   abbrev HasNoRoom : TrapKind → Type 0
-  HasNoRoom kind = (kind ≡ Full) × (((is_full m.table ≡ true) × IsSomeAnd m.store.standing (λ s. IsPendingCreate s.call)) ⊎ (IsSomeAnd m.store.standing (λ s. LacksRoomForStreams m s.call) ⊎ StreamCallStands m))
+  HasNoRoom kind = (kind ≡ Full) × (((is_full m.table ≡ true) × IsSomeAnd m.store.standing (λ s. MakesOneHandle s.call)) ⊎ (IsSomeAnd m.store.standing (λ s. LacksRoomForStreams m s.call) ⊎ StreamCallStands m))
 
   abbrev PollTraps : ℕ → List Entry → TrapKind → Machine → Type 0
   PollTraps n entries kind after = HasNoRoom kind ⊎ ((kind ≡ NoSuchHandle) × BesideNothing m n × (entries ≡ []) × (after ≡ call_over m n))

@@ -32,7 +32,7 @@ use Rattle.wasi_tcp.specs.Connect.{connect_first, connect_left, connect_operatio
 use Rattle.wasi_tcp.specs.Listen.{is_over}
 use Rattle.wasi_tcp.specs.Socket.{side_in}
 use Rattle.wasi_addr.specs.declared.code.ErrorCode.TheVariants.{Other}
-use Rattle.wasi_walks.specs.Answered.{AllOf, IsAskOfConnect}
+use Rattle.wasi_walks.specs.Answered.{AllOf, IsAskOfConnect, IsPastDefault}
 use Rattle.wasi_walks.specs.Waiting.{IsAskOfListen}
 use Rattle.wasi_causes.proofs.Words.{IpSocketAddress, gives_more, wildcard}
 use Rattle.wasi_tcp.specs.declared.listener.Accepting.TheVariants as accepting
@@ -42,7 +42,10 @@ use Rattle.wasi_records.specs.Receiving.{receive_left, with_receiving}
 use Rattle.wasi_udp.specs.Receive.{wanting}
 use Rattle.wasi_udp.specs.Send.{at_remote}
 use Rattle.wasi_walks.proofs.walks.Moves.{BeginsReceive, BeginsSend, BeginsUdpConnect, ReceivesOn, SendsOn, UdpConnectsOn, UdpReconnectsOn}
-use Rattle.wasi_walks.proofs.walks.Moves.{Finds, SameSockets}
+use Rattle.wasi_walks.proofs.walks.Moves.{Finds, SameSockets, JoinsFault, JoinsPlain, beginning_listen, faulted, joined_plain}
+use Rattle.wasi_records.specs.Sockets.{new_record}
+use Rattle.wasi_tcp.specs.Listener.{accepted_socket, accepted_state}
+use Rattle.wasi_tcp.specs.Shape.{Socket}
 use Rattle.wasi_records.specs.declared.name_lookup.LookupOp.{LookupOp}
 use Rattle.wasi_walks.proofs.GoneLists.{was_there}
 use Rattle.wasi_walks.proofs.walks.Moves.{GivesBack}
@@ -50,6 +53,14 @@ use Rattle.wasi_walks.proofs.walks.OfState.{Becomes, Created, CreatedWith, Given
 use Rattle.wasi_walks.proofs.walks.OfState.{UdpGivenUp, UdpIsClosed, UdpLearnt, Writing, begins_state, of_state}
 use Rattle.wasi_walks.proofs.walks.Law.{InCall}
 use Rattle.wasi_causes.proofs.Words.{Told, after_local}
+use Rattle.wasi_causes.proofs.NoConnects.{Idle, IdleIn, first_idle, idle_over, idles, idles_begin, its_idle}
+use Rattle.wasi_tcp.specs.declared.socket.Connection.{Connection}
+use Rattle.wasi_walks.proofs.owners.Law.{Owns, owners}
+use Rattle.wasi_walks.proofs.PipeLists.{slot_push_same}
+use Rattle.wasi_walks.proofs.walks.Law.{BeginsWrites, Law}
+use Rattle.wasi_walks.proofs.walks.Layers.{begins_stand, stand}
+use Rattle.wasi_walks.proofs.walks.Moves.{AddsSlot, OfReceive, OfSend, TakesEnd}
+use Rattle.wasi_walks.proofs.walks.States.{Over}
 use Rattle.wasi_walks.proofs.Places.{push_new, push_was, put_found, put_was, tcp_sort, udp_sort}
 
 -- == what holds of a machine
@@ -136,15 +147,32 @@ asks_first : (a wildcard : IpSocketAddress) (bound : Bool) → AllOf IsAskOfConn
 asks_first a wildcard true = (tt, (tt, tt))
 asks_first a wildcard false = (tt, (tt, (tt, tt)))
 
+asks_to_listen : (own side : OpId) (r : TcpRecord) (bound : Bool) → AsksToListen (state.Closed Other) (beginning_listen own side r bound).listening
+asks_to_listen own side r true = ((tt, (tt, tt)), refl, refl)
+asks_to_listen own side r false = ((tt, (tt, (tt, (tt, tt)))), refl, refl)
+
+-- what an accept gives begins as one that isn't in progress
+joined_sound : (socket : Socket) → IsPastDefault socket.state → AsksToConnect socket.state → Sound (new_record socket)
+joined_sound socket past asks = (λ c. absurd (cc), λ side d. absurd (subst IsPastDefault d past), (asks, tt))
+
+-- a machine between lines
+abbrev IsSteady : Machine → Type 0
+IsSteady m = IdleIn m × Steady m.store.records
+
+-- of a connection on which no connect is in progress a half is taken
+half_taken : (r : TcpRecord) (c now : Connection) → r.inner.state ≡ state.Connected c → is_connect r.in_progress ≡ false → Sound r
+    → Finishes (with_inner r (with_state r.inner (state.Connected now))) × ListensLate (with_inner r (with_state r.inner (state.Connected now))) × Asking (with_inner r (with_state r.inner (state.Connected now)))
+half_taken r c now e idle s = (λ k. absurd (cc), λ side d. absurd (cc), (tt, no_listen r.inner.state (state.Connected now) r.listening c.side (ap side_in e) s.2.1))
+
 module _ (contexts : List WasiSocketsCtx) (line : ℕ) (origin : Step) where
-  moves_steady : (h now : Here) → Move line origin h now → Steady h.machine.store.records
+  moves_steady : (h now : Here) → Move line origin h now → Idle h → Steady h.machine.store.records
       → Steady now.machine.store.records
-  moves_steady _ _ (Changes h place r now g p) i = put_steady h place now (λ c. subst MayFinish (sym p.does) (elim (p.connects c) [ inl k ↦ (i place r g).0 k | inr k ↦ connecting_may r.inner.state k ]), λ side d. p.listening ∙ (i place r g).1 side (sym p.does ∙ d), (subst AsksToConnect (sym p.does) (i place r g).2.0, subst (AsksToListen now.inner.state) (sym p.listening) (subst (λ (s : TcpState). AsksToListen s r.listening) (sym p.does) (i place r g).2.1))) i
-  moves_steady _ _ (ClosesReader h place r s g e) i = put_steady h place _ (i place r g) i
-  moves_steady _ _ (Writes h place r s w g e m) i = put_steady h place _ (i place r g) i
-  moves_steady _ _ (IsGone h place r q g e) i = put_steady h place _ (λ c. absurd (cc), λ side d. refl, ((i place r g).2.0, tt)) i
-  moves_steady _ _ (Reconnects h place r c now g e s t u) i = put_steady h place _ (λ k. (let f : MayFinish (state.Connected c) = subst MayFinish e ((i place r g).0 k) in ((u k).0 ∙ f.0, (u k).1 ∙ f.1)), λ side d. absurd (cc), (tt, no_listen r.inner.state (state.Connected now) r.listening c.side (ap side_in e) (i place r g).2.1)) i
-  moves_steady _ _ (Opens h place r c d g e n) i =
+  moves_steady _ _ (Changes h place r now g p) b i = put_steady h place now (λ c. subst MayFinish (sym p.does) (elim (p.connects c) [ inl k ↦ (i place r g).0 k | inr k ↦ connecting_may r.inner.state k.0 ]), λ side d. p.listening ∙ (i place r g).1 side (sym p.does ∙ d), (subst AsksToConnect (sym p.does) (i place r g).2.0, subst (AsksToListen now.inner.state) (sym p.listening) (subst (λ (s : TcpState). AsksToListen s r.listening) (sym p.does) (i place r g).2.1))) i
+  moves_steady _ _ (ClosesReader h place r s g e) b i = put_steady h place _ (i place r g) i
+  moves_steady _ _ (Writes h place r s w g e m) b i = put_steady h place _ (i place r g) i
+  moves_steady _ _ (IsGone h place r q g e) b i = put_steady h place _ (λ c. absurd (cc), λ side d. refl, ((i place r g).2.0, tt)) i
+  moves_steady _ _ (Reconnects h place r c now g e s t u) b i = put_steady h place _ (λ k. (let f : MayFinish (state.Connected c) = subst MayFinish e ((i place r g).0 k) in ((u k).0 ∙ f.0, (u k).1 ∙ f.1)), λ side d. absurd (cc), (tt, no_listen r.inner.state (state.Connected now) r.listening c.side (ap side_in e) (i place r g).2.1)) i
+  moves_steady _ _ (Opens h place r c d g e n) b i =
       put_steady h place _ (
         λ k. absurd (cc),
         λ side d. absurd (cc),
@@ -154,7 +182,10 @@ module _ (contexts : List WasiSocketsCtx) (line : ℕ) (origin : Step) where
               (ap side_in e) (i place r g).2.1,
         ),
       ) i
-  moves_steady _ _ (BeginsConnect h place r side a bound at g d to known idle own) i =
+  moves_steady _ _ (TakesEnd h handle place r _ of g (OfReceive c e free)) b i = put_steady h place _ (half_taken r c _ e (its_idle h handle place r b of g) (i place r g)) i
+  moves_steady _ _ (TakesEnd h handle place r _ of g (OfSend c e free)) b i = put_steady h place _ (half_taken r c _ e (its_idle h handle place r b of g) (i place r g)) i
+  moves_steady _ _ (AddsSlot h s) b i = found_steady {new = λ op. ⊥} h.machine.store.records _ (slot_push_same h.machine.store.records s) i
+  moves_steady _ _ (BeginsConnect h place r side a bound at g d to known idle own) b i =
       put_steady h place _ (
         λ k. tt,
         λ s e. absurd (cc),
@@ -165,26 +196,30 @@ module _ (contexts : List WasiSocketsCtx) (line : ℕ) (origin : Step) where
               (wildcard r.inner.family) a (connect_first bound))) r.listening side (ap side_in d) (i place r g).2.1,
         ),
       ) i
-  moves_steady _ _ (BeginsBind h place r side a at g d to own) i = put_steady h place _ (λ c. absurd (cc), (i place r g).1, (i place r g).2) i
-  moves_steady _ _ (BeginsWrite h place n r s half permit bytes at g e w within own) i = put_steady h place _ (i place r g) i
-  moves_steady _ _ (BeginsListen h place r side at g d bound none to idle own) i = put_steady h place _ (λ k. tt, λ s e. absurd (cc), (tt, ((tt, (tt, tt)), refl, refl))) i
-  moves_steady _ _ (BeginsAccept h place n r l at g e a own) i = put_steady h place _ (listens_on r l _ e (i place r g)) i
-  moves_steady _ _ (Unlistens h place r op q g e c o) i = put_steady h place _ ((i place r g).0, λ side d. refl, ((i place r g).2.0, tt)) i
-  moves_steady _ _ (Forgets h place r l c g e a) i = put_steady h place _ (listens_on r l accepting.Idle e (i place r g)) i
-  moves_steady _ _ (Joins h c handle place r l new peer is of u g e a) i =
+  moves_steady _ _ (BeginsBind h place r side a at g d to own) b i = put_steady h place _ (λ c. absurd (cc), (i place r g).1, (i place r g).2) i
+  moves_steady _ _ (BeginsWrite h place n r s half permit bytes at g e w within own) b i = put_steady h place _ (i place r g) i
+  moves_steady _ _ (BeginsListen h place r side bound at g d known free none to idle own) b i = put_steady h place _ (λ k. tt, λ s e. absurd (cc), (tt, asks_to_listen (own_of line) side r bound)) i
+  moves_steady _ _ (BeginsAccept h place n r l at g e a own) b i = put_steady h place _ (listens_on r l _ e (i place r g)) i
+  moves_steady _ _ (Unlistens h place r op q g e c o) b i = put_steady h place _ ((i place r g).0, λ side d. refl, ((i place r g).2.0, tt)) i
+  moves_steady _ _ (Forgets h place r l c g e a) b i = put_steady h place _ (listens_on r l accepting.Idle e (i place r g)) i
+  moves_steady _ _ (Joins h c handle place r l new peer is of u g e a) b i =
       let k = put_steady h place (accepting_now r l accepting.Idle) (listens_on r l accepting.Idle e (i place r g)) i in push_steady (tcp2_put h.machine.store.records place (accepting_now r l accepting.Idle)) (joined l new peer) (λ c. absurd (cc), λ side d. absurd (cc), (tt, tt)) k
-  moves_steady _ _ (UdpChanges h place o now g p keeps) i = put_udp_steady h place (UdpRecord.Open now) i
-  moves_steady _ _ (BeginsUdpBind h place o a at g to own) i = put_udp_steady h place _ i
-  moves_steady _ _ (BeginsUdpConnect h place o a bound at g to known none own) i = put_udp_steady h place _ i
-  moves_steady _ _ (BeginsSend h place n o out d bound at g e item known own) i = put_udp_steady h place _ i
-  moves_steady _ _ (BeginsReceive h place n o inc bound at g e is own) i = put_udp_steady h place _ i
-  moves_steady _ _ (CancelsBind h place r op q g e) i = put_steady h place _ (λ c. absurd (cc), (i place r g).1, (i place r g).2) i
-  moves_steady _ _ (CancelsUdpBind h place o op q g e) i = put_udp_steady h place _ i
-  moves_steady _ _ (CancelsUdpConnect h place o q g) i = put_udp_steady h place _ i
-  moves_steady _ _ (Finds h records same) i = found_steady h.machine.store.records records same i
-  moves_steady _ _ (GivesBack h place idle left) i =
+  moves_steady _ _ (JoinsPlain h c listener remaining place r l new peer is of u g e a) b i =
+      let k = put_steady h place (accepting_now r l accepting.Idle) (listens_on r l accepting.Idle e (i place r g)) i in push_steady (tcp2_put h.machine.store.records place (accepting_now r l accepting.Idle)) (joined_plain l new peer) (joined_sound (accepted_socket l.family l.maker (accepted_state new peer)) tt tt) k
+  moves_steady _ _ (JoinsFault h place r l c u g e a) b i =
+      let k = put_steady h place (accepting_now r l accepting.Idle) (listens_on r l accepting.Idle e (i place r g)) i in push_steady (tcp2_put h.machine.store.records place (accepting_now r l accepting.Idle)) (faulted l c) (joined_sound (accepted_socket l.family l.maker (state.Closed c)) tt tt) k
+  moves_steady _ _ (UdpChanges h place o now g p keeps) b i = put_udp_steady h place (UdpRecord.Open now) i
+  moves_steady _ _ (BeginsUdpBind h place o a at g to own) b i = put_udp_steady h place _ i
+  moves_steady _ _ (BeginsUdpConnect h place o a bound at g to known none own) b i = put_udp_steady h place _ i
+  moves_steady _ _ (BeginsSend h place n o out d bound at g e item known own) b i = put_udp_steady h place _ i
+  moves_steady _ _ (BeginsReceive h place n o inc bound at g e is own) b i = put_udp_steady h place _ i
+  moves_steady _ _ (CancelsBind h place r op q g e) b i = put_steady h place _ (λ c. absurd (cc), (i place r g).1, (i place r g).2) i
+  moves_steady _ _ (CancelsUdpBind h place o op q g e) b i = put_udp_steady h place _ i
+  moves_steady _ _ (CancelsUdpConnect h place o q g) b i = put_udp_steady h place _ i
+  moves_steady _ _ (Finds h records same) b i = found_steady h.machine.store.records records same i
+  moves_steady _ _ (GivesBack h place idle left) b i =
       λ k r e. i k r (was_there tcp2_of refl h.machine.store.records place k r e)
-  moves_steady _ _ _ i = i
+  moves_steady _ _ _ b i = i
 
   -- == what is asked
   learnt_sound : (r : TcpRecord) (told : Told) → Sound r
@@ -200,7 +235,7 @@ module _ (contexts : List WasiSocketsCtx) (line : ℕ) (origin : Step) where
       → Steady now.machine.store.records
   becomes_steady h _ (Learnt place r side told at g e) i = put_steady h place _ (learnt_sound r told (i place r g)) i
   becomes_steady h _ (IsClosed place r side q g e) i = put_steady h place _ (λ c. absurd (cc), λ s d. refl, (tt, tt)) i
-  becomes_steady h _ (GivenUp place r q g) i =
+  becomes_steady h _ (GivenUp place r q goes g) i =
       let s = i place r g in put_steady h place _ (s.0, λ side d. refl, (s.2.0, tt)) i
   becomes_steady h _ (UdpLearnt place o socket g e) i = put_udp_steady h place _ i
   becomes_steady h _ (UdpIsClosed place o q g) i = put_udp_steady h place _ i
@@ -244,10 +279,10 @@ module _ (contexts : List WasiSocketsCtx) (line : ℕ) (origin : Step) where
   polls_steady es h _ _ (ReceivesOn place o inc op g e s) i =
       whatever (λ end. Steady (put_udp h place (UdpRecord.Open (record o { incoming = Some (with_receiving inc (receive_left op end)) }))).machine.store.records) (λ end. put_udp_steady h place _ i) es (poll_asks (wanting inc.remote op))
 
-  abbrev steady_state : OfState contexts line origin (λ es h. ⊤)
+  abbrev steady_state : OfState contexts line origin (λ es h. Owns h × Idle h)
   steady_state = record {
     Holds = λ h. Steady h.machine.store.records;
-    moves = λ es h now m b i. moves_steady h now m i;
+    moves = λ es h now m b i. moves_steady h now m b.1 i;
     becomes = λ es h now k b i. becomes_steady h now k i;
     polls = λ es h op after held b i. polls_steady es h op after held i;
     turns = λ es h place r s g e b i.
@@ -255,15 +290,24 @@ module _ (contexts : List WasiSocketsCtx) (line : ℕ) (origin : Step) where
         (λ done. put_steady h place _ (i place r g) i) es (turn_asks s.writer);
   }
 
-  line_steady : (m : Machine) (es : List Entry) → Steady m.store.records
-      → Allows Anything (λ fs done. Steady done.1.store.records) es (machine_asks contexts m line origin)
+  -- over what it rests on
+  unfoldable steadies : Law contexts line origin
+  unfolding idles owners
+  steadies = stand (idles contexts line origin) (of_state steady_state)
+
+  steadies_begin : BeginsWrites steadies
+  unfolding steadies idles owners
+  steadies_begin = begins_stand (idles contexts line origin) (of_state steady_state) (idles_begin contexts line origin) (begins_state steady_state)
+
+  line_steady : (m : Machine) (es : List Entry) → IsSteady m → Allows Anything (λ fs done. IsSteady done.1) es (machine_asks contexts m line origin)
+  unfolding steadies idles owners
   line_steady m es i =
-      (machine_walks line origin {law = of_state steady_state} (begins_state steady_state) m m.store.standing refl).along es i
+      let walks = machine_walks line origin {law = steadies} steadies_begin m m.store.standing refl in
+      gives_more (λ fs done. (Owns (Over done.1) × Idle (Over done.1)) × Steady done.1.store.records) (λ fs done. IsSteady done.1) (λ fs done k. (idle_over done.1 k.0, k.1)) es (machine_asks contexts m line origin)
+      (walks.along es (((i.0.0.0, tt, i.0.0.1), (i.0.1, tt)), i.1))
 
 pub runs_are_steady : (contexts : List WasiSocketsCtx) (steps : List Step) (es : List Entry) (replies : List Reply) (m : Machine)
     → Left (run contexts [] first_state 1 steps) es (Give (replies, m)) → Steady m.store.records
 runs_are_steady contexts steps es replies m w =
-    let holds : ℕ → List Entry → Machine → Type 0 = λ line fs now. Steady now.store.records in
-    let first : Steady first_state.store.records = λ place r e. absurd (cc) in
-    (run_ends contexts Anything holds (λ line s now fs i. line_steady contexts line s now fs i) first steps es replies
-    m w).1
+    let first : IsSteady first_state = (first_idle, λ place r e. absurd (cc)) in
+    (run_ends contexts Anything (λ line fs now. IsSteady now) (λ line s now fs i. line_steady contexts line s now fs i) first steps es replies m w).1.1

@@ -11,7 +11,7 @@ use Rattle.wasi_records.specs.Records.{tcp2_put, tcp2_pushed, udp2_at}
 use Rattle.wasi_records.specs.declared.datagrams.Incoming.{Incoming as IncomingStream}
 use Rattle.wasi_records.specs.declared.datagrams.Outgoing.{Outgoing as OutgoingStream}
 use Rattle.wasi_host.specs.Kinds.{udp_kind}
-use Rattle.wasi_host.specs.declared.kind.Kind.TheVariants.{Incoming}
+use Rattle.wasi_host.specs.declared.kind.Kind.TheVariants.{Incoming, Listen3, Result3, Tcp3}
 use Rattle.wasi_records.specs.declared.records.Record.{Record}
 use Rattle.wasi_records.specs.declared.udp.OpenUdp.{OpenUdp}
 use Rattle.wasi_records.specs.declared.udp.UdpRecord.{UdpRecord}
@@ -27,13 +27,14 @@ use Rattle.wasi_walks.proofs.walks.States.{IsPlain, makes_plain}
 use Rattle.wasi_causes.proofs.UdpConnects.{HasConnects, Quiet, connects, connects_begin, first_connects, starts_with}
 use Rattle.wasi_causes.proofs.StreamsLive.{tcp_other, udp_other, Both, HasIncoming, IsOther, CallSo, MadeSo, Parts, StandsSo, Streams, begun, changed, connect_keeps, reconnect_keeps, emptied, found, has_none, makes_left, has_next, has_other, has_handle, not_yet, push_tcp, put_none, put_open, put_tcp, remade, restood, stay, taken}
 use Rattle.wasi_walks.proofs.walks.OfState.{Becomes, Created, CreatedWith, GivenUp, Handles, HasHandle, HasNoRoom, IsClosed, Learnt, NoRoom}
-use Rattle.wasi_walks.proofs.walks.OfState.{OfAccepted, OfCreated, OfError, OfLine, OfState, OfStream, Resolved, UdpBegun, UdpGivenUp, UdpIsClosed, UdpLearnt, Writing, begins_state, of_state}
+use Rattle.wasi_walks.proofs.walks.OfState.{OfAccepted, OfCreated, OfError, OfLine, OfListener, OfPlain, OfResult, OfState, OfStream, Resolved, StandsOn, UdpBegun, UdpGivenUp, UdpIsClosed, UdpLearnt, Writing, begins_state, of_state}
 use Rattle.wasi_walks.proofs.walks.Layers.{begins_layer, begins_over, begins_stand, layer, over, stand}
 use Rattle.wasi_walks.proofs.owners.Law.{Owns, owners, owners_begin, udp_owner}
 use Rattle.wasi_walks.proofs.owners.Owned as owned
 use Rattle.wasi_walks.proofs.owners.Owned.{stream_place}
 use Rattle.wasi_causes.proofs.Derived.{OwnedIn, first_in}
 use Rattle.wasi_causes.proofs.Words.{ap, new_socket, with_handle, with_record}
+use Rattle.wasi_walks.proofs.PipeLists.{slot_push_same}
 
 -- == what is live
 -- A live incoming stream is there, and is one of its own; a socket whose connect is in progress has no streams.
@@ -69,17 +70,31 @@ module _ (contexts : List WasiSocketsCtx) (line : ℕ) (origin : Step) where
   moves_apart _ _ (walk.IsGone h place r q g e) i = put_tcp h place r g _ i
   moves_apart _ _ (walk.Reconnects h place r c now g e s t u) i = put_tcp h place r g _ i
   moves_apart _ _ (walk.Opens h place r c d g e n) i = put_tcp h place r g _ i
+  moves_apart _ _ (walk.TakesEnd h handle place r now of g takes) i = put_tcp h place r g now i
+  moves_apart _ _ (walk.AddsSlot h s) i =
+      remade _ _ h.made (Made.ToResult (length h.machine.store.records)) _ tt (found {new = λ op. ⊥} h _ (slot_push_same h.machine.store.records s) i)
   moves_apart _ _ (walk.BeginsConnect h place r side a bound at g d to known idle own) i = put_tcp h place r g _ i
   moves_apart _ _ (walk.BeginsBind h place r side a at g d to own) i = put_tcp h place r g _ i
   moves_apart _ _ (walk.BeginsWrite h place n r s half permit bytes at g e w within own) i = put_tcp h place r g _ i
-  moves_apart _ _ (walk.BeginsListen h place r side at g d bound none to idle own) i = put_tcp h place r g _ i
+  moves_apart _ _ (walk.BeginsListen h place r side bound at g d known free none to idle own) i = put_tcp h place r g _ i
   moves_apart _ _ (walk.BeginsAccept h place n r l at g e a own) i = put_tcp h place r g _ i
   moves_apart _ _ (walk.Unlistens h place r op q g e c o) i = put_tcp h place r g _ i
   moves_apart _ _ (walk.Forgets h place r l c g e a) i = put_tcp h place r g _ i
   moves_apart _ _ (walk.CancelsBind h place r op q g e) i = put_tcp h place r g _ i
   moves_apart _ _ (walk.Joins h c handle place r l new peer is of u g e a) i =
       let idle = walk.accepting_now r l accepting.Idle in
-      remade h.machine.table _ h.made (Made.Joined (length (tcp2_put h.machine.store.records place idle))) h.machine.store.standing tt (push_tcp h.machine.table (tcp2_put h.machine.store.records place idle) (walk.joined l new peer) h.made h.machine.store.standing (put_tcp h place r g idle i))
+      remade h.machine.table _ h.made (Made.Joined walk.P2 (length (tcp2_put h.machine.store.records place idle))) h.machine.store.standing tt (push_tcp h.machine.table (tcp2_put h.machine.store.records place idle) (walk.joined l new peer) h.made h.machine.store.standing (put_tcp h place r g idle i))
+  moves_apart _ _ (walk.JoinsPlain h c listener remaining place r l new peer is of u g e a) i =
+      let idle = walk.accepting_now r l accepting.Idle in
+      remade h.machine.table _ h.made (Made.Joined walk.P3 (length (tcp2_put h.machine.store.records place idle))) h.machine.store.standing tt (push_tcp h.machine.table (tcp2_put h.machine.store.records place idle) (walk.joined_plain l new peer) h.made h.machine.store.standing (put_tcp h place r g idle i))
+  moves_apart _ _ (walk.JoinsFault h place r l c u g e a) i =
+      let idle = walk.accepting_now r l accepting.Idle in
+      remade h.machine.table _ h.made (Made.Faulted (length (tcp2_put h.machine.store.records place idle))) h.machine.store.standing tt (push_tcp h.machine.table (tcp2_put h.machine.store.records place idle) (walk.faulted l c) h.made h.machine.store.standing (put_tcp h place r g idle i))
+  moves_apart _ _ (walk.Frees h place made) i = remade _ _ h.made (Made.Freed place) _ tt i
+  moves_apart _ _ (walk.IsUnheld h place r g free) i = remade _ _ h.made (Made.Freed place) _ tt i
+  moves_apart _ _ (walk.RemembersListen h marks place r is under g none) i = remade _ _ h.made (Made.ToListen line marks place) _ tt i
+  moves_apart _ _ (walk.RecallsListen h ids place marks e) i = remade _ _ h.made (Made.ToListen ids.line marks place) _ tt i
+  moves_apart _ _ (walk.StandsListen h ids place marks r quiet at made g k) i = restood _ _ h.made _ (Some (standing_as ids (StandingCall.Listen place marks))) tt i
   moves_apart _ _ (walk.Leaves h) i = remade _ _ h.made Past _ tt i
   moves_apart _ _ (walk.Numbers h) i = remade _ _ h.made (Made.Numbered (length h.machine.store.records) h.machine.table.next) _ tt i
   moves_apart _ _ (walk.GivesBack h place idle left) i = stay h.machine.table _ _ h.made h.machine.store.standing (λ a k l e has. record { socket = has.socket; at = open_stays h place left k has.socket has.at; stream = has.stream; has = has.has }) i
@@ -105,14 +120,18 @@ module _ (contexts : List WasiSocketsCtx) (line : ℕ) (origin : Step) where
   moves_apart _ _ (walk.CancelsUdpBind h place o op q g e) i = put_open h place o _ g (λ e. e) i
   moves_apart _ _ (walk.CancelsUdpConnect h place o q g) i = put_open h place o _ g (λ e. e) i
   moves_apart _ _ (walk.Finds h records same) i = found h records same i
-  moves_apart _ _ (walk.Empties h handle kind e none) i = taken _ _ handle h.made (Made.Emptied kind) _ (emptied h.machine.table h.machine.store.records handle kind e i.apart) i
-  moves_apart _ _ (walk.Takes h handle none) i = taken _ _ handle h.made h.made _ (makes_left h.machine.table h.machine.store.records handle h.made i.makes) i
+  moves_apart _ _ (walk.Empties h handle kind q e none) i = taken _ _ handle h.made (Made.Emptied kind) _ (emptied h.machine.table h.machine.store.records handle kind e i.apart) i
+  moves_apart _ _ (walk.Takes h handle q made none) i = taken _ _ handle h.made h.made _ (makes_left h.machine.table h.machine.store.records handle h.made i.makes) i
   moves_apart _ _ _ i = i
 
   -- == what is made
   of_tcp : (kind : Kind) (place : ℕ) → (kind ≡ Input place) ⊎ (kind ≡ Output place) → IsOther kind
   of_tcp kind place (inl e) = subst IsOther (sym e) tt
   of_tcp kind place (inr e) = subst IsOther (sym e) tt
+
+  of_end : (socket : ℕ) (kind : Kind) (s : Step) → walk.MakesEnd socket kind s → IsOther kind
+  of_end socket (Incoming place) s m = absurd m
+  of_end socket _ s m = tt
 
   plain_other : (kind : Kind) → IsPlain kind → IsOther kind
   plain_other (Incoming place) plain = plain
@@ -122,6 +141,7 @@ module _ (contexts : List WasiSocketsCtx) (line : ℕ) (origin : Step) where
   is_other h kind _ _ (walk.AStream c handle place _ is e opened) = of_tcp kind place e
   is_other h kind _ _ (walk.AnAcceptedStream c listener handle place _ r is e made own g) = of_tcp kind place e
   is_other h kind _ _ (walk.APlain _ makes numbered) = plain_other kind (makes_plain origin kind makes)
+  is_other h kind _ _ (walk.AnEnd socket place _ end r m in_it e g is made) = of_end socket kind origin m
   is_other h _ _ _ _ = tt
 
   pub polls_apart : (h : Here) (op : Operation) (after : End × List Item → Here) → Held h op after → (end : End × List Item) → Parts h → Parts (after end)
@@ -143,6 +163,9 @@ module _ (contexts : List WasiSocketsCtx) (line : ℕ) (origin : Step) where
   handles_apart h _ _ _ (OfLine kind parent sock m) i = has_other h kind parent (is_other h kind parent sock m) i
   handles_apart h _ _ _ (OfAccepted c s place r is e o g) i =
       has_handle h (Tcp2 place) (Some s) (Made.Marked h.machine.table.next place) tt tt tt i
+  handles_apart h _ _ _ (OfPlain c s remaining place r is e o g) i = has_handle h (Tcp3 place) (Some s) Past tt tt tt i
+  handles_apart h _ _ _ (OfListener n handle reached place r q m g has e) i = has_handle h (Listen3 place) (Some handle) Past tt tt tt i
+  handles_apart h _ _ _ (OfResult socket place slot r m made e g) i = has_handle h (Result3 slot) (Some socket) Past tt tt tt i
   handles_apart h _ _ _ (OfCreated face place u g) i = has_handle h (udp_kind face place) None Past (udp_other face place) tt tt i
   handles_apart h _ _ _ (OfStream place n handle reached kind next new of) i =
       has_next h n handle reached new place kind next of i
@@ -166,17 +189,18 @@ module _ (contexts : List WasiSocketsCtx) (line : ℕ) (origin : Step) where
       → Both h → Both now
   becomes_apart es h _ (Learnt place r side told at g e) b i = (put_tcp h place r g _ i.0, i.1)
   becomes_apart es h _ (IsClosed place r side q g e) b i = (put_tcp h place r g _ i.0, i.1)
-  becomes_apart es h _ (GivenUp place r q g) b i = (put_tcp h place r g _ i.0, i.1)
+  becomes_apart es h _ (GivenUp place r q goes g) b i = (put_tcp h place r g _ i.0, i.1)
   becomes_apart es h _ (UdpLearnt place o socket g e) b i = (put_open h place o _ g (λ e. e) i.0, i.1)
   becomes_apart es h _ (UdpIsClosed place o q g) b i =
-      let none = subst (owned.MadeSo h.machine.table h.machine.store.records) q.1.made b.0.1 place (udp_owner q.1.kind place q.1.socket) in
-      (put_none h place (UdpRecord.Closed o.inner.side) (λ a l e. none a l (inr (ap stream_place e))) i.0, i.1)
+      let none = subst (owned.MadeSo h.machine.table h.machine.store.records) q.1.made b.0.1 in
+      (put_none h place (UdpRecord.Closed o.inner.side) (λ a l e. none.0 place (udp_owner q.1.kind place q.1.socket) a l (inr (ap stream_place e))) i.0, i.1)
   becomes_apart es h _ (UdpGivenUp place create q g) b i =
       (put_none h place (UdpRecord.Closed create.operation.who.side) (not_yet h place create g i.0) i.0, i.1)
   becomes_apart es h _ (UdpBegun face ctx family r c u m) b i =
       let made = udp_after_create (own_of line) ctx.name family r in
       (begun h made i.0, begun_same (λ t made standing. AreUnder t made standing) h made i.1)
   becomes_apart es h _ (Resolved host records l same) b i = (found h records same i.0, i.1)
+  becomes_apart es h _ (StandsOn beside) b i = i
   becomes_apart es h _ (HasHandle kind parent made k) b i = handles_apart h kind parent made k i
   becomes_apart es h _ (NoRoom made none) b i = no_room h made none i
   becomes_apart es h _ (Created face ctx family c u m) b i = created h _ i
@@ -233,10 +257,10 @@ HasStreams m = (OwnedIn m × HasConnects m) × (Streams m.table m.store.records 
 
 -- so it is where a line begins, and where it is over
 pub streams_start : (m : Machine) (own : Own) → HasStreams m → Apart (Starts m own)
-streams_start m own i = (((i.0.0, tt), (starts_with m.store.records m.store.standing own i.0.1, tt)), i.1)
+streams_start m own i = (((i.0.0.0, tt, i.0.0.1), (starts_with m.store.records m.store.standing own i.0.1, tt)), i.1)
 
 pub streams_over : (m : Machine) → Apart (Over m) → HasStreams m
-streams_over m i = ((i.0.0.0, i.0.1.0), i.1)
+streams_over m i = (((i.0.0.0, i.0.0.2), i.0.1.0), i.1)
 
 pub first_streams : HasStreams first_state
 first_streams = ((first_in, first_connects), (record { apart = record { there = λ a place l e. absurd l; single = λ a b place l m d e. absurd l }; makes = tt; stands = tt }, record { older = λ k kind e. absurd (cc); makes = tt; stands = tt }))

@@ -20,9 +20,10 @@ use Rattle.wasi_walks.proofs.walks.Here.{ConnectStands, IsConnectOf, NoConnectIn
 use Rattle.wasi_walks.proofs.walks.Moves as walk
 use Rattle.wasi_walks.proofs.walks.Moves.{Found, FoundUdp, GoesOn, Held, Here, Made, Move, Own, Past, SameSockets, ToConnect, Unused, Used, made_so, put, put_udp, udp_begun}
 use Rattle.wasi_walks.proofs.walks.OfState.{Becomes, Created, CreatedWith, GivenUp, Handles, HasHandle, HasNoRoom, IsClosed, Learnt, NoRoom}
-use Rattle.wasi_walks.proofs.walks.OfState.{OfError, OfLine, OfState, Resolved, UdpBegun, UdpGivenUp, UdpIsClosed, UdpLearnt, Writing, begins_state, of_state}
+use Rattle.wasi_walks.proofs.walks.OfState.{OfError, OfLine, OfState, Resolved, StandsOn, UdpBegun, UdpGivenUp, UdpIsClosed, UdpLearnt, Writing, begins_state, of_state}
 use Rattle.wasi_causes.proofs.Words.{Kind}
 use Rattle.wasi_walks.proofs.Places.{push_found, push_was, put_found, put_was, tcp_sort, udp_sort}
+use Rattle.wasi_walks.proofs.PipeLists.{slot_push_same}
 
 -- == what is in progress
 -- the connect of the record is pending, or the line goes on with it
@@ -212,16 +213,27 @@ module _ (contexts : List WasiSocketsCtx) (line : ℕ) (origin : Step) where
   moves_quiet _ _ (walk.IsGone h place r q g e) i = put_tcp h place _ i
   moves_quiet _ _ (walk.Reconnects h place r c now g e s t u) i = put_tcp h place _ i
   moves_quiet _ _ (walk.Opens h place r c d g e n) i = put_tcp h place _ i
+  moves_quiet _ _ (walk.TakesEnd h handle place r now of g takes) i = put_tcp h place now i
+  moves_quiet _ _ (walk.AddsSlot h s) i = ((found {new = λ op. ⊥} h _ (slot_push_same h.machine.store.records s) i).0, tt)
   moves_quiet _ _ (walk.BeginsConnect h place r side a bound at g d to known idle own) i = begun_tcp h place _ Used Unused own unused i
   moves_quiet _ _ (walk.BeginsBind h place r side a at g d to own) i = begun_tcp h place _ Used Unused own unused i
   moves_quiet _ _ (walk.BeginsWrite h place n r s half permit bytes at g e w within own) i = begun_tcp h place _ Used (Own.ToWrite half.side bytes) own (to_write half.side bytes) i
-  moves_quiet _ _ (walk.BeginsListen h place r side at g d bound none to idle own) i = begun_tcp h place _ Used Unused own unused i
+  moves_quiet _ _ (walk.BeginsListen h place r side bound at g d known free none to idle own) i = begun_tcp h place _ Used Unused own unused i
   moves_quiet _ _ (walk.BeginsAccept h place n r l at g e a own) i = begun_tcp h place _ (Own.Names (n + 1)) (Own.Names n) own (names n) i
   moves_quiet _ _ (walk.Unlistens h place r op q g e c o) i = put_tcp h place _ i
   moves_quiet _ _ (walk.Forgets h place r l c g e a) i = put_tcp h place _ i
   moves_quiet _ _ (walk.CancelsBind h place r op q g e) i = put_tcp h place _ i
   moves_quiet _ _ (walk.Joins h c handle place r l new peer is of u g e a) i =
       let idle = walk.accepting_now r l accepting.Idle in (push_tcp (tcp2_put h.machine.store.records place idle) (walk.joined l new peer) h.machine.store.standing h.own (put_tcp h place idle i).0, tt)
+  moves_quiet _ _ (walk.JoinsPlain h c listener remaining place r l new peer is of u g e a) i =
+      let idle = walk.accepting_now r l accepting.Idle in (push_tcp (tcp2_put h.machine.store.records place idle) (walk.joined_plain l new peer) h.machine.store.standing h.own (put_tcp h place idle i).0, tt)
+  moves_quiet _ _ (walk.JoinsFault h place r l c u g e a) i =
+      let idle = walk.accepting_now r l accepting.Idle in (push_tcp (tcp2_put h.machine.store.records place idle) (walk.faulted l c) h.machine.store.standing h.own (put_tcp h place idle i).0, tt)
+  moves_quiet _ _ (walk.Frees h place made) i = (i.0, tt)
+  moves_quiet _ _ (walk.IsUnheld h place r g free) i = (i.0, tt)
+  moves_quiet _ _ (walk.RemembersListen h marks place r is under g none) i = (i.0, tt)
+  moves_quiet _ _ (walk.RecallsListen h ids place marks e) i = (i.0, tt)
+  moves_quiet _ _ (walk.StandsListen h ids place marks r quiet at made g k) i = restood h (standing_as ids (StandingCall.Listen place marks)) quiet tt i
   moves_quiet _ _ (walk.Leaves h) i = (i.0, tt)
   moves_quiet _ _ (walk.Watches h own) i = (i.0, tt)
   moves_quiet _ _ (walk.AwaitsCreate h place face create is g) i = (i.0, tt)
@@ -230,7 +242,7 @@ module _ (contexts : List WasiSocketsCtx) (line : ℕ) (origin : Step) where
   moves_quiet _ _ (walk.RecallsStreams h ids place handle e own) i = ((spent h (ToConnect place) Unused own unused i).0, tt)
   moves_quiet _ _ (walk.CallsHandles h kind calls quiet) i = (i.0, no_start h.machine.store.standing quiet)
   moves_quiet _ _ (walk.RecallsCall h ids call e) i = (i.0, subst NoConnect (sym e) tt)
-  moves_quiet _ _ (walk.Empties h handle kind e none) i = (i.0, tt)
+  moves_quiet _ _ (walk.Empties h handle kind q e none) i = (i.0, tt)
   moves_quiet _ _ (walk.Stands h ids call r quiet at g k) i = restood h (standing_as ids call) quiet (goes_none call r k) i
   moves_quiet _ _ (walk.StandsUdpBind h ids place face o op quiet at g e) i = restood h (standing_as ids (StandingCall.UdpBind place face)) quiet tt i
   moves_quiet _ _ (walk.StandsUdpCreate h ids place face create quiet made g) i = restood h (standing_as ids (StandingCall.UdpCreate place face)) quiet tt i
@@ -319,13 +331,14 @@ module _ (contexts : List WasiSocketsCtx) (line : ℕ) (origin : Step) where
   pub becomes_quiet : (h now : Here) → Becomes contexts line origin h now → Quiet h → Quiet now
   becomes_quiet h _ (Learnt place r side told at g e) i = put_tcp h place _ i
   becomes_quiet h _ (IsClosed place r side q g e) i = put_tcp h place _ i
-  becomes_quiet h _ (GivenUp place r q g) i = put_tcp h place _ i
+  becomes_quiet h _ (GivenUp place r q goes g) i = put_tcp h place _ i
   becomes_quiet h _ (UdpLearnt place o socket g e) i = put_open h place o _ g refl (λ some. some) i
   becomes_quiet h _ (UdpIsClosed place o q g) i = put_none h place (UdpRecord.Closed o.inner.side) (closed_none o.inner.side) i
   becomes_quiet h _ (UdpGivenUp place create q g) i =
       let side = create.operation.who.side in put_none h place (UdpRecord.Closed side) (closed_none side) i
   becomes_quiet h _ (UdpBegun face ctx family r c own m) i = begun h (udp_after_create (own_of line) ctx.name family r) own i
   becomes_quiet h _ (Resolved host records l same) i = found h records same i
+  becomes_quiet h _ (StandsOn beside) i = i
   becomes_quiet h _ (HasHandle kind parent made k) i = (i.0, handles_quiet h kind parent made k i)
   becomes_quiet h _ (NoRoom made none) i = (i.0, no_room made h.machine.store.standing none)
   becomes_quiet h _ (Created face ctx family c own m) i = (created h _ own i, i.1)

@@ -3,14 +3,16 @@
 use Rattle.wasi_causes.proofs.Words.{Entry, Give, IsSome, Kind, Left, List, Machine, Option, Pollable, Reply, Some, Step, WasiSocketsCtx, Watched, [], first_state, kind_at, refl, run, ℕ, ◌≡◌}
 use Rattle.wasi_host.specs.Kinds.{watch_of}
 use Rattle.wasi_walks.specs.Missing.{MissesWatched}
-use Rattle.wasi_causes.proofs.Derived.{NamesWatched, OwnedIn, runs_own, watched_record}
+use Rattle.wasi_records.specs.Records.{tcp2_at}
+use Rattle.wasi_walks.specs.Answered.{streams_in}
+use Rattle.wasi_causes.proofs.Derived.{NamesWatched, OwnedIn, held, runs_own, streams_held, watched_record}
 use Rattle.wasi_causes.proofs.Words.{place_in, slice_get}
 
 module _ (m : Machine) (i : OwnedIn m) where
   names_miss : (w : Watched) → NamesWatched w (slice_get m.store.records (place_in w)) → MissesWatched m (Some w) → ⊥
-  names_miss (Watched.Socket place) names misses = absurd (cc)
-  names_miss (Watched.Input place) names misses = absurd (cc)
-  names_miss (Watched.Output place) names misses = absurd (cc)
+  names_miss (Watched.Socket place) names misses = let there : IsSome (tcp2_at m.store.records place) = held (tcp2_at m.store.records place) names in absurd (cc)
+  names_miss (Watched.Input place) names misses = let there : IsSome (streams_in (tcp2_at m.store.records place)) = streams_held (tcp2_at m.store.records place) names in absurd (cc)
+  names_miss (Watched.Output place) names misses = let there : IsSome (streams_in (tcp2_at m.store.records place)) = streams_held (tcp2_at m.store.records place) names in absurd (cc)
   names_miss (Watched.Incoming place) names misses = absurd (cc)
   names_miss _ names misses = misses
 

@@ -7,3 +7,4 @@ pub mod ConnectEnds
 pub mod ConnectPolls
 pub mod UdpConnectEnds
 pub mod DatagramPolls
+pub mod PendingListens

@@ -8,6 +8,7 @@ pub mod Live
 pub mod AsReady
 pub mod Places
 pub mod Unnamed
+pub mod NoMore
 pub mod Begins
 pub mod Quiet
 pub mod Leaves

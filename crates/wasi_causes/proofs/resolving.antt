@@ -2,3 +2,5 @@
 pub mod Begins
 pub mod Hands
 pub mod Turns
+pub mod P3Resolves
+pub mod P3ResolvePolls

@@ -9,5 +9,11 @@ pub mod UdpBinds
 pub mod P3Binds
 pub mod P3Connects
 pub mod P3UdpConnects
+pub mod P3Listens
+pub mod P3Accepts
+pub mod P3ListenPolls
+pub mod P3Ends
+pub mod P3Results
+pub mod ListenLives
 pub mod P3UdpPolls
 pub mod UdpCreates

@@ -9,6 +9,9 @@ pub mod Permits
 pub mod Makes
 pub mod Cancels
 pub mod Composed
+pub mod EndsClosed
+pub mod EndPolls
+pub mod EndAnswers
 pub mod Facts
 pub mod Missing
 pub mod Looks

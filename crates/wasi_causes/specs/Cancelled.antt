@@ -57,7 +57,7 @@ pub record OutgoingGivenUp (m : Machine) (place : ℕ) (o : OpenUdp) (es : List 
 -- a bind and a connect leave nothing in progress; an output that waits stays as it is, and what a call that blocks has written or begun
 abbrev pub CancelsBy : Machine → List Entry → Machine → StandingCall → Type 0
 CancelsBy m es after (Bind place face) = (r : TcpRecord) → tcp2_at m.store.records place ≡ Some r → (es ≡ []) × (after ≡ putting (nothing_stands m) place (with_progress r doing.Nothing))
-CancelsBy m es after (Listen place) = (r : TcpRecord) → tcp2_at m.store.records place ≡ Some r → ListenGivenUp m place r es after
+CancelsBy m es after (Listen place handle) = (r : TcpRecord) → tcp2_at m.store.records place ≡ Some r → ListenGivenUp m place r es after
 CancelsBy m es after (DropOutput place) = OnlyUnstands m es after
 CancelsBy m es after (UdpCreate place face) = (create : Create) → udp2_at m.store.records place ≡ Some (udp.Creating create) → CreateGivenUp m place create es after
 CancelsBy m es after (UdpBind place face) = (o : OpenUdp) → open_at m.store.records place ≡ Some o → (es ≡ []) × (after ≡ putting_udp (nothing_stands m) place (with_udp_progress o udp_doing.Nothing))

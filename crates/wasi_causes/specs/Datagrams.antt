@@ -14,7 +14,7 @@ use Rattle.wasi_records.specs.declared.udp.OpenUdp.{OpenUdp}
 use Rattle.wasi_host.specs.DatagramCalls.{without_receives}
 use Rattle.wasi_records.specs.Datagrams.{has_streams, permit_of, permitted, sends}
 use Rattle.wasi_host.specs.Kinds.{HandleTable, kind_at, watch_of, with_handle, without_handle}
-use Rattle.wasi_host.specs.Machine.{udp_socket_at}
+use Rattle.wasi_host.specs.Machine.{tcp3_at, udp_socket_at}
 use Rattle.wasi_records.specs.Receiving.{receives}
 use Rattle.wasi_records.specs.Records.{open_at}
 use Rattle.wasi_host.specs.Standing.{standing_as}
@@ -83,10 +83,11 @@ abbrev pub LacksRoomForStreams : Machine → StandingCall → Type 0
 LacksRoomForStreams m (standing.UdpConnect place handle) = IsSomeAnd (udp_socket_at m handle) (λ its. LacksRoomForBoth m.table its handle)
 LacksRoomForStreams m _ = ⊥
 
--- where datagram streams are pending, the handle that they were asked of is that of their socket; and where a call that blocks is, what
+-- where datagram streams, or a listen of 0.3, are pending, the handle that they were asked of is that of their socket; and where a call that blocks is, what
 -- it is on is there, and what isn't written yet is no more than one call may write
 abbrev pub HasItsHandle : Machine → StandingCall → Type 0
 HasItsHandle m (standing.UdpConnect place handle) = udp_socket_at m handle ≡ Some place
+HasItsHandle m (standing.Listen place (Some handle)) = tcp3_at m handle ≡ Some place
 HasItsHandle m (standing.Blocking call) = HasItsStreams m call × IsShort call
 HasItsHandle m _ = ⊤
 

@@ -24,7 +24,7 @@ use Rattle.wasi_causes.specs.Udp.{putting_udp}
 -- check was answered no, and else what was reported then. A call of another kind doesn't fail so.
 abbrev pub left_failed : (m : Machine) → {entries : List Entry} {call : StandingCall} {c : ErrorCode} → CallFails m entries call c → Machine
 left_failed m (BindFailed place face r op c at is why) = putting (nothing_stands m) place (with_progress r doing.Nothing)
-left_failed m (ListenFailed place r op c at is why) = putting (nothing_stands m) place (with_listening r listening.Not)
+left_failed m (ListenFailed place handle r op c at is why) = putting (nothing_stands m) place (with_listening r listening.Not)
 left_failed m (CreateFailed place face create c at why) = giving_back (nothing_stands m) place
 left_failed m (UdpBindFailed place face o op c at is why) = putting_udp (nothing_stands m) place (with_udp_progress o udp_doing.Nothing)
 left_failed m (UdpConnect3Failed place o op c at is why) = putting_udp (nothing_stands m) place (record o { inner = with_given o.inner (given_by why); connecting = None })

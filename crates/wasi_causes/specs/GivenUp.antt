@@ -5,6 +5,7 @@ use Rattle.std.specs.Prelude.{◌≡◌, ◌≢◌, ⊤, ℕ, Bool, true, false,
 use Rattle.wasi_host.specs.GivingBack.{given_back}
 use Rattle.wasi_host.specs.Store.{with_socket}
 use Rattle.wasi_records.specs.Holding.{is_held}
+use Rattle.wasi_records.specs.Listening.{with_listening}
 use Rattle.wasi_records.specs.Names.{own_of}
 use Rattle.wasi_addr.specs.declared.address.IpSocketAddress.{IpSocketAddress}
 use Rattle.wasi_addr.specs.declared.address.ShutdownType.{ShutdownType}
@@ -81,12 +82,16 @@ without m handle = record m { table = without_handle m.table handle }
 abbrev pub giving_back : Machine → ℕ → Machine
 giving_back m place = record m { store = given_back place m.store }
 
--- all but a socket, an output of a connection, a datagram stream, a lookup and a pipe: nothing is asked where it is dropped, and nothing
--- else goes
+-- all but a socket, a listener, an end of 0.3 and its result slot, an output of a connection, a datagram stream, a lookup and a pipe:
+-- nothing is asked where it is dropped, and nothing else goes
 abbrev pub GoesAtOnce : Kind → Type 0
 GoesAtOnce (kind.Tcp2 place) = ⊥
 GoesAtOnce (kind.Tcp3 place) = ⊥
 GoesAtOnce (kind.Udp3 place) = ⊥
+GoesAtOnce (kind.Listen3 place) = ⊥
+GoesAtOnce (kind.Receive3 end) = ⊥
+GoesAtOnce (kind.Send3 end) = ⊥
+GoesAtOnce (kind.Result3 place) = ⊥
 GoesAtOnce (kind.Udp2 place) = ⊥
 GoesAtOnce (kind.Output place) = ⊥
 GoesAtOnce (kind.Incoming place) = ⊥
@@ -147,6 +152,15 @@ LetsGoBy m line handle place r es after false = (es ≡ socket_given_up (own_of 
 
 abbrev pub LetsGo : Machine → ℕ → ℕ → ℕ → TcpRecord → List Entry → Machine → Type 0
 LetsGo m line handle place r es after = LetsGoBy m line handle place r es after (is_held r)
+
+-- The same of a listener, whose socket is as this one before: what it listens by is released first.
+abbrev pub ListenerGoesBy : Machine → ℕ → ℕ → ℕ → TcpRecord → List Entry → Machine → Bool → Type 0
+ListenerGoesBy m line handle place r es after true =
+    (es ≡ listening_given_up r.listening) × (after ≡ record (without m handle) { store = with_socket m.store place (with_listening r listening.Not) })
+ListenerGoesBy m line handle place r es after false = (es ≡ socket_given_up (own_of line) r) × IsGone m handle place after
+
+abbrev pub ListenerGoes : Machine → ℕ → ℕ → ℕ → TcpRecord → List Entry → Machine → Type 0
+ListenerGoes m line handle place r es after = ListenerGoesBy m line handle place r es after (is_held (with_listening r listening.Not))
 
 -- At most one look was made at whether a network socket may be written to.
 pub data LooksOnce (own : OpId) : List Entry → Type 0 where

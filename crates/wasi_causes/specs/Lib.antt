@@ -1,4 +1,5 @@
 pub mod GivenUp
+pub mod Gone
 pub mod Options
 pub mod Turns
 pub mod Reached
@@ -27,6 +28,9 @@ pub mod Refusals
 pub mod P3Udp
 pub mod P3Binds
 pub mod P3UdpConnects
+pub mod P3Listens
+pub mod P3Streams
+pub mod P3Lookups
 pub mod P3Connects
 pub mod NamedRecords
 pub mod TurnPolls

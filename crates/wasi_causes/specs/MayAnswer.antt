@@ -1,5 +1,5 @@
--- What each step may reply: fields of its kinds, the words that may refuse it, an end or a failure of a stream, its traps, pending,
--- busy, and `no-such-call`.
+-- What each step may reply: fields of its kinds, the words that may refuse it, an end or a failure of a stream, what ends of 0.3
+-- answer, its traps, pending, busy, and `no-such-call`.
 use Rattle.std.specs.Prelude.{◌≡◌, ◌⊎◌, ⊤, ℕ, ◌+◌, true, List, [], ◌∷◌, Option}
 use Rattle.wasi_addr.specs.declared.address.IpAddress.{IpAddress}
 use Rattle.wasi_addr.specs.declared.address.IpSocketAddress.{IpSocketAddress}
@@ -17,15 +17,15 @@ use Rattle.wasi_steps.specs.declared.reply.Reply.TheVariants as reply
 use Rattle.wasi_steps.specs.declared.step.Step.{Step}
 use Rattle.wasi_steps.specs.declared.guest_call.GuestCall.TheVariants as guest
 use Rattle.wasi_steps.specs.declared.step.Step.TheVariants as step
-use Rattle.wasi_steps.specs.Replies.{FieldKind, ANumber, SomeBytes, Truth, Nothing, FieldKinds, Each, AnAddress, AnIpOrNone, ADatagramList, SomeNumbers, OfAPolledCall, polled_kinds, kinds_of}
-use Rattle.wasi_steps.specs.Reply.{address_values, datagram_values, found_values, numbers_fields}
+use Rattle.wasi_steps.specs.Replies.{FieldKind, ANumber, SomeBytes, Truth, Nothing, FieldKinds, Each, AnAddress, AnIpOrNone, ADatagramList, SomeNumbers, SomeIps, OfAPolledCall, polled_kinds, kinds_of}
+use Rattle.wasi_steps.specs.Reply.{address_values, datagram_values, found_values, ips_values, numbers_fields}
 use Rattle.wasi_walks.specs.Answered.{word_of_code}
 use Rattle.wasi_walks.specs.Missing.{IsWrite, MakesHandle}
 use Rattle.wasi_walks.specs.Waiting.{IsPoll}
 use Rattle.wasi_causes.specs.Cancelled.{IsCancel}
 use Rattle.wasi_causes.specs.Datagrams.{IsUdpSend, IsUdpStream}
-use Rattle.wasi_causes.specs.GivenUp.{IsDrop}
 use Rattle.wasi_causes.specs.PollableCalls.{IsEmptyWait}
+use Rattle.wasi_causes.specs.P3Streams.{GivesUp, IsEndPoll, IsResultStep, TakesOut}
 use Rattle.wasi_causes.specs.Refusals.{p3_word}
 
 -- == the fields of a reply that is done
@@ -50,15 +50,20 @@ LikeOneOf (kinds ∷ lists) fields = EachLike kinds fields ⊎ LikeOneOf lists f
 abbrev pub LikeNumbers : List Field → Type 0
 LikeNumbers fields = (first : ℕ) × (others : List ℕ) × (fields ≡ numbers_fields (first ∷ others))
 
+-- those of some addresses with no port
+abbrev pub LikeIps : List Field → Type 0
+LikeIps fields = (addresses : List IpAddress) × (fields ≡ ips_values addresses)
+
 -- one of each of these kinds, or the numbers of an address, or those of one with no port, or none, or the fields of datagrams, or
--- numbers, or those of a call that can be pending; nothing is said of widths
+-- numbers, or those of some addresses, or those of a call that can be pending; nothing is said of widths
 abbrev pub AreLike : FieldKinds → List Field → Type 0
 AreLike (Each kinds) fields = EachLike kinds fields
 AreLike AnAddress fields = (a : IpSocketAddress) × (fields ≡ address_values a)
 AreLike AnIpOrNone fields = (found : Option IpAddress) × (fields ≡ found_values found)
 AreLike ADatagramList fields = (ds : List IncomingDatagram) × (fields ≡ datagram_values ds)
 AreLike SomeNumbers fields = LikeNumbers fields
-AreLike OfAPolledCall fields = LikeOneOf polled_kinds fields ⊎ LikeNumbers fields
+AreLike SomeIps fields = LikeIps fields
+AreLike OfAPolledCall fields = LikeOneOf polled_kinds fields ⊎ (LikeNumbers fields ⊎ LikeIps fields)
 
 -- == the words of refusals
 -- The word of a code that the network may tell, or a test of the host's own answers.
@@ -107,13 +112,17 @@ MayRefuse (step.Call ctx (guest.P3TcpGet socket option)) w = IsP3Word w
 MayRefuse (step.Call ctx (guest.P3TcpSet socket setting)) w = IsP3Word w
 MayRefuse (step.Call ctx (guest.P3UdpCreate family)) w = IsP3Word w
 MayRefuse (step.Call ctx (guest.P3UdpBind socket a)) w = IsP3Word w
+MayRefuse (step.Call ctx (guest.P3TcpListen socket)) w = IsP3Word w
+MayRefuse (step.Call ctx (guest.P3Accept listener remaining)) w = w ≡ word.InvalidState
+MayRefuse (step.Call ctx (guest.P3Result slot)) w = IsP3Word w
 MayRefuse (step.Call ctx (guest.P3UdpConnect socket a)) w = IsP3Word w
 MayRefuse (step.Call ctx (guest.P3UdpDisconnect socket)) w = IsP3Word w
 MayRefuse (step.Call ctx (guest.P3UdpLocalAddress socket)) w = IsP3Word w
 MayRefuse (step.Call ctx (guest.P3UdpRemoteAddress socket)) w = w ≡ word.InvalidState
 MayRefuse (step.Call ctx (guest.P3UdpGet socket option)) w = IsP3Word w
 MayRefuse (step.Call ctx (guest.P3UdpSet socket setting)) w = IsP3Word w
-MayRefuse (step.Poll n) w = IsCodeWord w ⊎ IsP3Word w
+MayRefuse (step.Call ctx (guest.P3Resolve name)) w = (w ≡ word.PermanentResolverFailure) ⊎ ((w ≡ word.InvalidArgument) ⊎ (w ≡ word.NameUnresolvable))
+MayRefuse (step.Poll n) w = IsCodeWord w ⊎ (IsP3Word w ⊎ (w ≡ word.NameUnresolvable))
 MayRefuse _ w = ⊥
 
 -- == the other replies
@@ -142,6 +151,7 @@ MayMiss (step.Call ctx (guest.TcpCreate family)) = ⊥
 MayMiss (step.Call ctx (guest.UdpCreate family)) = ⊥
 MayMiss (step.Call ctx (guest.P3UdpCreate family)) = ⊥
 MayMiss (step.Call ctx (guest.P3TcpCreate family)) = ⊥
+MayMiss (step.Call ctx (guest.P3Resolve name)) = ⊥
 MayMiss (step.Call ctx (guest.PipeIn bytes)) = ⊥
 MayMiss (step.Call ctx (guest.PipeOut capacity)) = ⊥
 MayMiss (step.Call ctx guest.Sink) = ⊥
@@ -159,7 +169,7 @@ IsBlockingWrite _ = ⊥
 
 abbrev pub MayTrap : Step → TrapKind → Type 0
 MayTrap s NoSuchHandle = MayMiss s
-MayTrap s HasChildren = IsDrop s
+MayTrap s HasChildren = TakesOut s
 MayTrap s Full = MakesHandle s
 MayTrap s NotPermitted = IsWrite s ⊎ IsUdpSend s
 MayTrap s StreamsAlive = IsUdpStream s
@@ -177,7 +187,9 @@ MayWait line (step.Call ctx (guest.P3TcpBind socket a)) n = n ≡ line
 MayWait line (step.Call ctx (guest.P3TcpConnect socket a)) n = n ≡ line
 MayWait line (step.Call ctx (guest.P3UdpCreate family)) n = n ≡ line
 MayWait line (step.Call ctx (guest.P3UdpBind socket a)) n = n ≡ line
+MayWait line (step.Call ctx (guest.P3TcpListen socket)) n = n ≡ line
 MayWait line (step.Call ctx (guest.P3UdpConnect socket a)) n = n ≡ line
+MayWait line (step.Call ctx (guest.P3Resolve name)) n = n ≡ line
 MayWait line (step.Call ctx (guest.UdpStartBind socket network a)) n = n ≡ line
 MayWait line (step.Call ctx (guest.UdpStream socket remote)) n = n ≡ line
 MayWait line (step.Call ctx (guest.Drop handle)) n = n ≡ line
@@ -198,11 +210,13 @@ may_answer line s (reply.Ok fields) = AreLike (kinds_of s) fields
 may_answer line s (reply.Err w) = MayRefuse s w
 may_answer line s reply.Closed = IsStreamCall s
 may_answer line s (reply.Failed w handle) = IsStreamCall s × IsCodeWord w
+may_answer line s reply.Cancelled = GivesUp s
+may_answer line s reply.Dropped = IsEndPoll s
+may_answer line s reply.Unfilled = IsResultStep s
 may_answer line s (reply.Trap kind) = MayTrap s kind
 may_answer line s (reply.Pending n) = MayWait line s n
 may_answer line s reply.Busy = (is_guest_call s ≡ true) ⊎ IsPoll s
 may_answer line s reply.NoSuchCall = IsPoll s ⊎ IsCancel s
-may_answer line s _ = ⊥
 
 -- these are replies of the first of these steps, one each, from this line on
 abbrev pub EachMayAnswer : ℕ → List Step → List Reply → Type 0

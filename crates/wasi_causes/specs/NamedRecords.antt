@@ -1,7 +1,7 @@
 -- Which records handles, pending calls and jobs name, and which were given back.
 use Rattle.std.specs.Prelude.{◌≡◌, ℕ, Option, Some, None, slice_get}
 use Rattle.wasi_host.specs.declared.kind.Kind.{Kind}
-use Rattle.wasi_host.specs.declared.kind.Kind.TheVariants.{Tcp2, Tcp3, Udp2, Udp3, Input, Output, PlainInput, PlainOutput, Incoming, Outgoing, Pollable, Lookup}
+use Rattle.wasi_host.specs.declared.kind.Kind.TheVariants.{Tcp2, Tcp3, Udp2, Udp3, Input, Output, PlainInput, PlainOutput, Incoming, Outgoing, Pollable, Lookup, Listen3, Result3}
 use Rattle.wasi_host.specs.declared.kind.PlainInput.TheVariants as plain_input
 use Rattle.wasi_host.specs.declared.kind.PlainOutput.TheVariants as plain_output
 use Rattle.wasi_host.specs.declared.kind.Watched.{Watched}
@@ -26,12 +26,15 @@ record_watched (watched.Outgoing place) = Some place
 record_watched (watched.Lookup place) = Some place
 record_watched watched.Plain = None
 
--- the record that a handle of this kind is of; a network, an error, a sink and a closed stream have none
+-- the record that a handle of this kind is of; a network, an error, a sink and a closed stream have none, and an end may outlive its
+-- socket's
 abbrev pub record_named : Kind → Option ℕ
 record_named (Tcp2 place) = Some place
 record_named (Tcp3 place) = Some place
 record_named (Udp2 place) = Some place
 record_named (Udp3 place) = Some place
+record_named (Listen3 place) = Some place
+record_named (Result3 place) = Some place
 record_named (Input place) = Some place
 record_named (Output place) = Some place
 record_named (PlainInput (plain_input.Pipe place)) = Some place
@@ -45,7 +48,7 @@ record_named _ = None
 -- and that of a pending call; one that blocks is on handles
 abbrev pub call_names : StandingCall → Option ℕ
 call_names (call.Bind place face) = Some place
-call_names (call.Listen place) = Some place
+call_names (call.Listen place handle) = Some place
 call_names (call.DropOutput place) = Some place
 call_names (call.UdpCreate place face) = Some place
 call_names (call.UdpBind place face) = Some place

@@ -2,9 +2,10 @@
 -- afterwards.
 pub use Rattle.wasi_causes.specs.MayAnswer.{AreLike, EachMayAnswer, IsBlockingWrite, IsCodeWord, IsP3Word, IsStreamCall, MayMiss, MayRefuse, MayTrap, MayWait, may_answer}
 pub use Rattle.wasi_causes.specs.Plain.{Quiet}
-use Rattle.wasi_records.specs.Records.{input_pipe_at, output_pipe_at, tcp2_at, udp2_at, open_at, lookup_at}
+use Rattle.wasi_records.specs.Records.{input_pipe_at, output_pipe_at, tcp2_at, open_at, lookup_at}
 use Rattle.std.specs.Prelude.{IsSome}
 use Rattle.wasi_walks.specs.Answered.{streams_in}
+use Rattle.wasi_addr.specs.declared.address.ShutdownType.TheVariants.{Receive, Send}
 use Rattle.wasi_addr.specs.declared.address.SocketAddressFamily.{SocketAddressFamily}
 use Rattle.std.specs.Prelude.{IfSome}
 use Rattle.wasi_world.specs.declared.ids.Ids.{Ids}
@@ -32,9 +33,9 @@ use Rattle.wasi_causes.specs.MayAnswer.{AreLike, IsBlockingWrite, IsCodeWord, Is
 use Rattle.wasi_causes.specs.Parts.{Skips, Splices}
 use Rattle.wasi_causes.specs.PollableCalls.{BeginsToWait, BlocksOn, IsEmptyWait, WatchedAreThere}
 use Rattle.wasi_host.specs.declared.polling.Look.TheVariants.{First}
-use Rattle.wasi_causes.specs.Plain.{EndsCheck, EndsOutput, EndsPlain, InputPipeGone, MakesPlain, OfOutputPipe, OutputPipeGone, PastCapacity, PermitsPlain, PlainCheck, PlainFlush, PlainRead, PlainWrite, TakesFront, TakesNothing, WatchesPlain, WritesPlain}
+use Rattle.wasi_causes.specs.Plain.{EndsCheck, EndsOutput, EndsPlain, MakesPlain, OfOutputPipe, PastCapacity, PermitsPlain, PlainCheck, PlainFlush, PlainRead, PlainWrite, TakesFront, TakesNothing, WatchesPlain, WritesPlain}
 use Rattle.wasi_world.specs.declared.outcome.TrapKind.TheVariants.{Capacity, EmptyList, TooLong}
-use Rattle.std.specs.Prelude.{◌≡◌, ◌⊎◌, ⊤, ℕ, ◌+◌, ◌<◌, Bool, true, List, [], ◌∷◌, ◌↔◌, false, length, Option, Some, None, IsSomeAnd}
+use Rattle.std.specs.Prelude.{◌≡◌, ◌⊎◌, ⊤, ℕ, ◌+◌, ◌<◌, Bool, true, List, [], ◌∷◌, ◌↔◌, false, length, Some, None, IsSomeAnd}
 use Rattle.wasi_world.specs.declared.outcome.TrapKind.{TrapKind}
 use Rattle.wasi_world.specs.declared.outcome.TrapKind.TheVariants.{NoSuchHandle, HasChildren, Full, NotPermitted, StreamsAlive}
 use Rattle.wasi_steps.specs.declared.reply.CodeWord.{CodeWord}
@@ -51,8 +52,7 @@ use Rattle.wasi_machine.specs.Machine.{first_ids, context_at}
 use Rattle.wasi_steps.specs.Replies.{kinds_of}
 use Rattle.wasi_steps.specs.Reply.{family_fields, no_fields, number_fields, triple_fields, truth_fields}
 use Rattle.wasi_walks.specs.Waiting.{call_over, IsPoll, IsUnready, left_missing, MayStand, OfWatched, OutputWaits, pollable_mark, StandingWaits, PendingCallsFit, WatchesAccept, WatchesConnect, WatchesIdle}
-use Rattle.wasi_records.specs.Holding.{without_socket}
-use Rattle.wasi_causes.specs.GivenUp.{IsDrop, HasLiveChildren, HasNoStreams, IsGone, LetsGo, LooksOnce, shut_down, shutdown_entries, socket_given_up, without}
+use Rattle.wasi_causes.specs.GivenUp.{HasLiveChildren, HasNoStreams, shut_down, shutdown_entries}
 use Rattle.wasi_world.specs.declared.call.Call.TheVariants as call
 use Rattle.wasi_world.specs.declared.call.Entry.{Entry}
 use Rattle.wasi_world.specs.declared.call.Told.TheVariants as told
@@ -62,19 +62,16 @@ use Rattle.wasi_tcp.specs.declared.writer.WriteError.TheVariants as error
 use Rattle.wasi_tcp.specs.Socket.{new_socket}
 use Rattle.wasi_records.specs.declared.name_lookup.Lookup.{Lookup}
 use Rattle.wasi_host.specs.NameLookupCalls.{lookup_ready}
-use Rattle.wasi_records.specs.declared.udp.OpenUdp.{OpenUdp}
-use Rattle.wasi_records.specs.declared.udp.UdpRecord.{UdpRecord}
-use Rattle.wasi_host.specs.declared.kind.Kind.{Kind}
 use Rattle.wasi_host.specs.declared.kind.Kind.TheVariants as kind
 use Rattle.wasi_host.specs.declared.machine.Machine.{Machine}
-use Rattle.wasi_records.specs.declared.socket.TcpRecord.{TcpRecord}
-use Rattle.wasi_host.specs.Machine.{incoming_at, input_at, output_at, outgoing_at, own_of, socket_at, udp_socket_at}
+use Rattle.wasi_host.specs.Machine.{incoming_at, input_at, outgoing_at, output_at, own_of, receive3_at, result3_at, send3_at, socket_at, udp_socket_at}
 use Rattle.wasi_records.specs.Shutdowns.{with_streams}
 use Rattle.wasi_host.specs.Store.{with_record}
 use Rattle.wasi_walks.specs.Licence.{entry, Has, marks_in}
 use Rattle.wasi_walks.specs.Listens.{AcceptsAt, closed_by_listen, AcceptTakes, HasNoListenInProgress, RefusedAccept, RefusedListen}
 use Rattle.wasi_steps.specs.Settings.{chosen, udp_opt}
-use Rattle.wasi_causes.specs.Lookups.{found_lookup, HandsOut, LookedOn, LookupGone, LookupWaits, LosesLookup, OfLookup, RefusesNames, ResolveRefusal, Resolves, TellsNext, WatchesLookup}
+use Rattle.wasi_causes.specs.P3Lookups.{FindsAddresses, LookupStands}
+use Rattle.wasi_causes.specs.Lookups.{found_lookup, HandsOut, LookedOn, LookupWaits, LosesLookup, OfLookup, RefusesNames, ResolveRefusal, Resolves, TellsNext, WatchesLookup}
 use Rattle.wasi_causes.specs.Options.{GetsOption, P3RefusedGet, P3RefusedSet, RefusedGet, RefusedSet, SetsChosen}
 use Rattle.wasi_causes.specs.Refusals.{CreateRefusal, KnowsTcp3Bound, LocalRefusal, OfTcp3, P3CreateRefusal, P3LocalRefusal, P3RemoteRefusal, RemoteRefusal}
 use Rattle.wasi_causes.specs.Reached.{FinishesAt, ListensLateAt}
@@ -83,14 +80,17 @@ use Rattle.wasi_host.specs.DatagramCalls.{outgoing_ready}
 use Rattle.wasi_records.specs.Names.{next_name}
 use Rattle.wasi_causes.specs.SendCauses.{ReceivesSome, SendsSome, UdpReceiveRefusal, UdpSendRefusal}
 use Rattle.wasi_causes.specs.StreamCauses.{HasNewStreams, MakesStreams, UdpStreamRefusal, StreamsStand}
-use Rattle.wasi_causes.specs.Datagrams.{IsUdpSend, IsUdpStream, HasUdpStreams, IsSpent, OfIncoming, OfOutgoing, LacksRoomForBoth, MadeBoth, PermitsSend, PendingHandleIsLive, LacksRoomForStreams, IsReceiving, WatchesDatagrams, WatchesIncoming, WatchesOutgoing, OutgoingWaits, IncomingGone, OutgoingGone}
-use Rattle.wasi_causes.specs.P3Connects.{BesideCancelled, BesidePolled, ConnectStands, Connects, IsBeside, P3ConnectRefusal}
+use Rattle.wasi_causes.specs.Datagrams.{IsUdpSend, IsUdpStream, HasUdpStreams, IsSpent, OfIncoming, OfOutgoing, LacksRoomForBoth, MadeBoth, PermitsSend, PendingHandleIsLive, LacksRoomForStreams, IsReceiving, WatchesDatagrams, WatchesIncoming, WatchesOutgoing, OutgoingWaits}
+use Rattle.wasi_causes.specs.P3Connects.{BesideCancelled, BesideGives, BesidePolled, ConnectStands, Connects, IsBeside, P3ConnectRefusal}
 use Rattle.wasi_causes.specs.P3Binds as binds
 use Rattle.wasi_causes.specs.P3Binds.{BindStands, Binds, P3BindRefusal, P3UdpBindRefusal}
 use Rattle.wasi_causes.specs.P3UdpConnects.{ConnectsUdp, UdpConnectRefusal, UdpConnectStands}
+use Rattle.wasi_causes.specs.Gone.{AsksOnce, Gone}
+use Rattle.wasi_causes.specs.P3Listens.{AcceptGave, AcceptRefusal, ByListener, Listens, ListenStands, ListensUnnamed, NoneCame, OfListener, P3ListenRefusal, TakesUnnamed}
+use Rattle.wasi_causes.specs.P3Streams.{EndReads, EndWrites, GivesUp, IsEndPoll, IsResultStep, IsUnfilled, LacksRoomForEnd, MakesEnd, OfEnd, ReadEnds, ReadGivesUp, TakesOut, WentIll, WentWell, WriteEnds, WriteGivesUp}
 use Rattle.wasi_causes.specs.P3Udp.{Disconnects, KnowsUdp3Bound, OfUdp3, P3DisconnectRefusal, P3UdpCreateRefusal, P3UdpGetRefusal, P3UdpLocalRefusal, P3UdpSetRefusal}
 use Rattle.wasi_host.specs.declared.kind.Interface.TheVariants.{P3}
-use Rattle.wasi_causes.specs.Udp.{OfUdp, RefusedOfUdp, HasUdpInProgress, HasNoUdpBind, KeepsNoRemote, WatchesUdp, udp_create_entry, writable_entry, with_udp_record, new_udp, UdpCreateRefusal, CreatesUdp, CreatesUdpFor, CreateStands, CreateStandsFor, KnowsUdpBound, UdpBindRefusal, BindsUdp, UdpBindStands, FinishesUdpBind, UdpLocalRefusal, TellsUdpLocal, TellsUdpRemote, UdpGetRefusal, GetsUdpOption, UdpSetRefusal, SetsUdpOption, udp_given_up, udp_left, GivesBy, IsPendingCreate}
+use Rattle.wasi_causes.specs.Udp.{OfUdp, RefusedOfUdp, HasUdpInProgress, HasNoUdpBind, KeepsNoRemote, WatchesUdp, udp_create_entry, writable_entry, with_udp_record, new_udp, UdpCreateRefusal, CreatesUdp, CreatesUdpFor, CreateStands, CreateStandsFor, KnowsUdpBound, UdpBindRefusal, BindsUdp, UdpBindStands, FinishesUdpBind, UdpLocalRefusal, TellsUdpLocal, TellsUdpRemote, UdpGetRefusal, GetsUdpOption, UdpSetRefusal, SetsUdpOption, GivesBy, MakesOneHandle}
 
 -- == what holds whatever the reply is
 -- a start is refused so exactly where an operation is in progress
@@ -108,15 +108,6 @@ OnlyWhere allowed m es after = allowed ≡ false → Quiet m es after
 -- it is ready, and nothing was asked
 abbrev pub ReadyAtOnce : Machine → List Entry → Reply → Machine → Type 0
 ReadyAtOnce m es r after = (r ≡ reply.Ok (truth_fields true)) × Quiet m es after
-
--- what the drop of a handle of this kind asks, unless that is a socket's
-abbrev pub AsksOnce : ℕ → Option Kind → List Entry → Type 0
-AsksOnce line (Some (kind.Tcp2 place)) es = ⊤
-AsksOnce line (Some (kind.Tcp3 place)) es = ⊤
-AsksOnce line (Some (kind.Udp2 place)) es = ⊤
-AsksOnce line (Some (kind.Udp3 place)) es = ⊤
-AsksOnce line (Some (kind.Output place)) es = LooksOnce (own_of line) es
-AsksOnce line _ es = es ≡ []
 
 -- What a turn leaves: the handles and the pending call as they were, each lookup as it was or as it was told, each pipe as it was, each
 -- socket, and the streams of each connection that has them; and who asks in it.
@@ -189,11 +180,13 @@ Always contexts m line (step.Call c (guest.P3TcpCreate family)) es r after = Onl
 Always contexts m line (step.Call c (guest.P3TcpIsListening s)) es r after = Quiet m es after
 Always contexts m line (step.Call c (guest.P3TcpAddressFamily s)) es r after = Quiet m es after
 Always contexts m line (step.Call c (guest.P3TcpGet s option)) es r after = after ≡ m
+Always contexts m line (step.Call c (guest.P3Result h)) es r after = (es ≡ []) × ((r ≡ reply.Unfilled) ↔ IsUnfilled m h) × (r ≡ reply.Trap HasChildren → HasLiveChildren m h × IsSome (result3_at m h))
 Always contexts m line (step.Call c (guest.P3UdpCreate family)) es r after = OnlyWhere (context_at contexts c).udp m es after
 Always contexts m line (step.Call c (guest.P3UdpRemoteAddress s)) es r after = Quiet m es after
 Always contexts m line (step.Call c (guest.P3UdpAddressFamily s)) es r after = Quiet m es after
 Always contexts m line (step.Call c (guest.P3UdpGet s option)) es r after = after ≡ m
 Always contexts m line (step.Call c (guest.P3UdpSet s setting)) es r after = after ≡ m
+Always contexts m line (step.Call c (guest.P3Resolve name)) es r after = OnlyWhere (context_at contexts c).ip_name_lookup m es after × RefusesNames (context_at contexts c) name r
 Always contexts m line step.Turn es r after = Turns m es r after
 Always contexts m line (step.Poll n) es r after = ((r ≡ reply.NoSuchCall) ↔ (stands_under m.store n ≡ false)) × (stands_as m.store.standing n ≡ true → (r ≡ reply.Pending n) ⊎ (after.store.standing ≡ None)) × BlockedGoesOn contexts m n es r after × (IsBeside m n → BesidePolled m n es r after)
 Always contexts m line _ es r after = ⊤
@@ -226,32 +219,6 @@ abbrev pub Looks : Machine → ℕ → ℕ → List Entry → List Field → Typ
 Looks m line pollable es (field.True ∷ []) = ⊤
 Looks m line pollable es (field.False ∷ []) = (WatchesDatagrams m pollable → ⊥) → WatchesConnect m pollable → WatchesAccept m pollable → OfWatched m pollable (λ w r. IsUnready (own_of line) r es w) ⊎ LookupWaits m pollable es
 Looks m line pollable es _ = ⊥
-
--- what is left where the handle that was dropped is of the TCP socket of this record
-abbrev pub SocketGone : Machine → ℕ → ℕ → ℕ → List Entry → Machine → Type 0
-SocketGone m line handle place es after = (r : TcpRecord) → tcp2_at m.store.records place ≡ Some r → (es ≡ socket_given_up (own_of line) r) × IsGone m handle place after
-
--- the same of a socket of 0.3
-abbrev pub Socket3Gone : Machine → ℕ → ℕ → ℕ → List Entry → Machine → Type 0
-Socket3Gone m line handle place es after = (r : TcpRecord) → tcp2_at m.store.records place ≡ Some r → LetsGo m line handle place (without_socket r) es after
-
--- the same of a UDP socket
-abbrev pub UdpGone : Machine → ℕ → ℕ → ℕ → List Entry → Machine → Type 0
-UdpGone m line handle place es after = (u : UdpRecord) → udp2_at m.store.records place ≡ Some u → (es ≡ udp_given_up (own_of line) u) × (after ≡ udp_left (without m handle) place u)
-
--- what is left where the handle that was dropped is of this kind
-abbrev pub Gone : Machine → ℕ → ℕ → Option Kind → List Entry → Machine → Type 0
-Gone m line handle (Some (kind.Tcp2 place)) es after = SocketGone m line handle place es after
-Gone m line handle (Some (kind.Tcp3 place)) es after = Socket3Gone m line handle place es after
-Gone m line handle (Some (kind.Udp2 place)) es after = UdpGone m line handle place es after
-Gone m line handle (Some (kind.Udp3 place)) es after = UdpGone m line handle place es after
-Gone m line handle (Some (kind.Output place)) es after = ⊤
-Gone m line handle (Some (kind.Incoming place)) es after = (o : OpenUdp) → open_at m.store.records place ≡ Some o → IncomingGone m handle place o es after
-Gone m line handle (Some (kind.Outgoing place)) es after = (o : OpenUdp) → open_at m.store.records place ≡ Some o → OutgoingGone m handle place o es after
-Gone m line handle (Some (kind.Lookup place)) es after = (l : Lookup) → lookup_at m.store.records place ≡ Some l → LookupGone m handle place es after
-Gone m line handle (Some (kind.PlainInput (input.Pipe place))) es after = InputPipeGone m handle place (without m handle) after
-Gone m line handle (Some (kind.PlainOutput (output.Pipe place))) es after = OutputPipeGone m handle place (without m handle) after
-Gone m line handle _ es after = after ≡ without m handle
 
 abbrev pub Done : List WasiSocketsCtx → Machine → ℕ → Step → List Entry → List Field → Machine → Type 0
 Done contexts m line (step.Call c (guest.TcpAccept s)) es fields after = Accepts m line s es fields after
@@ -292,6 +259,13 @@ Done contexts m line (step.Call c (guest.P3TcpSet s setting)) es fields after = 
 Done contexts m line (step.Call c (guest.P3UdpCreate family)) es fields after = CreatesUdpFor P3 m (own_of line) (context_at contexts c) family es fields after
 Done contexts m line (step.Call c (guest.P3TcpBind s a)) es fields after = OfTcp3 m s (λ place r. Binds m (own_of line) place r a es after)
 Done contexts m line (step.Call c (guest.P3TcpConnect s a)) es fields after = OfTcp3 m s (λ place r. Connects m (own_of line) place r a es after)
+Done contexts m line (step.Call c (guest.P3TcpListen s)) es fields after = OfTcp3 m s (λ place r. Listens m (own_of line) s place r es fields after)
+Done contexts m line (step.Call c (guest.P3Accept s remaining)) es fields after = OfListener m s (λ place r. ByListener r (λ l. AcceptGave m line s remaining place r l es fields after))
+Done contexts m line (step.Call c (guest.P3TcpReceive s)) es fields after = OfTcp3 m s (λ place r. MakesEnd m (own_of line) Receive s place r es fields after)
+Done contexts m line (step.Call c (guest.P3TcpSend s)) es fields after = OfTcp3 m s (λ place r. MakesEnd m (own_of line) Send s place r es fields after)
+Done contexts m line (step.Call c (guest.P3Read h len)) es fields after = OfEnd (receive3_at m h) (λ end. EndReads m (own_of line) len end es fields after)
+Done contexts m line (step.Call c (guest.P3Write h bytes)) es fields after = OfEnd (send3_at m h) (λ end. EndWrites m (own_of line) bytes end es fields after)
+Done contexts m line (step.Call c (guest.P3Result h)) es fields after = WentWell m h es after
 Done contexts m line (step.Call c (guest.P3UdpConnect s a)) es fields after = OfUdp3 m s (λ place o. ConnectsUdp m (own_of line) place o a es after)
 Done contexts m line (step.Call c (guest.P3UdpBind s a)) es fields after = OfUdp3 m s (λ place o. binds.BindsUdp m (own_of line) place o a es after)
 Done contexts m line (step.Call c (guest.P3UdpDisconnect s)) es fields after = OfUdp3 m s (λ place o. Disconnects m (own_of line) place o es after)
@@ -300,7 +274,8 @@ Done contexts m line (step.Call c (guest.P3UdpRemoteAddress s)) es fields after 
 Done contexts m line (step.Call c (guest.P3UdpAddressFamily s)) es fields after = OfUdp3 m s (λ place o. fields ≡ family_fields o.inner.family)
 Done contexts m line (step.Call c (guest.P3UdpGet s option)) es fields after = OfUdp3 m s (λ place o. GetsUdpOption (own_of line) (udp_opt option) o fields es)
 Done contexts m line (step.Call c (guest.P3UdpSet s setting)) es fields after = OfUdp3 m s (λ place o. SetsUdpOption (own_of line) setting o es)
-Done contexts m line (step.Poll n) es fields after = IsSomeAnd m.store.standing (λ s. GivesBy m fields after s.call) ⊎ (IsBeside m n × (fields ≡ no_fields))
+Done contexts m line (step.Poll n) es fields after = IsSomeAnd m.store.standing (λ s. GivesBy m fields after s.call) ⊎ (IsBeside m n × IsSomeAnd (beside_of m.store n) (λ b. BesideGives fields b.call))
+Done contexts m line (step.Call c (guest.P3Resolve name)) es fields after = FindsAddresses m (own_of line) (context_at contexts c) name es fields after
 Done contexts m line s es fields after = ⊤
 
 -- == refused
@@ -342,6 +317,9 @@ Refused contexts m line (step.Call c (guest.P3TcpSet s setting)) es w after = P3
 Refused contexts m line (step.Call c (guest.P3UdpCreate family)) es w after = P3UdpCreateRefusal m (own_of line) (context_at contexts c) family es w after
 Refused contexts m line (step.Call c (guest.P3TcpBind s a)) es w after = P3BindRefusal m (own_of line) s a es w after
 Refused contexts m line (step.Call c (guest.P3TcpConnect s a)) es w after = P3ConnectRefusal m (own_of line) s a es w after
+Refused contexts m line (step.Call c (guest.P3TcpListen s)) es w after = P3ListenRefusal m (own_of line) s es w after
+Refused contexts m line (step.Call c (guest.P3Accept s remaining)) es w after = AcceptRefusal m s es w after
+Refused contexts m line (step.Call c (guest.P3Result h)) es w after = WentIll m h es w after
 Refused contexts m line (step.Call c (guest.P3UdpConnect s a)) es w after = UdpConnectRefusal m (own_of line) s a es w after
 Refused contexts m line (step.Call c (guest.P3UdpBind s a)) es w after = P3UdpBindRefusal m (own_of line) s a es w after
 Refused contexts m line (step.Call c (guest.P3UdpDisconnect s)) es w after = P3DisconnectRefusal m (own_of line) s es w after
@@ -349,6 +327,7 @@ Refused contexts m line (step.Call c (guest.P3UdpLocalAddress s)) es w after = P
 Refused contexts m line (step.Call c (guest.P3UdpRemoteAddress s)) es w after = OfUdp3 m s (λ place o. o.inner.remote ≡ None)
 Refused contexts m line (step.Call c (guest.P3UdpGet s option)) es w after = P3UdpGetRefusal m (own_of line) s (udp_opt option) es w
 Refused contexts m line (step.Call c (guest.P3UdpSet s setting)) es w after = P3UdpSetRefusal m (own_of line) s setting es w
+Refused contexts m line (step.Call c (guest.P3Resolve name)) es w after = ResolveRefusal (own_of line) (context_at contexts c) name es w × (after ≡ m)
 Refused contexts m line (step.Poll n) es w after = ((PendingCallsFit m → FailureLeaves m n es w after) ⊎ IsBeside m n) × (after.table ≡ m.table)
 Refused contexts m line s es w after = ⊤
 
@@ -371,10 +350,25 @@ Fails m line (step.Call c (guest.Flush output)) es w handle after = OfStreams m 
 Fails m line (step.Poll n) es w handle after = StreamCallStands m
 Fails m line s es w handle after = ⊤
 
+-- == an end of 0.3
+-- nothing has come to a listener that is polled, or the entry of an end's poll was answered pending
+abbrev pub CancelsPoll : Machine → ℕ → Step → List Entry → Machine → Type 0
+CancelsPoll m line (step.Call c (guest.P3Accept s remaining)) es after = OfListener m s (λ place r. ByListener r (λ l. NoneCame m line place r l es after))
+CancelsPoll m line (step.Call c (guest.P3Read h len)) es after = OfEnd (receive3_at m h) (λ end. ReadGivesUp m (own_of line) len end es after)
+CancelsPoll m line (step.Call c (guest.P3Write h bytes)) es after = OfEnd (send3_at m h) (λ end. WriteGivesUp m (own_of line) bytes end es after)
+CancelsPoll m line s es after = ⊥
+
+-- the end is closed, or its poll has closed it
+abbrev pub IsOver : Machine → ℕ → Step → List Entry → Machine → Type 0
+IsOver m line (step.Call c (guest.P3Read h len)) es after = OfEnd (receive3_at m h) (λ end. ReadEnds m (own_of line) len end es after)
+IsOver m line (step.Call c (guest.P3Write h bytes)) es after = OfEnd (send3_at m h) (λ end. WriteEnds m (own_of line) bytes end es after)
+IsOver m line s es after = ⊥
+
 -- == pending
--- a call is pending under this number afterwards: a connect of 0.3 beside others, and that of a poll where it stood
+-- a call is pending under this number afterwards: a TCP connect and a lookup of 0.3 beside others, and that of a poll where it stood
 abbrev pub PendsUnder : Step → ℕ → Machine → Type 0
 PendsUnder (step.Call c (guest.P3TcpConnect s a)) n after = IsSome (beside_of after.store n)
+PendsUnder (step.Call c (guest.P3Resolve name)) n after = IsSome (beside_of after.store n)
 PendsUnder (step.Poll k) n after = IsSomeAnd after.store.standing (λ call. call.ids.line ≡ n) ⊎ IsSome (beside_of after.store n)
 PendsUnder s n after = IsSomeAnd after.store.standing (λ call. call.ids.line ≡ n)
 
@@ -386,7 +380,9 @@ Pends contexts m line (step.Call c (guest.UdpCreate family)) es after = CreateSt
 Pends contexts m line (step.Call c (guest.P3UdpCreate family)) es after = CreateStandsFor P3 m line (own_of line) (context_at contexts c) family es after
 Pends contexts m line (step.Call c (guest.P3TcpBind s a)) es after = OfTcp3 m s (λ place r. BindStands m line place r a es after)
 Pends contexts m line (step.Call c (guest.P3TcpConnect s a)) es after = OfTcp3 m s (λ place r. ConnectStands m line place r a es after)
+Pends contexts m line (step.Call c (guest.P3TcpListen s)) es after = OfTcp3 m s (λ place r. ListenStands m line s place r es after)
 Pends contexts m line (step.Call c (guest.P3UdpConnect s a)) es after = OfUdp3 m s (λ place o. UdpConnectStands m line place o a es after)
+Pends contexts m line (step.Call c (guest.P3Resolve name)) es after = LookupStands m line (context_at contexts c) name es after
 Pends contexts m line (step.Call c (guest.P3UdpBind s a)) es after = OfUdp3 m s (λ place o. binds.UdpBindStands m line place o a es after)
 Pends contexts m line (step.Call c (guest.UdpStartBind s n a)) es after = OfUdp m s (λ place o. UdpBindStands m line (own_of line) place o a es after)
 Pends contexts m line (step.Call c (guest.UdpStream s remote)) es after = (after.table ≡ m.table) × OfUdp m s (λ place o. StreamsStand m line s place o remote es after)
@@ -413,6 +409,10 @@ abbrev pub LeftFull : List WasiSocketsCtx → Machine → ℕ → Step → List 
 LeftFull contexts m line (step.Call c (guest.TcpCreate family)) es after = LeavesSocket m line (context_at contexts c) family es after
 LeftFull contexts m line (step.Call c (guest.P3TcpCreate family)) es after = LeavesSocket m line (context_at contexts c) family es after
 LeftFull contexts m line (step.Call c (guest.UdpCreate family)) es after = LeavesUdpSocket m line (context_at contexts c) family es after
+LeftFull contexts m line (step.Call c (guest.P3TcpListen s)) es after = OfTcp3 m s (λ place r. ListensUnnamed m (own_of line) place r es after)
+LeftFull contexts m line (step.Call c (guest.P3Accept s remaining)) es after = OfListener m s (λ place r. ByListener r (λ l. TakesUnnamed m line place r l es after))
+LeftFull contexts m line (step.Call c (guest.P3TcpReceive s)) es after = OfTcp3 m s (λ place r. LacksRoomForEnd m (own_of line) Receive s place r es after)
+LeftFull contexts m line (step.Call c (guest.P3TcpSend s)) es after = OfTcp3 m s (λ place r. LacksRoomForEnd m (own_of line) Send s place r es after)
 LeftFull contexts m line (step.Call c (guest.P3UdpCreate family)) es after = LeavesUdpSocket m line (context_at contexts c) family es after
 LeftFull contexts m line (step.Call c (guest.UdpStream s remote)) es after = IsSomeAnd (udp_socket_at m s) (λ place. LacksRoomForBoth m.table place s)
 LeftFull contexts m line (step.Call c (guest.Resolve n name)) es after = LosesLookup m (own_of line) name es after
@@ -421,7 +421,7 @@ LeftFull contexts m line (step.Call c (guest.PipeOut capacity)) es after = Quiet
 LeftFull contexts m line (step.Call c guest.Sink) es after = Quiet m es after
 LeftFull contexts m line (step.Call c guest.ClosedIn) es after = Quiet m es after
 LeftFull contexts m line (step.Call c guest.ClosedOut) es after = Quiet m es after
-LeftFull contexts m line (step.Poll n) es after = ((is_full m.table ≡ true) × IsSomeAnd m.store.standing (λ s. IsPendingCreate s.call)) ⊎ (IsSomeAnd m.store.standing (λ s. LacksRoomForStreams m s.call) ⊎ StreamCallStands m)
+LeftFull contexts m line (step.Poll n) es after = ((is_full m.table ≡ true) × IsSomeAnd m.store.standing (λ s. MakesOneHandle s.call)) ⊎ (IsSomeAnd m.store.standing (λ s. LacksRoomForStreams m s.call) ⊎ StreamCallStands m)
 LeftFull contexts m line s es after = ⊤
 
 -- where a handle is missed nothing was asked, and the machine is as it was; a poll leaves nothing pending: that is said where the
@@ -445,7 +445,7 @@ LeavesMissing m s es after = (es ≡ []) × (after ≡ left_missing m s)
 
 abbrev pub Traps : List WasiSocketsCtx → Machine → ℕ → Step → List Entry → TrapKind → Machine → Type 0
 Traps contexts m line s es NoSuchHandle after = MissesHandle m s × LeavesMissing m s es after
-Traps contexts m line s es HasChildren after = IsDrop s × Quiet m es after
+Traps contexts m line s es HasChildren after = TakesOut s × Quiet m es after
 Traps contexts m line s es Full after = MakesHandle s × FullAfter m es after × LeftFull contexts m line s es after
 Traps contexts m line s es NotPermitted after = (IsWrite s ⊎ IsUdpSend s) × Quiet m es after
 Traps contexts m line s es StreamsAlive after = IsUdpStream s × Quiet m es after
@@ -462,6 +462,9 @@ Replies contexts m line s es reply.Closed after = IsStreamCall s × Ends m line 
 Replies contexts m line s es (reply.Failed w handle) after = (IsStreamCall s × IsCodeWord w) × Fails m line s es w handle after
 Replies contexts m line s es (reply.Trap kind) after = Traps contexts m line s es kind after
 Replies contexts m line s es (reply.Pending n) after = (MayStand m line s n × PendsUnder s n after) × Pends contexts m line s es after
+Replies contexts m line s es reply.Cancelled after = GivesUp s × CancelsPoll m line s es after
+Replies contexts m line s es reply.Dropped after = IsEndPoll s × IsOver m line s es after
+Replies contexts m line s es reply.Unfilled after = IsResultStep s × Quiet m es after
 Replies contexts m line s es reply.NoSuchCall after = (IsPoll s ⊎ IsCancel s) × Quiet m es after
 Replies contexts m line s es _ after = ⊥
 

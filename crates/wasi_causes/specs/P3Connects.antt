@@ -1,6 +1,7 @@
 -- Why connects of 0.3 sockets are refused, what they ask and leave, and what a poll of one that is pending answers: it stands
 -- beside other calls.
-use Rattle.std.specs.Prelude.{◌≡◌, ◌⊎◌, ℕ, Bool, true, false, List, [], ◌∷◌, ◌++◌, Option, Some, None, IsSome, IsSomeAnd}
+use Rattle.std.specs.Prelude.{◌≡◌, ◌⊎◌, ℕ, Bool, true, false, List, [], ◌∷◌, ◌++◌, Some, None, IsSome, IsSomeAnd}
+use Rattle.wasi_addr.specs.declared.address.IpAddress.{IpAddress}
 use Rattle.wasi_addr.specs.declared.address.IpSocketAddress.{IpSocketAddress}
 use Rattle.wasi_addr.specs.declared.address.SocketAddrUse.{SocketAddrUse}
 use Rattle.wasi_addr.specs.declared.address.SocketAddrUse.TheVariants.{TcpBind, TcpConnect}
@@ -28,18 +29,21 @@ use Rattle.wasi_records.specs.Names.{own_of}
 use Rattle.wasi_records.specs.Records.{tcp2_at}
 use Rattle.wasi_records.specs.Sockets.{with_inner}
 use Rattle.wasi_host.specs.declared.beside.BesideCall.{BesideCall}
-use Rattle.wasi_host.specs.declared.beside.BesideCall.TheVariants.{Connect}
+use Rattle.wasi_host.specs.declared.beside.BesideCall.TheVariants.{Connect, Resolve}
 use Rattle.wasi_host.specs.declared.machine.Machine.{Machine}
 use Rattle.wasi_host.specs.Beside.{beside_as, beside_of, beside_without}
 use Rattle.wasi_host.specs.Standing.{stands_as}
 use Rattle.wasi_steps.specs.declared.reply.CodeWord.{CodeWord}
+use Rattle.wasi_steps.specs.declared.reply.CodeWord.TheVariants as word
+use Rattle.wasi_steps.specs.declared.reply.Field.{Field}
 use Rattle.wasi_steps.specs.declared.reply.Reply.{Reply}
 use Rattle.wasi_steps.specs.declared.reply.Reply.TheVariants as reply
-use Rattle.wasi_steps.specs.Reply.{no_fields}
+use Rattle.wasi_steps.specs.Reply.{ips_values, no_fields}
 use Rattle.wasi_walks.specs.Answered.{ClosedBy, ConnectsOn, EndsPending, IsBound, IsFoundUnbound, IsPastDefault}
 use Rattle.wasi_walks.specs.Answered.{knowing_bound, putting}
 use Rattle.wasi_walks.specs.Licence.{entry}
 use Rattle.wasi_walks.specs.Waiting.{call_over}
+use Rattle.wasi_causes.specs.P3Lookups.{LookupPolled}
 use Rattle.wasi_causes.specs.Refusals.{OfTcp3, SaidBy, p3_word}
 
 -- the machine, with this socket in the record
@@ -175,12 +179,20 @@ GoesOnBeside m n es r after (Connect place) =
     (tcp2_at m.store.records place ≡ None → SocketIsGone m n es r after)
     × ((q : TcpRecord) → tcp2_at m.store.records place ≡ Some q → ConnectsOn q.inner.state
     → SocketPolled m n place q es r after)
+GoesOnBeside m n es r after (Resolve host) = LookupPolled m n host es r after
 
--- it is over by this answer, which gives nothing
+-- it is over by this answer, which gives nothing, or the addresses of a lookup
 pub data IsOver : Reply → Type 0 where
   OverDone : IsOver (reply.Ok no_fields)
+  OverFound : (addresses : List IpAddress) → IsOver (reply.Ok (ips_values addresses))
+  OverUnresolved : IsOver (reply.Err word.NameUnresolvable)
   OverRefused : (c : ErrorCode) → IsOver (reply.Err (p3_word c))
   OverGone : IsOver (reply.Trap NoSuchHandle)
+
+-- what it gives where it is done: a connect nothing, a lookup addresses
+abbrev pub BesideGives : List Field → BesideCall → Type 0
+BesideGives fields (Connect place) = fields ≡ no_fields
+BesideGives fields (Resolve host) = (addresses : List IpAddress) × (fields ≡ ips_values addresses)
 
 -- What a poll of such a call leaves: the handles and the exclusive call as they were, and the call where it stood while it is
 -- pending; else it is over.
@@ -195,6 +207,6 @@ pub record BesidePolled (m : Machine) (n : ℕ) (es : List Entry) (r : Reply) (a
 abbrev pub IsBeside : Machine → ℕ → Type 0
 IsBeside m n = (stands_as m.store.standing n ≡ false) × IsSome (beside_of m.store n)
 
--- one that is given up is over; nothing is asked, and the socket keeps connecting
+-- one that is given up is over; nothing is asked, and the socket of a connect keeps connecting
 abbrev pub BesideCancelled : Machine → ℕ → List Entry → Machine → Type 0
 BesideCancelled m n es after = IsBeside m n × (es ≡ []) × (after ≡ call_over m n)

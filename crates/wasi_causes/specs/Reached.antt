@@ -5,10 +5,11 @@ use Rattle.wasi_world.specs.declared.ids.OpId.{OpId}
 use Rattle.wasi_tcp.specs.declared.socket.TcpState.{TcpState}
 use Rattle.wasi_tcp.specs.declared.socket.TcpState.TheVariants as state
 use Rattle.wasi_records.specs.Records.{tcp2_at, udp2_at, lookup_at, input_pipe_at, output_pipe_at}
+use Rattle.wasi_records.specs.Slots.{slot_at}
 use Rattle.wasi_host.specs.declared.kind.PlainInput.TheVariants as plain_input
 use Rattle.wasi_host.specs.declared.kind.PlainOutput.TheVariants as plain_output
 use Rattle.wasi_host.specs.declared.kind.Kind.{Kind}
-use Rattle.wasi_host.specs.declared.kind.Kind.TheVariants.{Network, Tcp2, Tcp3, Udp2, Udp3, Input, Output, PlainInput, PlainOutput, Incoming, Outgoing, Pollable, Lookup, ErrorValue}
+use Rattle.wasi_host.specs.declared.kind.Kind.TheVariants.{Network, Tcp2, Tcp3, Udp2, Udp3, Listen3, Receive3, Send3, Result3, Input, Output, PlainInput, PlainOutput, Incoming, Outgoing, Pollable, Lookup, ErrorValue}
 use Rattle.wasi_host.specs.declared.kind.Watched.TheVariants as watched
 use Rattle.wasi_records.specs.declared.tcp_listening.Listening.{Listening}
 use Rattle.wasi_records.specs.declared.tcp_listening.Listening.TheVariants as listening
@@ -37,13 +38,22 @@ HasInputPipe m place = IsSome (input_pipe_at m.store.records place)
 abbrev pub HasOutputPipe : Machine → ℕ → Type 0
 HasOutputPipe m place = IsSome (output_pipe_at m.store.records place)
 
--- a handle of a socket, a stream, a pipe, a pollable or a lookup is of a record that is there
+-- and of a result slot
+abbrev pub HasSlot : Machine → ℕ → Type 0
+HasSlot m place = IsSome (slot_at m.store.records place)
+
+-- a handle of a socket, a stream, a pipe, a pollable, a lookup or a result slot is of a record that is there; an end may outlive its
+-- socket and its slot
 abbrev pub OfItsRecord : Machine → Kind → Type 0
 OfItsRecord m Network = ⊤
 OfItsRecord m (Tcp2 place) = HasRecord m place
 OfItsRecord m (Tcp3 place) = HasRecord m place
 OfItsRecord m (Udp2 place) = HasUdpRecord m place
 OfItsRecord m (Udp3 place) = HasUdpRecord m place
+OfItsRecord m (Listen3 place) = HasRecord m place
+OfItsRecord m (Receive3 end) = ⊤
+OfItsRecord m (Send3 end) = ⊤
+OfItsRecord m (Result3 place) = HasSlot m place
 OfItsRecord m (Input place) = HasRecord m place
 OfItsRecord m (Output place) = HasRecord m place
 OfItsRecord m (PlainInput (plain_input.Pipe place)) = HasInputPipe m place

@@ -33,7 +33,8 @@ use Rattle.wasi_records.specs.declared.udp.UdpRecord.TheVariants as udp
 use Rattle.wasi_records.specs.declared.udp.UdpInProgress.TheVariants as doing
 use Rattle.wasi_records.specs.Datagrams.{has_streams}
 use Rattle.wasi_host.specs.Kinds.{kind_at, name_of, udp_kind, watch_of, with_handle}
-use Rattle.wasi_host.specs.Machine.{udp_socket_at}
+use Rattle.wasi_host.specs.Machine.{tcp3_at, udp_socket_at}
+use Rattle.wasi_host.specs.declared.kind.Kind.TheVariants as kind
 use Rattle.wasi_records.specs.Records.{udp2_pushed, open_at, open_put}
 use Rattle.wasi_host.specs.Standing.{standing_as}
 use Rattle.wasi_records.specs.Udp.{is_udp_idle, is_udp_bound, opened_udp, with_udp_inner, with_udp_progress}
@@ -273,15 +274,18 @@ udp_left m place (udp.Open o) = giving_back m place
 udp_left m place (udp.Closed side) = giving_back m place
 
 -- == a poll of the pending call
--- a create that is done gives the next handle, which is of its record, and the socket is there; datagram streams give the next two,
+-- a create that is done gives the next handle, which is of its record, and the socket is there; a listen of 0.3 gives the next one, of
+-- its listener; datagram streams give the next two,
 -- under the handle that they were asked of; a call of a stream gives what it is for; the others give nothing; and none of these makes one
 abbrev pub GivesBy : Machine → List Field → Machine → StandingCall → Type 0
 GivesBy m fields after (standing.UdpCreate place face) = (fields ≡ number_fields m.table.next) × (after.table ≡ with_handle m.table (udp_kind face place) None) × IsSome (open_at after.store.records place)
 GivesBy m fields after (standing.UdpConnect place handle) = MadeBoth m handle fields after
+GivesBy m fields after (standing.Listen place (Some handle)) = (fields ≡ number_fields m.table.next) × IsSomeAnd (tcp3_at m handle) (λ its. after.table ≡ with_handle m.table (kind.Listen3 its) (Some handle))
 GivesBy m fields after (standing.Blocking call) = GivesOf call fields × (after.table ≡ m.table)
 GivesBy m fields after _ = (fields ≡ no_fields) × (after.table ≡ m.table)
 
--- it is a create
-abbrev pub IsPendingCreate : StandingCall → Type 0
-IsPendingCreate (standing.UdpCreate place face) = Unit {0}
-IsPendingCreate _ = ⊥
+-- it makes one handle: a create, or a listen of 0.3
+abbrev pub MakesOneHandle : StandingCall → Type 0
+MakesOneHandle (standing.UdpCreate place face) = Unit {0}
+MakesOneHandle (standing.Listen place (Some handle)) = Unit {0}
+MakesOneHandle _ = ⊥

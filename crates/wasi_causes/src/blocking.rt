@@ -132,8 +132,8 @@ pub fn blocking_reads_hand_out_what_was_told()
 {}
 
 /// After any script the streams of a pending call of a stream are there, with at most 4,096 bytes
-/// left to write; what the pollables of a pending wait watch is there; and pending datagram streams
-/// have a live handle.
+/// left to write; what the pollables of a pending wait watch is there; and pending datagram
+/// streams, and a pending listen of 0.3, have the live handle of their socket.
 pub fn pending_calls_have_their_streams()
     ensures { (contexts : List WasiSocketsCtx) (steps : List Step) (log : List Entry)
         (replies : List Reply) (m : Machine)

@@ -31,8 +31,9 @@ ghost use Rattle.wasi_causes.specs.Outcomes.{IsBlockingWrite, LaterPartIsThere, 
 ghost use Rattle.wasi_causes.specs.PollableCalls.{IsEmptyWait, WatchedIsThere};
 ghost use Rattle.wasi_causes.specs.Datagrams.{IsUdpSend, IsUdpStream};
 ghost use Rattle.wasi_causes.specs.Datagrams.{PendingHandleIsLive};
+ghost use Rattle.wasi_causes.specs.P3Streams.{TakesOut};
 ghost use Rattle.wasi_causes.specs.Reached.{ListensLate, MayFinish, OfItsRecord};
-ghost use Rattle.wasi_causes.specs.GivenUp.{giving_back, GoesAtOnce, HasLiveChildren, IsDrop};
+ghost use Rattle.wasi_causes.specs.GivenUp.{giving_back, GoesAtOnce, HasLiveChildren};
 ghost use Rattle.wasi_causes.specs.GivenUp.{IsDropped, IsGone, LooksOnce, socket_given_up, without};
 ghost use Rattle.wasi_walks.specs.Licence.{Has, marks_in};
 ghost use Rattle.wasi_machine.specs.Machine.{polls_beside, run};
@@ -50,8 +51,8 @@ ghost use Rattle.wasi_records.specs.InProgress.{is_connect};
 ghost use Rattle.wasi_table.specs.Table.{children_of, is_full};
 
 /// Each reply is one that the table of replies allows its step: fields of the step's kinds, a code
-/// that the step may return, a stream's end or failure, a trap that the step may end by, pending,
-/// busy, or `no-such-call`.
+/// that the step may return, a stream's end or failure, `cancelled` of an accept of 0.3, a trap
+/// that the step may end by, pending, busy, or `no-such-call`.
 ///
 /// - `next`: the reply of one step.
 /// - `all`: every reply of a run.
@@ -100,8 +101,8 @@ pub fn busy_while_a_call_stands()
 ///   poll the call that it polls is over.
 /// - `has_children`: a drop traps with `HasChildren` exactly where its handle has a live child;
 ///   that is said where no call is pending.
-/// - `has_children_stays`, `only_drops`: nothing is asked then, the machine is unchanged, and no
-///   other step traps so.
+/// - `has_children_stays`, `takes_out`: nothing is asked then, the machine is unchanged, and no
+///   other step traps so but one that takes a result.
 /// - `full`: the step makes a handle, and the table is full.
 /// - `full_marks`: the handles that it made before that are logged, one entry each.
 /// - `not_permitted`: the step is a write, or a send of datagrams.
@@ -140,9 +141,9 @@ pub fn traps_have_causes()
         (s : Step) (entries : List Entry) (after : Machine)
         → Answered contexts m line s entries (Reply.Trap TrapKind.HasChildren) after
         → (entries ≡ []) × (after ≡ m) }
-    ensures only_drops { (contexts : List WasiSocketsCtx) (m : Machine) (line : ℕ) (s : Step)
+    ensures takes_out { (contexts : List WasiSocketsCtx) (m : Machine) (line : ℕ) (s : Step)
         (entries : List Entry) (after : Machine)
-        → Answered contexts m line s entries (Reply.Trap TrapKind.HasChildren) after → IsDrop s }
+        → Answered contexts m line s entries (Reply.Trap TrapKind.HasChildren) after → TakesOut s }
     ensures full { (contexts : List WasiSocketsCtx) (m : Machine) (line : ℕ) (s : Step)
         (entries : List Entry) (after : Machine)
         → Answered contexts m line s entries (Reply.Trap TrapKind.Full) after

@@ -1,7 +1,8 @@
 //! Where the answers of listens and accepts come from: laws over the definitions of specs/. Each is
 //! a function that does nothing, whose contract is the law.
 
-ghost use Rattle.std.specs.Prelude.{◌≡◌, ◌⊎◌, ◌↔◌, ⊤, ℕ, ◌+◌, List, [], ◌∷◌, ◌++◌, Some, None};
+ghost use Rattle.std.specs.Prelude.{◌≡◌, ◌⊎◌, ◌↔◌, ⊤, ℕ, ◌+◌, List, [], ◌∷◌, ◌++◌};
+ghost use Rattle.std.specs.Prelude.{Option, Some, None};
 ghost use Rattle.wasi_addr.specs.declared.code.ErrorCode.{ErrorCode};
 ghost use Rattle.wasi_world.specs.declared.call.Entry.{Entry};
 ghost use Rattle.wasi_world.specs.declared.ids.Ids.{Ids};
@@ -29,6 +30,7 @@ ghost use Rattle.wasi_walks.specs.Listens.{RefusedAccept, AcceptTakes, AcceptsAt
 ghost use Rattle.wasi_machine.specs.Machine.{run};
 ghost use Rattle.wasi_steps.specs.Reply.{no_fields, triple_fields};
 ghost use Rattle.wasi_walks.specs.Waiting.{WatchesAccept};
+ghost use Rattle.wasi_causes.specs.P3Listens.{ListenerAccepts};
 ghost use Rattle.wasi_causes.specs.Reached.{IsBeginning, IsClosedByListen, ListensLateAt};
 ghost use Rattle.wasi_causes.specs.Reached.{ListensNoMore};
 
@@ -119,17 +121,17 @@ pub fn listens_leave_a_closed_socket()
         → tcp2_at m.store.records place ≡ Some r → IsBeginning r.listening
         → r.inner.state ≡ TcpState.Closed ErrorCode.Other }
     ensures fails { (contexts : List WasiSocketsCtx) (steps : List Step) (log : List Entry)
-        (replies : List Reply) (m : Machine) (line place : ℕ) (ids : Ids) (entries : List Entry)
-        (word : CodeWord) (after : Machine)
+        (replies : List Reply) (m : Machine) (line place : ℕ) (marks : Option ℕ) (ids : Ids)
+        (entries : List Entry) (word : CodeWord) (after : Machine)
         → Left (run contexts [] first_state 1 steps) log (Give (replies, m))
-        → m.store.standing ≡ Some (standing_as ids (StandingCall.Listen place))
+        → m.store.standing ≡ Some (standing_as ids (StandingCall.Listen place marks))
         → Answered contexts m line (Step.Poll ids.line) entries (Reply.Err word) after
         → IsClosedByListen after place × ListensNoMore after place }
     ensures cancelled { (contexts : List WasiSocketsCtx) (steps : List Step) (log : List Entry)
-        (replies : List Reply) (m : Machine) (line place : ℕ) (ids : Ids) (fields : List Field)
-        (entries : List Entry) (after : Machine)
+        (replies : List Reply) (m : Machine) (line place : ℕ) (marks : Option ℕ) (ids : Ids)
+        (fields : List Field) (entries : List Entry) (after : Machine)
         → Left (run contexts [] first_state 1 steps) log (Give (replies, m))
-        → m.store.standing ≡ Some (standing_as ids (StandingCall.Listen place))
+        → m.store.standing ≡ Some (standing_as ids (StandingCall.Listen place marks))
         → Answered contexts m line (Step.Cancel ids.line) entries (Reply.Ok fields) after
         → IsClosedByListen after place × ListensNoMore after place }
 {}
@@ -176,12 +178,17 @@ pub fn accepts_take_what_was_handed_over()
 /// After any script, what a listener accepts by is an accept.
 ///
 /// - `handles`: for the socket of each handle.
+/// - `listeners`: for the socket of each handle of a 0.3 listener.
 /// - `pollables`: for the socket that each pollable watches.
 pub fn runs_accept_by_accepts()
     ensures handles { (contexts : List WasiSocketsCtx) (steps : List Step) (entries : List Entry)
         (replies : List Reply) (m : Machine)
         → Left (run contexts [] first_state 1 steps) entries (Give (replies, m)) → (handle : ℕ)
         → AcceptsAt m handle }
+    ensures listeners { (contexts : List WasiSocketsCtx) (steps : List Step) (entries : List Entry)
+        (replies : List Reply) (m : Machine)
+        → Left (run contexts [] first_state 1 steps) entries (Give (replies, m)) → (handle : ℕ)
+        → ListenerAccepts m handle }
     ensures pollables { (contexts : List WasiSocketsCtx) (steps : List Step) (entries : List Entry)
         (replies : List Reply) (m : Machine)
         → Left (run contexts [] first_state 1 steps) entries (Give (replies, m)) → (pollable : ℕ)

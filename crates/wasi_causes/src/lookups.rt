@@ -176,7 +176,7 @@ pub fn lookups_are_watched_and_dropped()
 ///
 /// - `tcp`: a `tcp-create`; `p3_tcp`: a `p3-tcp-create`.
 /// - `udp`: a `udp-create`; `p3_udp`: a `p3-udp-create`.
-/// - `lookup`: a `resolve`.
+/// - `lookup`: a `resolve`; `p3_lookup`: a `p3-resolve`.
 pub fn what_is_forbidden_asks_nothing()
     ensures tcp { (contexts : List WasiSocketsCtx) (m : Machine) (line ctx : ℕ)
         (family : SocketAddressFamily) (entries : List Entry) (reply : Reply) (after : Machine)
@@ -203,5 +203,10 @@ pub fn what_is_forbidden_asks_nothing()
         → (context_at contexts ctx).ip_name_lookup ≡ false
         → Answered contexts m line (Step.Call ctx (GuestCall.Resolve network name)) entries reply
         after
+        → (entries ≡ []) × (after ≡ m) }
+    ensures p3_lookup { (contexts : List WasiSocketsCtx) (m : Machine) (line ctx : ℕ)
+        (name : List ℕ) (entries : List Entry) (reply : Reply) (after : Machine)
+        → (context_at contexts ctx).ip_name_lookup ≡ false
+        → Answered contexts m line (Step.Call ctx (GuestCall.P3Resolve name)) entries reply after
         → (entries ≡ []) × (after ≡ m) }
 {}

@@ -16,7 +16,7 @@ ghost use Rattle.wasi_walks.specs.Answered.{Answered, EndsPending};
 ghost use Rattle.wasi_causes.specs.Blocking.{StreamCallStands};
 ghost use Rattle.wasi_causes.specs.Cancelled.{IsCancel};
 ghost use Rattle.wasi_causes.specs.Failed.{FailureLeaves};
-ghost use Rattle.wasi_causes.specs.Udp.{IsPendingCreate};
+ghost use Rattle.wasi_causes.specs.Udp.{MakesOneHandle};
 ghost use Rattle.wasi_causes.specs.Datagrams.{LacksRoomForStreams};
 ghost use Rattle.wasi_causes.specs.Datagrams.{OutgoingWaits};
 ghost use Rattle.wasi_machine.specs.Machine.{run};
@@ -37,15 +37,16 @@ ghost use Rattle.wasi_table.specs.Table.{is_full};
 /// - `only_polls`: no other step but a cancel answers that.
 /// - `ends`: a poll of the exclusive call leaves it pending, or leaves none pending.
 /// - `beside`: so does one of a call that stands beside others, unless it is busy, and leaves the
-///   handles and the exclusive call unchanged (`polls_of_connects` says which answer comes of what).
+///   handles and the exclusive call unchanged (`polls_of_connects` and `polls_of_lookups` say which
+///   answer comes of what).
 /// - `refused`: a code is the one by which the bind, the listen, the create or the connect failed:
 ///   a check said no, or the network answered with it. A listen and a create closed their network
 ///   socket last; a connect that was answered asked for the remote address. The operation is in
 ///   progress no more, a create's record is given back, and no exclusive call is pending. Or the
 ///   call stands beside others.
-/// - `traps`: in a run a poll traps with `Full` alone, for the handle of a create, the two of
-///   datagram streams, or that of a stream's error; or with `NoSuchHandle`, where the socket of a
-///   call beside others was dropped.
+/// - `traps`: in a run a poll traps with `Full` alone, for the handle of a create or of a listener,
+///   the two of datagram streams, or that of a stream's error; or with `NoSuchHandle`, where the
+///   socket of a call beside others was dropped.
 ///
 /// `refused` assumes `PendingCallsFit`: the pending call and the operation in its record are of one
 /// kind. Every run keeps that (`runs_keep_their_pending_calls`).
@@ -82,7 +83,7 @@ pub fn polls_find_their_call()
         → Left (run contexts [] first_state 1 steps) log (Give (replies, m))
         → Answered contexts m line (Step.Poll n) entries (Reply.Trap kind) after
         → ((kind ≡ TrapKind.Full)
-        × (((is_full m.table ≡ true) × IsSomeAnd m.store.standing (λ s. IsPendingCreate s.call))
+        × (((is_full m.table ≡ true) × IsSomeAnd m.store.standing (λ s. MakesOneHandle s.call))
         ⊎ (IsSomeAnd m.store.standing (λ s. LacksRoomForStreams m s.call) ⊎ StreamCallStands m)))
         ⊎ ((kind ≡ TrapKind.NoSuchHandle) × BesideNothing m n × (entries ≡ [])
         × (after ≡ call_over m n)) }
@@ -90,10 +91,9 @@ pub fn polls_find_their_call()
 
 /// When a step may be pending.
 ///
-/// - `step`: a bind or the start of one, a connect of 0.3, the start of a listen, a create of a UDP
-///   socket or of its datagram streams, the drop of an output or of an outgoing datagram stream,
-///   and a call that blocks, all under their line's number; and a poll, under the number that it
-///   polls.
+/// - `step`: a bind or a listen, or the start of one, a connect of 0.3, a create of a UDP socket or
+///   of its datagram streams, the drop of an output or of an outgoing datagram stream, and a call
+///   that blocks, all under their line's number; and a poll, under the number that it polls.
 /// - `stands`: a call is pending under that number then: the exclusive call, or one beside others.
 /// - `told`, `listen`: the last call of a bind, or of a listen, was answered pending.
 /// - `output`: a drop waits for its output's write in progress, or its one look was answered
@@ -138,8 +138,9 @@ pub fn pending_where_told()
 ///
 /// - A bind, of a TCP or a UDP socket: its record has a bind in progress.
 /// - A listen: its record has begun a listen, of which at most the check of the address that was
-///   reported and the listen itself are left, and one of them at least. The socket has no network
-///   socket.
+///   reported and the listen itself are left, and one of them at least. In 0.3, where it may be of
+///   a socket that isn't bound, so may be the checks of the wildcard, and the bind to it. The
+///   socket has no network socket.
 /// - A create: its record has a create that waits for its network socket.
 /// - Datagram streams: the record has a connect of whose checks one at least isn't answered.
 pub fn runs_keep_their_pending_calls()

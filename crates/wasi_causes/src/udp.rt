@@ -11,6 +11,7 @@ ghost use Rattle.wasi_world.specs.declared.outcome.WasiSocketsCtx.{WasiSocketsCt
 ghost use Rattle.wasi_host.specs.declared.kind.Kind.{Kind};
 ghost use Rattle.wasi_host.specs.declared.machine.Machine.{Machine};
 ghost use Rattle.wasi_records.specs.declared.udp.UdpRecord.{UdpRecord};
+ghost use Rattle.wasi_host.specs.Beside.{beside_of};
 ghost use Rattle.wasi_host.specs.Kinds.{is_network, kind_at};
 ghost use Rattle.wasi_host.specs.Machine.{own_of};
 ghost use Rattle.wasi_records.specs.Records.{udp2_at};
@@ -30,7 +31,7 @@ ghost use Rattle.wasi_walks.specs.Answered.{Answered, open_udp_at};
 ghost use Rattle.wasi_causes.specs.Blocking.{StreamCallStands};
 ghost use Rattle.wasi_causes.specs.GivenUp.{without};
 ghost use Rattle.wasi_causes.specs.Datagrams.{LacksRoomForStreams};
-ghost use Rattle.wasi_causes.specs.P3Connects.{IsBeside};
+ghost use Rattle.wasi_causes.specs.P3Connects.{BesideGives, IsBeside};
 ghost use Rattle.wasi_causes.specs.Udp.{OfUdp, RefusedOfUdp, HasUdpInProgress, HasNoUdpBind};
 ghost use Rattle.wasi_causes.specs.Udp.{KeepsNoRemote, WatchesUdp, udp_create_entry};
 ghost use Rattle.wasi_causes.specs.Udp.{writable_entry, with_udp_record, new_udp, UdpCreateRefusal};
@@ -38,7 +39,7 @@ ghost use Rattle.wasi_causes.specs.Udp.{CreatesUdp, CreateStands, KnowsUdpBound,
 ghost use Rattle.wasi_causes.specs.Udp.{BindsUdp, UdpBindStands, FinishesUdpBind, UdpLocalRefusal};
 ghost use Rattle.wasi_causes.specs.Udp.{TellsUdpLocal, TellsUdpRemote, UdpGetRefusal};
 ghost use Rattle.wasi_causes.specs.Udp.{GetsUdpOption, UdpSetRefusal, SetsUdpOption, udp_given_up};
-ghost use Rattle.wasi_causes.specs.Udp.{udp_left, GivesBy, IsPendingCreate};
+ghost use Rattle.wasi_causes.specs.Udp.{udp_left, GivesBy, MakesOneHandle};
 
 /// Why a create of a UDP socket is refused; there is no handle then.
 ///
@@ -331,18 +332,19 @@ pub fn udp_drops_close()
 
 /// What a poll gives.
 ///
-/// - `done`: one that is done gives the next handle, after a create of a UDP socket; the next two,
-///   after datagram streams; the bytes or the number of a call of a stream; the places of a wait
-///   for pollables; and else nothing, as a connect of 0.3.
+/// - `done`: one that is done gives the next handle, after a create of a UDP socket or a listen of
+///   0.3; the next two, after datagram streams; the bytes or the number of a call of a stream; the
+///   places of a wait for pollables; the addresses of a lookup of 0.3; and else nothing, as a
+///   connect of 0.3.
 /// - `none`: one that is refused makes no handle.
-/// - `full`: it traps with `Full` where there is no room for the handle of a create, for the two of
-///   datagram streams, or for that of a stream's error.
+/// - `full`: it traps with `Full` where there is no room for the handle of a create or of a
+///   listener, for the two of datagram streams, or for that of a stream's error.
 pub fn udp_polls_give_a_handle()
     ensures done { (contexts : List WasiSocketsCtx) (m : Machine) (line n : ℕ) (fields : List Field)
         (entries : List Entry) (after : Machine)
         → Answered contexts m line (Step.Poll n) entries (Reply.Ok fields) after
         → IsSomeAnd m.store.standing (λ s. GivesBy m fields after s.call)
-        ⊎ (IsBeside m n × (fields ≡ no_fields)) }
+        ⊎ (IsBeside m n × IsSomeAnd (beside_of m.store n) (λ b. BesideGives fields b.call)) }
     ensures none { (contexts : List WasiSocketsCtx) (m : Machine) (line n : ℕ)
         (entries : List Entry) (word : CodeWord) (after : Machine)
         → Answered contexts m line (Step.Poll n) entries (Reply.Err word) after
@@ -350,7 +352,7 @@ pub fn udp_polls_give_a_handle()
     ensures full { (contexts : List WasiSocketsCtx) (m : Machine) (line n : ℕ)
         (entries : List Entry) (after : Machine)
         → Answered contexts m line (Step.Poll n) entries (Reply.Trap TrapKind.Full) after
-        → ((is_full m.table ≡ true) × IsSomeAnd m.store.standing (λ s. IsPendingCreate s.call))
+        → ((is_full m.table ≡ true) × IsSomeAnd m.store.standing (λ s. MakesOneHandle s.call))
         ⊎ (IsSomeAnd m.store.standing (λ s. LacksRoomForStreams m s.call) ⊎ StreamCallStands m) }
 {}
 

@@ -6,7 +6,7 @@ use Rattle.wasi_causes.specs.Polls.{check_entry, local_entry, Passes, WritableTo
 use Rattle.wasi_addr.specs.declared.address.SocketAddrUse.TheVariants.{TcpListen}
 use Rattle.wasi_tcp.specs.Listen.{none_left}
 use Rattle.wasi_walks.specs.Answered.{AllOf, IsAskOfConnect}
-use Rattle.wasi_walks.specs.Waiting.{IsAskLeft, IsAskOfListen}
+use Rattle.wasi_walks.specs.Waiting.{IsAskLeft, IsAskOfBound, IsAskOfListen}
 use Rattle.wasi_walks.proofs.Gives.{Gives}
 use Rattle.wasi_walks.specs.Answered as refusal
 use Rattle.wasi_world.specs.Operation.{UdpWritable, UdpBind}
@@ -307,6 +307,7 @@ module _ (op : Operation) where
   listen_sorts : (item : Item) → IsAskOfListen item → IsAsk item
   listen_sorts (CheckLocal usage) of = tt
   listen_sorts (Check a usage) of = tt
+  listen_sorts (Bind a) of = tt
   listen_sorts (Listen backlog) of = tt
   listen_sorts _ of = absurd of
 
@@ -317,19 +318,41 @@ module _ (op : Operation) where
   listen_stays _ _ _ WritableToldPending of = absurd of
   listen_stays _ _ _ (ConnectToldPending a) of = absurd of
 
+  bound_sorts : (item : Item) → IsAskOfBound item → IsAsk item
+  bound_sorts (CheckLocal usage) of = tt
+  bound_sorts (Check a usage) of = tt
+  bound_sorts (Listen backlog) of = tt
+  bound_sorts _ of = absurd of
+
+  bound_stays : (item now : Item) (es : List Entry) → Holds op.who item es now → IsAskOfBound item → IsAskOfBound now
+  bound_stays _ _ _ (CheckToldPending a usage) of = of
+  bound_stays _ _ _ (LocalToldPending a TcpListen) of = tt
+  bound_stays _ _ _ (LocalToldPending a _) of = absurd of
+  bound_stays _ _ _ WritableToldPending of = absurd of
+  bound_stays _ _ _ (ConnectToldPending a) of = absurd of
+
   left_sorts : (item : Item) → IsAskLeft item → IsAsk item
   left_sorts (Check a usage) of = tt
+  left_sorts (Bind a) of = tt
   left_sorts (Listen backlog) of = tt
   left_sorts _ of = absurd of
 
-  listen_broken : (es front last : List Entry) (item : Item) (c : ErrorCode) → IsAskLeft item → Breaks op.who item last c → es ≡ front ++ (last ++ closed ∷ []) → ListenEnds op es c
-  listen_broken es front _ _ _ of (ToldNo a TcpListen) cut = waiting.CheckedNo a (record { front = front; cut = cut })
-  listen_broken es front _ _ _ of (ToldNo a _) cut = absurd of
-  listen_broken es front _ _ _ of (ListenToldCode backlog c) cut = waiting.ListenCode backlog c (record { front = front; cut = cut })
-  listen_broken es front _ _ _ of _ cut = absurd of
+  listen_broken : (es front last : List Entry) (item : Item) (c : ErrorCode) → IsAskLeft item → Has op.left item → Breaks op.who item last c → es ≡ front ++ (last ++ closed ∷ []) → ListenEnds op es c
+  listen_broken es front _ _ _ of has (ToldNo a TcpListen) cut = waiting.CheckedNo a (record { front = front; cut = cut })
+  listen_broken es front _ _ _ of has (ToldNo a TcpBind) cut = waiting.CheckedNoBind a has (record { front = front; cut = cut })
+  listen_broken es front _ _ _ of has (ToldNo a _) cut = absurd of
+  listen_broken es front _ _ _ of has (BindToldCode a c) cut = waiting.BindCode a c has (record { front = front; cut = cut })
+  listen_broken es front _ _ _ of has (ListenToldCode backlog c) cut = waiting.ListenCode backlog c (record { front = front; cut = cut })
+  listen_broken es front _ _ _ of has _ cut = absurd of
 
   pub listen_ends : IsListen op × AllOf IsAskLeft op.left → Meets (EndsFor (ListenEnds op)) [] (poll_asks op)
-  listen_ends its = ends_for IsAskLeft left_sorts its.1 (ListenEnds op) (λ es c k of. listen_broken es k.front k.last k.item c of k.broke (at_end es c k CloseLast its.0.last))
+  listen_ends its = ends_for IsAskLeft left_sorts its.1 (ListenEnds op) (λ es c k of. listen_broken es k.front k.last k.item c of k.its k.broke (at_end es c k CloseLast its.0.last))
+
+  pub listen_in_table : AllOf IsAskLeft op.left → Meets (Polled op.who op.left) [] (poll_asks op)
+  listen_in_table of = in_table IsAskLeft left_sorts of
+
+  pub bound_listen_leaves : AllOf IsAskOfBound op.left → (es : List Entry) → Gives (λ fs end. Keeps IsAskOfBound end) es (poll_asks op)
+  bound_listen_leaves of = leaves IsAskOfBound bound_sorts of bound_stays
 
   pub listen_leaves : AllOf IsAskOfListen op.left → (es : List Entry) → Gives (λ fs end. Keeps IsAskOfListen end) es (poll_asks op)
   listen_leaves of = leaves IsAskOfListen listen_sorts of listen_stays

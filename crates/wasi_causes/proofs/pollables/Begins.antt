@@ -25,7 +25,7 @@ use Rattle.wasi_records.specs.Names.{next_name}
 use Rattle.wasi_records.specs.NameLookup.{turn_lookup, turn_lookup_at}
 use Rattle.wasi_records.specs.Receiving.{fetch_asks, has_none, look_incoming, receive_left, turn_incoming}
 use Rattle.wasi_records.specs.Receiving.{turn_receiving, would_receive}
-use Rattle.wasi_records.specs.Records.{lookup_at, lookup_put, open_at, open_of, open_put, tcp2_at, tcp2_put, udp2_at}
+use Rattle.wasi_records.specs.Records.{lookup_at, lookup_put, open_at, open_of, open_put, tcp2_at, udp2_at}
 use Rattle.wasi_records.specs.declared.datagrams.Incoming.{Incoming}
 use Rattle.wasi_records.specs.declared.datagrams.Outgoing.{Outgoing}
 use Rattle.wasi_records.specs.declared.datagrams.Receiving.{Receiving}
@@ -43,7 +43,7 @@ use Rattle.wasi_host.specs.Readiness.{ready_at, ready_put, ready_record}
 use Rattle.wasi_host.specs.declared.kind.Watched.TheVariants as watched
 use Rattle.wasi_host.specs.declared.polling.Look.{Look}
 use Rattle.wasi_host.specs.declared.polling.Look.TheVariants.{First, Later}
-use Rattle.wasi_walks.proofs.Places.{lookup_sort, other_put, put_either, put_finds, tcp_sort, udp_sort}
+use Rattle.wasi_walks.proofs.Places.{lookup_sort, other_put, put_finds, tcp_sort, udp_sort}
 use Rattle.wasi_walks.proofs.fits.Law.{whatever}
 use Rattle.wasi_walks.proofs.fits.Polls.{AcceptLeaves, Anything, accept_left}
 use Rattle.wasi_walks.proofs.fits.Records.{FitListening}
@@ -58,56 +58,8 @@ use Rattle.wasi_causes.proofs.tables.Meets.{Meets, Rows, both, chain, ends, met,
 use Rattle.wasi_causes.proofs.tables.Meets as meets
 use Rattle.wasi_causes.specs.PollableCalls.{BeginsNone, Finds, LooksInTurn}
 use Rattle.wasi_causes.specs.PollableCalls as on
-
--- == records
--- Where a look would begin nothing before, it would begin nothing afterwards.
-pub record BeginsNoMore (old now : List Record) : Type 0 where
-  pub tcp : (k : ℕ) → tcp_begins (tcp2_at old k) ≡ false → tcp_begins (tcp2_at now k) ≡ false
-  pub udp : (k : ℕ) → udp_begins (open_at old k) ≡ false → udp_begins (open_at now k) ≡ false
-
--- What each listener accepts by is an accept.
-abbrev pub AcceptsFit : List Record → Type 0
-AcceptsFit records = (k : ℕ) (r : TcpRecord) → tcp2_at records k ≡ Some r → FitListening r.listening
-
-pub no_more_same : (xs : List Record) → BeginsNoMore xs xs
-no_more_same xs = record { tcp = λ k none. none; udp = λ k none. none }
-
-no_more_then : {one two three : List Record} → BeginsNoMore one two → BeginsNoMore two three → BeginsNoMore one three
-no_more_then s t = record { tcp = λ k none. t.tcp k (s.tcp k none); udp = λ k none. t.udp k (s.udp k none) }
-
-module _ (xs : List Record) (i : ℕ) (r now : TcpRecord) (at : tcp2_at xs i ≡ Some r) where
-  tcp_no_more : (socket_begins r ≡ false → socket_begins now ≡ false) → BeginsNoMore xs (tcp2_put xs i now)
-  tcp_no_more keeps = record {
-    tcp = λ k none. elim (put_either tcp_sort xs i r now k at) [
-      | inl e ↦ ap tcp_begins e ∙ none
-      | inr e ↦ ap tcp_begins e.1 ∙ keeps (sym (ap tcp_begins e.0) ∙ none)
-    ];
-    udp = λ k none. ap (λ (u : Option UdpRecord). udp_begins (open_of u))
-        (other_put tcp_sort udp_sort (λ t. refl) xs i r now k at) ∙ none;
-  }
-
-  tcp_fits : FitListening now.listening → AcceptsFit xs → AcceptsFit (tcp2_put xs i now)
-  tcp_fits fit all k x e = elim (put_either tcp_sort xs i r now k at) [
-    | inl same ↦ all k x (sym same ∙ e)
-    | inr its ↦ (let same : now ≡ x = (let p : Some now ≡ Some x = sym its.1 ∙ e in cc) in subst
-        (λ (y : TcpRecord). FitListening y.listening) same fit)
-  ]
-
-module _ (xs : List Record) (i : ℕ) (o now : OpenUdp) (at : open_at xs i ≡ Some o) where
-  open_no_more : (udp_begins (Some o) ≡ false → udp_begins (Some now) ≡ false) → BeginsNoMore xs (open_put xs i now)
-  open_no_more keeps = record {
-    tcp = λ k none. ap tcp_begins
-        (other_put udp_sort tcp_sort (λ t. refl) xs i (Open o) (Open now) k (open_is (udp2_at xs i) o at)) ∙ none;
-    udp = λ k none. elim (put_either udp_sort xs i (Open o) (Open now) k (open_is (udp2_at xs i) o at)) [
-      | inl e ↦ ap (λ (u : Option UdpRecord). udp_begins (open_of u)) e ∙ none
-      | inr e ↦ ap (λ (u : Option UdpRecord). udp_begins (open_of u)) e.1 ∙ keeps
-          (sym (ap (λ (u : Option UdpRecord). udp_begins (open_of u)) e.0) ∙ none)
-    ];
-  }
-
-  open_fits : AcceptsFit xs → AcceptsFit (open_put xs i now)
-  open_fits all k x e = all k x
-      (sym (other_put udp_sort tcp_sort (λ t. refl) xs i (Open o) (Open now) k (open_is (udp2_at xs i) o at)) ∙ e)
+pub use Rattle.wasi_causes.proofs.pollables.NoMore.{BeginsNoMore, AcceptsFit, no_more_same}
+use Rattle.wasi_causes.proofs.pollables.NoMore.{tcp_no_more, tcp_fits, open_no_more, open_fits, no_more_then}
 
 -- == a look at a listener
 module _ (l : Listener) (holds : HoldsAccept l.side l.maker l.accept) where

@@ -22,10 +22,11 @@ use Rattle.wasi_walks.proofs.fits.Lines.{first_fit}
 use Rattle.wasi_walks.proofs.fits.Polls.{Anything}
 use Rattle.wasi_walks.proofs.received.Handles.{polled_same}
 use Rattle.wasi_walks.proofs.walks.Law.{InCall}
-use Rattle.wasi_walks.proofs.walks.Moves.{AwaitsCreate, CallKind, CallsHandles, Empties, GoesOn, Here, IsCall, Joins}
+use Rattle.wasi_walks.proofs.walks.Moves.{AddsSlot, AwaitsCreate, CallKind, CallsHandles, Empties, GoesOn, Here, IsCall, Joins}
 use Rattle.wasi_walks.proofs.walks.Moves.{Leaves, LooksAtPollables, Made, Move, Numbers, OfPollables, OfStreams, Past}
 use Rattle.wasi_walks.proofs.walks.Moves.{RecallsCall, RecallsStreams, RemembersStreams, Stands, StandsBlocking}
 use Rattle.wasi_walks.proofs.walks.Moves.{StandsConnect, StandsDropOutgoing, StandsUdpBind, StandsUdpConnect, StandsUdpCreate, ToSend}
+use Rattle.wasi_walks.proofs.walks.Moves.{Frees, IsUnheld, JoinsFault, JoinsPlain, RecallsListen, RemembersListen, StandsListen}
 use Rattle.wasi_walks.proofs.walks.Moves.{Unstands, Watches, kind_of, udp_begun}
 use Rattle.wasi_walks.proofs.walks.OfState.{Becomes, Handles, HasHandle, HasNoRoom, NoRoom, OfError, OfLine, OfState}
 use Rattle.wasi_walks.proofs.walks.OfState.{UdpBegun, Writing, begins_state, of_state}
@@ -97,9 +98,17 @@ module _ (contexts : List WasiSocketsCtx) (line : ℕ) (origin : Step) (plain : 
   moves_none _ _ (Leaves h) i = (i.0, tt)
   moves_none _ _ (Watches h own) i = (i.0, tt)
   moves_none _ _ (Numbers h) i = (i.0, tt)
-  moves_none _ _ (Empties h handle kind e none) i = (i.0, tt)
+  moves_none _ _ (AddsSlot h s) i = (i.0, tt)
+  moves_none _ _ (Empties h handle kind q e none) i = (i.0, tt)
   moves_none _ _ (AwaitsCreate h place face create is g) i = (i.0, tt)
   moves_none _ _ (Joins h c handle place r l new peer is of u g e a) i = (i.0, tt)
+  moves_none _ _ (JoinsPlain h c listener remaining place r l new peer is of u g e a) i = (i.0, tt)
+  moves_none _ _ (JoinsFault h place r l c u g e a) i = (i.0, tt)
+  moves_none _ _ (Frees h place made) i = (i.0, tt)
+  moves_none _ _ (IsUnheld h place r g free) i = (i.0, tt)
+  moves_none _ _ (RemembersListen h marks place r is under g none) i = (i.0, tt)
+  moves_none _ _ (RecallsListen h ids place marks e) i = (i.0, tt)
+  moves_none _ _ (StandsListen h ids place marks r quiet at made g k) i = (tt, i.1)
   moves_none _ _ (Unstands h over) i = (tt, i.1)
   moves_none _ _ (Stands h ids call r quiet at g k) i = (goes_none r call k, i.1)
   moves_none _ _ (StandsUdpBind h ids place face o op quiet at g e) i = (tt, i.1)

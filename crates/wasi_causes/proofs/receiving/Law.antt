@@ -1,6 +1,11 @@
 -- The law that of what the stream of a handle received all was handed out but what waits: by each line but one that receives on it.
 use Rattle.wasi_walks.proofs.walks.Law.{BeginsWrites, Rests, begins_by}
-use Rattle.wasi_walks.proofs.walks.Asked.{Asked, Questions, SetsBacklog, Learns, Closes, MarksOne, AsksCreate, MarksAccepted, Polls, Turns, GivesUp, UdpQuestions, UdpDisconnects, UdpLearns, UdpPeers, UdpCloses, UdpBegins, MarksUdp, MarksStream, MarksError, UdpGivesUp, Resolves, Looks}
+use Rattle.wasi_walks.proofs.walks.Asked.{Asked, Questions, SetsBacklog, Learns, Closes, MarksOne, AsksCreate, MarksAccepted, MarksListener, MarksPlain, Polls, Turns, GivesUp, UdpQuestions, UdpDisconnects, UdpLearns, UdpPeers, UdpCloses, UdpBegins, MarksUdp, MarksStream, MarksError, UdpGivesUp, Resolves, Looks}
+use Rattle.std.specs.Prelude.{length, take}
+use Rattle.wasi_tcp.specs.Halves.{write_asks}
+unfoldable use Rattle.wasi_causes.proofs.Words.{bind}
+use Rattle.wasi_walks.proofs.PipeLists.{slot_push_same}
+use Rattle.wasi_walks.proofs.walks.Asked.{MarksResult, ResolvesBeside, LooksBeside, WritesOnce}
 use Rattle.wasi_causes.proofs.Words.{made_to, Stop, Allows, Asks, Call, End, Entry, Err, ErrorCode, ErrorValue, HoldsAccept, HoldsConnect, IsAcceptOn, Item, Job, Kind, List, None, Ok, OpId, Operation, Option, Result, Socket, Some, GuestCall, Step, Streams, Tcp2, TcpRecord, Told, WasiSocketsCtx, WriteState, [], accept_ended, allows_if, allows_then, ap, arith, bind, bind_progress, connect_ended, entry, give_up_asks, inl, inr, is_full, kind_at, length, make_asks, name_of, new_asks, new_record, own_of, poll_asks, refl, side_at, side_of, subst, sym, told_done, turn_asks, with_handle, with_inner, with_listening, with_progress, with_state, with_writer, Bool, ℕ, ⊤, ◌++◌, ◌∙◌, ◌∷◌, ◌≡◌}
 use Rattle.wasi_tcp.specs.Connect as connect
 use Rattle.wasi_tcp.specs.Listen.{IsListen}
@@ -17,7 +22,7 @@ use Rattle.wasi_records.specs.Udp.{udp_bind_progress, udp_create_left, udp_side,
 use Rattle.wasi_host.specs.UdpCreates.{udp_side_at}
 use Rattle.wasi_records.specs.declared.datagrams.Incoming.{Incoming as IncomingStream}
 use Rattle.wasi_records.specs.declared.datagrams.Receiving.{Receiving}
-use Rattle.wasi_host.specs.declared.kind.Kind.TheVariants.{Incoming}
+use Rattle.wasi_host.specs.declared.kind.Kind.TheVariants.{Incoming, Listen3, Result3, Tcp3}
 use Rattle.wasi_records.specs.declared.tcp_listening.Listening.TheVariants as listening
 use Rattle.wasi_records.specs.declared.udp.OpenUdp.{OpenUdp}
 use Rattle.wasi_records.specs.declared.udp.UdpRecord.{UdpRecord}
@@ -123,15 +128,21 @@ module _ (handle : ℕ) (list : List IncomingDatagram) (contexts : List WasiSock
     moves_exact es _ _ (walk.IsGone h place r q g e) b i = tcp es h place r _ g i
     moves_exact es _ _ (walk.Reconnects h place r c now g e s t u) b i = tcp es h place r _ g i
     moves_exact es _ _ (walk.Opens h place r c d g e k) b i = tcp es h place r _ g i
+    moves_exact es _ _ (walk.TakesEnd h its place r now of g takes) b i = tcp es h place r now g i
+    moves_exact es _ _ (walk.AddsSlot h s) b i = (stream_same handle list es h.machine.table h.machine.store.records _ (slot_push_same {new = λ op. ⊥} h.machine.store.records s) i.0, i.1)
     moves_exact es _ _ (walk.BeginsConnect h place r x a bound at g d to known idle own) b i = tcp es h place r _ g i
     moves_exact es _ _ (walk.BeginsBind h place r x a at g d to own) b i = tcp es h place r _ g i
     moves_exact es _ _ (walk.BeginsWrite h place n r s half permit bytes at g e w within own) b i = tcp es h place r _ g i
-    moves_exact es _ _ (walk.BeginsListen h place r x at g d bound none to idle own) b i = tcp es h place r _ g i
+    moves_exact es _ _ (walk.BeginsListen h place r x bound at g d known free none to idle own) b i = tcp es h place r _ g i
     moves_exact es _ _ (walk.BeginsAccept h place n r l at g e a own) b i = tcp es h place r _ g i
     moves_exact es _ _ (walk.Unlistens h place r op q g e c o) b i = tcp es h place r _ g i
     moves_exact es _ _ (walk.Forgets h place r l c g e a) b i = tcp es h place r _ g i
     moves_exact es _ _ (walk.Joins h c its place r l new peer is of u g e a) b i =
         (stream_push_tcp handle list es h.machine.table (tcp2_put h.machine.store.records place (walk.accepting_now r l accepting.Idle)) (joined l new peer) (tcp es h place r (walk.accepting_now r l accepting.Idle) g i).0, i.1)
+    moves_exact es _ _ (walk.JoinsPlain h c listener remaining place r l new peer is of u g e a) b i =
+        (stream_push_tcp handle list es h.machine.table (tcp2_put h.machine.store.records place (walk.accepting_now r l accepting.Idle)) (walk.joined_plain l new peer) (tcp es h place r (walk.accepting_now r l accepting.Idle) g i).0, i.1)
+    moves_exact es _ _ (walk.JoinsFault h place r l c u g e a) b i =
+        (stream_push_tcp handle list es h.machine.table (tcp2_put h.machine.store.records place (walk.accepting_now r l accepting.Idle)) (walk.faulted l c) (tcp es h place r (walk.accepting_now r l accepting.Idle) g i).0, i.1)
     moves_exact es _ _ (walk.UdpChanges h place o now g p keeps) b i = udp es h place (UdpRecord.Open o) (UdpRecord.Open now) g (changes es h b place o now g p keeps.incoming (walk.UdpChanges h place o now g p keeps)) i
     moves_exact es _ _ (walk.BeginsUdpBind h place o a at g to own) b i = udp_same es h place o _ g refl refl i
     moves_exact es _ _ (walk.BeginsUdpConnect h place o a bound at g to known none own) b i = udp_same es h place o _ g refl refl i
@@ -142,8 +153,8 @@ module _ (handle : ℕ) (list : List IncomingDatagram) (contexts : List WasiSock
     moves_exact es _ _ (walk.CancelsUdpConnect h place o q g) b i = udp_same es h place o _ g refl refl i
     moves_exact es _ _ (walk.GivesBack h place idle left) b i = (stream_stays handle list es h.machine.table h.machine.store.records _ (open_stays h place left) i.0, i.1)
     moves_exact es _ _ (walk.Finds h records s) b i = (stream_same handle list es h.machine.table h.machine.store.records records s i.0, i.1)
-    moves_exact es _ _ (walk.Empties h gone kind e none) b i = (stream_without handle list es h.machine.table h.machine.store.records gone i.0, i.1)
-    moves_exact es _ _ (walk.Takes h gone none) b i = (stream_without handle list es h.machine.table h.machine.store.records gone i.0, i.1)
+    moves_exact es _ _ (walk.Empties h gone kind q e none) b i = (stream_without handle list es h.machine.table h.machine.store.records gone i.0, i.1)
+    moves_exact es _ _ (walk.Takes h gone q made none) b i = (stream_without handle list es h.machine.table h.machine.store.records gone i.0, i.1)
     moves_exact es _ _ _ b i = i
 
     -- == polls
@@ -295,20 +306,29 @@ module _ (handle : ℕ) (list : List IncomingDatagram) (contexts : List WasiSock
         let p : Some (UdpRecord.Closed o.inner.side) ≡ Some (UdpRecord.Open has.socket) = sym (put_finds udp_sort h.machine.store.records k (UdpRecord.Open o) (UdpRecord.Closed o.inner.side) g) ∙ has.at in
         absurd (cc)
 
+    -- one write is asked
+    wrote : (es : List Entry) (h : Here) (side : OpId) (bytes : List ℕ) → Inv es h → Allows Anything (λ fs x. Inv fs h) es (write_asks (own_of line) side bytes)
+    unfolding bind
+    wrote es h side bytes i = (tt, λ told f front. asked es h (own_of line) (Call.Write side (length bytes)) told tt i)
+
     -- the law: the calls may be any
     pub exacts_asks : (es : List Entry) (h : Here) (A : Type 0) (tree : Asks A) (end : A → Here)
         → Asked contexts line origin es h A tree end → B es h → Inv es h
         → Allows (Anything) (λ fs x. (Inv) fs (end x)) es tree
-    exacts_asks es h _ _ _ (Questions place n r x c at g o q) b i = (tt, λ told f. asked es h (own_of n) c told (question_else line origin n x c q) i)
+    exacts_asks es h _ _ _ (Questions place n r x c at g o q) b i = (tt, λ told f. asked es h (own_of n) c told (question_else line origin n x c q.0) i)
     exacts_asks es h _ _ _ (SetsBacklog place r x backlog at g s is) b i = (tt, λ told f. asked es h (own_of line) (Call.SetBacklog x backlog) told tt i)
     exacts_asks es h _ _ _ (Learns place r x at g e) b i = (tt, λ told f. tcp _ h place r _ g (asked es h (own_of line) (Call.Local x) told tt i))
     exacts_asks es h _ _ _ (Closes place r x q g e) b i = (tt, λ told f. tcp _ h place r _ g (asked es h (own_of line) (Call.Close x) told tt i))
     exacts_asks es h _ _ _ (MarksOne kind parent sock m) b i = marks_other es h (own_of line) kind parent sock (is_other contexts line origin h kind parent sock m) i
     exacts_asks es h _ _ _ (AsksCreate tells fails face ctx family c a o m) b i = allows_then Anything (λ fs made. Inv fs h) (λ fs done. StreamIs handle list fs done.1.table done.1.store.records × IsFresh handle list done.1.table) es (new_asks (own_of line) ctx family) (made_to tells fails (tcp_kind face) h.machine (own_of line)) (silent es h (new_asks (own_of line) ctx family) (λ side Names. new_silent side ⊤ Names es (own_of line) ctx family) (creates_unmarked es (own_of line) ctx family) i) (λ fs made k. joins tells fails face fs h (own_of line) made k)
     exacts_asks es h _ _ _ (MarksAccepted c s place r is e o g) b i = marks_other es h (own_of line) (Tcp2 place) (Some s) _ tt i
+    exacts_asks es h _ _ _ (MarksPlain c s remaining place r is e o g) b i = marks_other es h (own_of line) (Tcp3 place) (Some s) _ tt i
+    exacts_asks es h _ _ _ (MarksListener n its reached place r q m g has e) b i = marks_other es h (own_of n) (Listen3 place) (Some its) _ tt i
+    exacts_asks es h _ _ _ (MarksResult socket place slot r m made e g) b i = marks_other es h (own_of line) (Result3 slot) (Some socket) _ tt i
+    exacts_asks es h _ _ _ (WritesOnce c its place given end r s half permit is e f at g q w own) b i = wrote es h half.side (take 4294967295 given) i
     exacts_asks es h _ _ _ (Polls op after k) b i = polls_exact es h op after k b i
     exacts_asks es h _ _ _ (Turns place r s g e) b i = quietly handle list contexts line origin h (λ done. tcp2_put h.machine.store.records place (with_writer r s done.1)) es (turn_asks s.writer) i (λ fs done p live st. tcp_at handle list fs h.machine.store.records place p r _ g st) (λ p live st. turn_silent st.socket.inner.side ⊤ (HandName (hand_of st.stream.receiving)) es s.writer (writer_apart es h b place r s g e p st)) (turns_unmarked es s.writer)
-    exacts_asks es h _ _ _ (GivesUp place r q g) b i = quietly handle list contexts line origin h (λ done. tcp2_put h.machine.store.records place (with_listening r listening.Not)) es (give_up_asks r.listening) i (λ fs done p live st. tcp_at handle list fs h.machine.store.records place p r _ g st) (λ p live st. given_up_silent st.socket.inner.side ⊤ (HandName (hand_of st.stream.receiving)) es r.listening) (releases_unmarked es r.listening)
+    exacts_asks es h _ _ _ (GivesUp place r q goes g) b i = quietly handle list contexts line origin h (λ done. tcp2_put h.machine.store.records place (with_listening r listening.Not)) es (give_up_asks r.listening) i (λ fs done p live st. tcp_at handle list fs h.machine.store.records place p r _ g st) (λ p live st. given_up_silent st.socket.inner.side ⊤ (HandName (hand_of st.stream.receiving)) es r.listening) (releases_unmarked es r.listening)
     exacts_asks es h _ _ _ (UdpQuestions place n o c at g q) b i = (tt, λ told f. asked es h (own_of n) c told (udp_question_else line origin n o.inner.side c q) i)
     exacts_asks es h _ _ _ (UdpLearns place part o at g) b i = (tt, λ told f. udp_same _ h place o _ g (learnt_side o.inner (told_addr told)) refl (asked es h (part_of line part) (Call.Local o.inner.side) told tt i))
     exacts_asks es h _ _ _ (UdpDisconnects place o at g is) b i = (tt, λ told f. udp_same _ h place o _ g refl refl (asked es h (own_of line) (Call.UdpDisconnect o.inner.side) told tt i))
@@ -321,6 +341,8 @@ module _ (handle : ℕ) (list : List IncomingDatagram) (contexts : List WasiSock
     exacts_asks es h _ _ _ (UdpGivesUp place create q g) b i = quietly handle list contexts line origin h (λ done. udp2_put h.machine.store.records place (UdpRecord.Closed create.operation.who.side)) es (create_cancel_asks create) i (λ fs done p live st. put_at handle list fs h.machine.table h.machine.store.records place p (UdpRecord.Creating create) (UdpRecord.Closed create.operation.who.side) g live (λ same. no_stream handle list contexts line origin fs create (UdpRecord.Closed create.operation.who.side)) st) (λ p live st. cancelled_silent st.socket.inner.side ⊤ (HandName (hand_of st.stream.receiving)) es create) (cancels_unmarked es create)
     exacts_asks es h _ _ _ (Resolves host records l same) b i = (tt, λ told f. (stream_same handle list _ h.machine.table h.machine.store.records (records told) (same told) (asked es h (own_of line) (Call.Lookup host) told tt i).0, i.1))
     exacts_asks es h _ _ _ (Looks place op g) b i = (tt, λ told f. asked es h op.id (Call.Lookup op.host) told tt i)
+    exacts_asks es h _ _ _ (ResolvesBeside host l) b i = (tt, λ told f. asked es h (own_of line) (Call.Lookup host) told tt i)
+    exacts_asks es h _ _ _ (LooksBeside n call host g e) b i = (tt, λ told f. asked es h (own_of n) (Call.Lookup host) told tt i)
 
     unfoldable pub exacts : Rests contexts line origin B
     exacts = record {

@@ -19,10 +19,17 @@ use Rattle.wasi_walks.proofs.walks.OfState.{Becomes, Created, CreatedWith, Given
 use Rattle.wasi_walks.proofs.walks.OfState.{UdpGivenUp, UdpIsClosed, UdpLearnt, Writing, begins_state, of_state}
 use Rattle.wasi_records.specs.Records.{tcp2_pushed}
 use Rattle.wasi_causes.proofs.Words.{Streams}
+use Rattle.wasi_walks.proofs.PipeLists.{slot_push_same}
+use Rattle.wasi_records.specs.Ends.{ends_of}
 
 module _ (contexts : List WasiSocketsCtx) (line : ℕ) (origin : Step) where
   abbrev pub Apart : Here → Type 0
   Apart h = NamesApart line h.own h.machine.store.records
+
+  -- a half is taken
+  ends_first : (o : Option Streams) → IsFirst (streams_name o) → IsFirst (job_name (ends_of o).writer)
+  ends_first None f = tt
+  ends_first (Some s) f = f
 
   -- the streams are as they were
   pub tcp_stays : (h : Here) (place : ℕ) (r now : TcpRecord) → walk.Found h place r → now.streams ≡ r.streams → Apart h → Apart (put h place now)
@@ -63,14 +70,19 @@ module _ (contexts : List WasiSocketsCtx) (line : ℕ) (origin : Step) where
   moves_apart _ _ (walk.IsGone h place r q g e) i = tcp_none h place _ refl i
   moves_apart _ _ (walk.Reconnects h place r c now g e s t u) i = tcp_stays h place r _ g refl i
   moves_apart _ _ (walk.Opens h place r c d g e k) i = put_tcp line h.own h.machine.store.records place _ tt i
+  moves_apart _ _ (walk.TakesEnd h handle place r _ of g (walk.OfReceive c e free)) i = put_tcp line h.own h.machine.store.records place _ (ends_first r.streams (i.writes place r g)) i
+  moves_apart _ _ (walk.TakesEnd h handle place r _ of g (walk.OfSend c e free)) i = put_tcp line h.own h.machine.store.records place _ tt i
+  moves_apart _ _ (walk.AddsSlot h s) i = same_apart line h.own h.machine.store.records _ (slot_push_same {new = λ op. ⊥} h.machine.store.records s) i
   moves_apart _ _ (walk.BeginsConnect h place r x a bound at g d to known idle own) i = tcp_used h place r _ g refl i
   moves_apart _ _ (walk.BeginsBind h place r x a at g d to own) i = tcp_used h place r _ g refl i
   moves_apart _ _ (walk.BeginsWrite h place n r s half permit bytes at g e w within own) i = used (put h place _) (put_tcp line h.own h.machine.store.records place _ refl i)
-  moves_apart _ _ (walk.BeginsListen h place r x at g d bound none to idle own) i = tcp_used h place r _ g refl i
+  moves_apart _ _ (walk.BeginsListen h place r x bound at g d known free none to idle own) i = tcp_used h place r _ g refl i
   moves_apart _ _ (walk.BeginsAccept h place n r l at g e a own) i = owns_apart line h.own (Names (n + 1)) _ (next_grows line n h.own own) (next_gives h.own n own i.gives) (tcp_stays h place r _ g refl i)
   moves_apart _ _ (walk.Unlistens h place r op q g e c o) i = tcp_stays h place r _ g refl i
   moves_apart _ _ (walk.Forgets h place r l c g e a) i = tcp_stays h place r _ g refl i
   moves_apart _ _ (walk.Joins h c handle place r l new peer is of u g e a) i = push_tcp line h.own _ (joined l new peer) tt (tcp_stays h place r _ g refl i)
+  moves_apart _ _ (walk.JoinsPlain h c listener remaining place r l new peer is of u g e a) i = push_tcp line h.own _ (walk.joined_plain l new peer) tt (tcp_stays h place r _ g refl i)
+  moves_apart _ _ (walk.JoinsFault h place r l c u g e a) i = push_tcp line h.own _ (walk.faulted l c) tt (tcp_stays h place r _ g refl i)
   moves_apart _ _ (walk.UdpChanges h place o now g p keeps) i =
       put_udps line h.own h.machine.store.records place (UdpRecord.Open o) (UdpRecord.Open now) g (kept_name (walk.receiving_in o.incoming) (walk.receiving_in now.incoming) p.receives) i (subst (λ (x : Option Operation). IsFirst (name_of_op x)) (sym p.connects) (i.connects place (UdpRecord.Open o) g))
   moves_apart _ _ (walk.BeginsUdpBind h place o a at g to own) i = used (put_udp h place _) (udp_stays h place o _ g refl refl i)
@@ -142,7 +154,7 @@ module _ (contexts : List WasiSocketsCtx) (line : ℕ) (origin : Step) where
   pub becomes_apart : (h now : Here) → Becomes contexts line origin h now → Apart h → Apart now
   becomes_apart h _ (Learnt place r side told at g e) i = tcp_stays h place r _ g refl i
   becomes_apart h _ (IsClosed place r side q g e) i = tcp_none h place _ refl i
-  becomes_apart h _ (GivenUp place r q g) i = tcp_stays h place r _ g refl i
+  becomes_apart h _ (GivenUp place r q goes g) i = tcp_stays h place r _ g refl i
   becomes_apart h _ (UdpLearnt place o socket g e) i = udp_stays h place o _ g refl refl i
   becomes_apart h _ (UdpIsClosed place o q g) i =
       udp_other h place (UdpRecord.Open o) (UdpRecord.Closed o.inner.side) g refl tt i

@@ -1,6 +1,12 @@
 -- The law that datagrams were asked for by names that were given before.
 use Rattle.wasi_walks.proofs.walks.Law.{BeginsWrites, Rests, begins_by}
-use Rattle.wasi_walks.proofs.walks.Asked.{Asked, Questions, SetsBacklog, Learns, Closes, MarksOne, AsksCreate, MarksAccepted, Polls, Turns, GivesUp, UdpQuestions, UdpDisconnects, UdpLearns, UdpPeers, UdpCloses, UdpBegins, MarksUdp, MarksStream, MarksError, UdpGivesUp, Resolves, Looks}
+use Rattle.std.specs.Prelude.{length, take}
+use Rattle.wasi_tcp.specs.Halves.{write_asks}
+unfoldable use Rattle.wasi_causes.proofs.Words.{bind}
+use Rattle.wasi_walks.proofs.walks.Asked.{MarksResult, WritesOnce}
+use Rattle.wasi_walks.proofs.walks.Asked.{Asked, Questions, SetsBacklog, Learns, Closes, MarksOne, AsksCreate, MarksAccepted, MarksListener, MarksPlain, Polls, Turns, GivesUp, UdpQuestions, UdpDisconnects, UdpLearns, UdpPeers, UdpCloses, UdpBegins, MarksUdp, MarksStream, MarksError, UdpGivesUp, Resolves, Looks}
+use Rattle.wasi_walks.proofs.walks.Asked.{ResolvesBeside, LooksBeside}
+use Rattle.wasi_host.specs.declared.kind.Kind.TheVariants.{Listen3, Result3, Tcp3}
 use Rattle.wasi_causes.proofs.Words.{made_to, Stop, Allows, Ask, AskWrite, Asks, Give, Call, End, Entry, Err, ErrorCode, ErrorValue, HoldsAccept, HoldsConnect, IsAcceptOn, Item, Job, Kind, List, None, Ok, OpId, Operation, Option, Result, Socket, Some, Step, Streams, Tcp2, TcpRecord, Told, Waits, WasiSocketsCtx, WriteState, [], allows_keep, allows_then, ap, arith, bind, entry, give_up_asks, has_split, inl, inr, job_asks, job_in, length, make_asks, new_asks, own_of, poll_asks, refl, side_at, side_of, subst, sym, turn_asks, ℕ, ⊤, ◌+◌, ◌++◌, ◌∙◌, ◌∷◌, ◌≡◌}
 use Rattle.wasi_addr.specs.declared.address.SocketAddrUse.TheVariants.{UdpReceive}
 use Rattle.wasi_tcp.specs.Connect as connect
@@ -161,7 +167,7 @@ module _ (contexts : List WasiSocketsCtx) (line : ℕ) (origin : Step) where
   moves_older es _ _ (walk.BeginsConnect h place r x a bound at g d to known idle own) b i = used es h i
   moves_older es _ _ (walk.BeginsBind h place r x a at g d to own) b i = used es h i
   moves_older es _ _ (walk.BeginsWrite h place n r s half permit bytes at g e w within own) b i = used es h i
-  moves_older es _ _ (walk.BeginsListen h place r x at g d bound none to idle own) b i = used es h i
+  moves_older es _ _ (walk.BeginsListen h place r x bound at g d known free none to idle own) b i = used es h i
   moves_older es _ _ (walk.BeginsAccept h place n r l at g e a own) b i = next es h n own i
   moves_older es _ _ (walk.BeginsUdpBind h place o a at g to own) b i = used es h i
   moves_older es _ _ (walk.BeginsUdpConnect h place o a bound at g to known none own) b i = connecting es h place i
@@ -220,19 +226,29 @@ module _ (contexts : List WasiSocketsCtx) (line : ℕ) (origin : Step) where
   begun es h (Ok create) i = used es h i
   begun es h (Err c) i = used es h i
 
+  -- one write is asked
+  wrote : (es : List Entry) (h : Here) (side : OpId) (bytes : List ℕ) → Inv es h → Allows Anything (λ fs x. Inv fs (record h { own = Used })) es (write_asks (own_of line) side bytes)
+  unfolding bind
+  wrote es h side bytes i = (tt, λ told f front. used _ h (asked es h.own (own_of line) (Call.Write side (length bytes)) told tt i))
+
   pub older_asks : (es : List Entry) (h : Here) (A : Type 0) (tree : Asks A) (end : A → Here)
       → Asked contexts line origin es h A tree end → B es h → Inv es h
       → Allows Anything (λ fs x. Inv fs (end x)) es tree
-  older_asks es h _ _ _ (Questions place n r x c at g o q) b i = (tt, λ told f. asked es h.own (own_of n) c told (question_else line origin n x c q) i)
+  older_asks es h _ _ _ (Questions place n r x c at g o q) b i = (tt, λ told f. asked es h.own (own_of n) c told (question_else line origin n x c q.0) i)
   older_asks es h _ _ _ (SetsBacklog place r x backlog at g s is) b i = (tt, λ told f. asked es h.own (own_of line) (Call.SetBacklog x backlog) told tt i)
   older_asks es h _ _ _ (Learns place r x at g e) b i = (tt, λ told f. asked es h.own (own_of line) (Call.Local x) told tt i)
   older_asks es h _ _ _ (Closes place r x q g e) b i = (tt, λ told f. asked es h.own (own_of line) (Call.Close x) told tt i)
   older_asks es h _ _ _ (MarksOne kind parent sock m) b i = marks es h (own_of line) kind parent sock i
   older_asks es h _ _ _ (AsksCreate tells fails face ctx family c a o m) b i = allows_then Anything (λ fs made. Inv fs h) (λ fs done. AllOlder line Used fs) es (new_asks (own_of line) ctx family) (made_to tells fails (tcp_kind face) h.machine (own_of line)) (silent line h.own es (new_asks (own_of line) ctx family) i (λ side. new_silent side ⊤ NoName es (own_of line) ctx family)) (λ fs made k. joins tells fails face fs h (own_of line) made k)
   older_asks es h _ _ _ (MarksAccepted c s place r is e o g) b i = marks es h (own_of line) (Tcp2 place) (Some s) _ i
+  older_asks es h _ _ _ (MarksPlain c s remaining place r is e o g) b i = marks es h (own_of line) (Tcp3 place) (Some s) _ i
+  older_asks es h _ _ _ (MarksListener n handle reached place r q m g has e) b i = marks es h (own_of n) (Listen3 place) (Some handle) _ i
+  older_asks es h _ _ _ (MarksResult socket place slot r m made e g) b i = marks es h (own_of line) (Result3 slot) (Some socket) _ i
+  older_asks es h _ _ _ (WritesOnce c handle place given end r s half permit is e f at g q w own) b i =
+      wrote es h half.side (take 4294967295 given) i
   older_asks es h _ _ _ (Polls op after k) b i = polls_older es h op after k b i
   older_asks es h _ _ _ (Turns place r s g e) b i = turned line h.own es s.writer i (subst (λ (x : Option Streams). IsFirst (streams_name x)) e (b.1.writes place r g))
-  older_asks es h _ _ _ (GivesUp place r q g) b i = silent line h.own es (give_up_asks r.listening) i (λ side. given_up_silent side ⊤ NoName es r.listening)
+  older_asks es h _ _ _ (GivesUp place r q goes g) b i = silent line h.own es (give_up_asks r.listening) i (λ side. given_up_silent side ⊤ NoName es r.listening)
   older_asks es h _ _ _ (UdpQuestions place n o c at g q) b i = (tt, λ told f. asked es h.own (own_of n) c told (udp_question_else line origin n o.inner.side c q) i)
   older_asks es h _ _ _ (UdpLearns place part o at g) b i = (tt, λ told f. asked es h.own (walk.part_of line part) (Call.Local o.inner.side) told tt i)
   older_asks es h _ _ _ (UdpDisconnects place o at g is) b i = (tt, λ told f. asked es h.own (own_of line) (Call.UdpDisconnect o.inner.side) told tt i)
@@ -245,6 +261,8 @@ module _ (contexts : List WasiSocketsCtx) (line : ℕ) (origin : Step) where
   older_asks es h _ _ _ (UdpGivesUp place create q g) b i = silent line h.own es (create_cancel_asks create) i (λ side. cancelled_silent side ⊤ NoName es create)
   older_asks es h _ _ _ (Resolves host records l same) b i = (tt, λ told f. asked es h.own (own_of line) (Call.Lookup host) told tt i)
   older_asks es h _ _ _ (Looks place op g) b i = (tt, λ told f. asked es h.own op.id (Call.Lookup op.host) told tt i)
+  older_asks es h _ _ _ (ResolvesBeside host l) b i = (tt, λ told f. asked es h.own (own_of line) (Call.Lookup host) told tt i)
+  older_asks es h _ _ _ (LooksBeside n call host g e) b i = (tt, λ told f. asked es h.own (own_of n) (Call.Lookup host) told tt i)
 
   unfoldable pub olders : Rests contexts line origin B
   olders = record {

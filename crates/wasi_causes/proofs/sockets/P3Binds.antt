@@ -1,10 +1,10 @@
 -- Binds of 0.3 sockets.
-use Rattle.wasi_causes.proofs.Words.{◌≡◌, ◌∙◌, ℕ, Bool, true, false, if◌then◌else◌, List, [], ◌∷◌, Option, Some, None, Result}
+use Rattle.wasi_causes.proofs.Words.{◌≡◌, ◌∙◌, ℕ, Bool, true, false, if◌then◌else◌, List, [], ◌∷◌, Some, Result}
 use Rattle.wasi_causes.proofs.Words.{Ok, Err, refl, sym, subst, ap, Answer, Pending, Ready, Entry, ErrorCode, Give, Given}
-use Rattle.wasi_causes.proofs.Words.{InvalidArgument, InvalidState, IpSocketAddress, IsFoundUnbound, Item, Machine}
-use Rattle.wasi_causes.proofs.Words.{NoSuchHandle, OpId, Operation, Refused, Socket, TcpRecord, TcpState, Told, Trap, Waits}
-use Rattle.wasi_causes.proofs.Words.{WasiSocketsCtx, bind, bind_allowed, bind_begun, bind_ended, bound_asks, begin_bind_asks}
-use Rattle.wasi_causes.proofs.Words.{Done, End, entry, first_ids, knowing_bound, may_bind_to, own_of, p3_word, putting, with_inner}
+use Rattle.wasi_causes.proofs.Words.{InvalidArgument, IpSocketAddress, IsFoundUnbound, Item, Machine}
+use Rattle.wasi_causes.proofs.Words.{OpId, Operation, Refused, Socket, TcpRecord, TcpState, Told, Waits}
+use Rattle.wasi_causes.proofs.Words.{WasiSocketsCtx, bind, bind_allowed, bind_begun, bind_ended}
+use Rattle.wasi_causes.proofs.Words.{Done, End, entry, first_ids, may_bind_to, own_of, p3_word, putting}
 use Rattle.wasi_causes.proofs.Words.{with_progress}
 use Rattle.wasi_addr.specs.Address.{ip_of, is_of_family}
 use Rattle.wasi_addr.specs.Code.{p3_of_code}
@@ -43,7 +43,7 @@ use Rattle.wasi_records.specs.declared.udp.OpenUdp.{OpenUdp}
 use Rattle.wasi_records.specs.declared.udp.UdpInProgress.TheVariants as udp_doing
 use Rattle.wasi_records.specs.Records.{open_at, tcp2_at}
 use Rattle.wasi_records.specs.Stops.{Code}
-use Rattle.wasi_records.specs.Udp.{begin_udp_bind_asks, udp_bind_begun, udp_bind_ended, with_udp_progress}
+use Rattle.wasi_records.specs.Udp.{udp_bind_begun, udp_bind_ended, with_udp_progress}
 use Rattle.wasi_steps.specs.declared.guest_call.GuestCall.TheVariants as guest
 use Rattle.wasi_steps.specs.declared.step.Step.TheVariants as step
 use Rattle.wasi_steps.specs.Reply.{no_values}

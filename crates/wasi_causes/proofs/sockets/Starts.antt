@@ -280,7 +280,7 @@ module _ (contexts : List WasiSocketsCtx) (m : Machine) (line c handle : ℕ) wh
         (λ no. ends (λ is. absurd (cc), (inl no, (refl, refl)))))
 
   -- == a listen
-  listen_said : (place : ℕ) (r : TcpRecord) (n : Names m handle place r) → is_nothing r.in_progress ≡ true → (es : List Entry) (done : Result (Answer (Unit {0})) ErrorCode × TcpRecord) → ListenRow m own handle place r n es done → (Replied contexts m line (step.Call c (guest.TcpStartListen handle)) (answer_reply line)) es (with_store m (call_answered m.store (first_ids line) (StandingCall.Listen place) done))
+  listen_said : (place : ℕ) (r : TcpRecord) (n : Names m handle place r) → is_nothing r.in_progress ≡ true → (es : List Entry) (done : Result (Answer (Unit {0})) ErrorCode × TcpRecord) → ListenRow m own handle place r n es done → (Replied contexts m line (step.Call c (guest.TcpStartListen handle)) (answer_reply line)) es (with_store m (call_answered m.store (first_ids line) (StandingCall.Listen place None) done))
   listen_said place r n idle es (Ok Pending, now) h = (no_conflict n idle _ (λ e. cc), ((refl, refl), h))
   listen_said place r n idle es (Ok (Ready done), now) h = (no_conflict n idle _ (λ e. cc), (tt, tt))
   listen_said place r n idle es (Err code, now) h = (no_code n idle code, (inr (code_word code), (λ late. here n (Begins idle (h.0 late)), h.1)))

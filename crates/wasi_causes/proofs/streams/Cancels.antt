@@ -1,5 +1,6 @@
 -- A cancel of the pending call.
 use Rattle.wasi_host.specs.declared.kind.Interface.{Interface}
+use Rattle.wasi_causes.proofs.operations.PendingListens.{it_listens}
 use Rattle.wasi_causes.proofs.Words.{nothing_stands, ◌≡◌, ◌==◌, ◌∙◌, ℕ, Bool, true, false, if◌then◌else◌, List, [], Option, Some, None, refl, sym, subst, ap, inl, inr, Entry, Give, IfSome, IsListening, IsSomeAnd, Listening, Machine, PendingCallsFit, Records, Standing, StandingCall, TcpRecord, WasiSocketsCtx, bind, call_of, eq-eqb, side_of, stands_as, standing_as, unstood}
 use Rattle.wasi_world.specs.declared.ids.Ids.{Ids}
 use Rattle.wasi_world.specs.declared.call.Call.TheVariants as call
@@ -7,7 +8,7 @@ use Rattle.wasi_udp.specs.Create.{Create}
 use Rattle.wasi_causes.proofs.Words.{Item, entry}
 use Rattle.socket_common.specs.Rounds.{is_going}
 use Rattle.wasi_world.specs.declared.call.Told.TheVariants as told
-use Rattle.wasi_walks.specs.Waiting.{IsCreating}
+use Rattle.wasi_walks.specs.Waiting.{HoldsCall, IsCreating}
 use Rattle.wasi_host.specs.Cancel.{cancel_asks, cancel_call, cancel_on, cancel_bind_at, cancel_create_at, cancel_drop_outgoing_at, cancel_listen_at, cancel_udp_bind_at, cancel_udp_connect_at, is_datagram_on, listen_gone, other_than_datagram}
 use Rattle.wasi_jobs.specs.declared.job.HostJob.{HostJob}
 use Rattle.wasi_jobs.specs.declared.job.HostJob.TheVariants.{Datagram}
@@ -24,7 +25,7 @@ use Rattle.wasi_host.specs.Beside.{beside_cancelled, beside_of, stands_under}
 use Rattle.wasi_causes.proofs.Beside.{beside_call, exclusive_call, is_beside, no_call, not_beside, not_both}
 use Rattle.wasi_causes.proofs.Words.{IsSome}
 use Rattle.wasi_walks.specs.Licence.{Has}
-use Rattle.wasi_causes.proofs.Ending.{listening_up}
+use Rattle.wasi_causes.proofs.Releases.{listening_up}
 use Rattle.wasi_causes.proofs.tables.Meets.{Meets, Rows, asks, branch, ends, onto, told_so, widen}
 use Rattle.wasi_causes.proofs.tables.Routes.{Says, apart}
 use Rattle.wasi_causes.specs.Cancelled.{CancelsBy, CreateGivenUp, ListenGivenUp}
@@ -63,19 +64,20 @@ module _ (m : Machine) where
     bind_goes place face (Some r) at = (λ q there. let its : r ≡ q = cc in (refl, ap (λ (x : TcpRecord). let after : Machine = record m { store = cancel_bind_at free place (Some x) } in after) its), refl)
 
     -- a listen that is pending has taken the network socket
-    listen_closed : (place : ℕ) (r : TcpRecord) → tcp2_at m.store.records place ≡ Some r → Under ids (StandingCall.Listen place) → PendingCallsFit m → side_of r.inner ≡ None
-    listen_closed place r at stands fits =
-        let k : IfSome (tcp2_at m.store.records place) (λ q. IsListening q.inner.state q.listening) = rw stands at fits in
+    listen_closed : (place : ℕ) (marks : Option ℕ) (r : TcpRecord) → tcp2_at m.store.records place ≡ Some r → Under ids (StandingCall.Listen place marks) → PendingCallsFit m → side_of r.inner ≡ None
+    listen_closed place marks r at stands fits =
+        let held : HoldsCall m (StandingCall.Listen place marks) = rw stands at fits in
+        let k : IfSome (tcp2_at m.store.records place) (λ q. IsListening q.inner.state q.listening) = it_listens m place marks held in
         by_listening r.listening (rw at at k)
       where
         by_listening : (l : Listening) → IsListening r.inner.state l → side_of r.inner ≡ None
         by_listening (listening.Begins op) h = h.3
         by_listening _ h = absurd h
 
-    listen_goes : (place : ℕ) → Under ids (StandingCall.Listen place) → (o : Option TcpRecord) → tcp2_at m.store.records place ≡ o → Meets (LeftRow (StandingCall.Listen place)) [] (cancel_listen_at free place o)
-    listen_goes place stands None at = ends (λ r there. absurd (cc), refl)
-    listen_goes place stands (Some r) at =
-        onto _ (widen (λ es done k. (λ q there. let its : r ≡ q = cc in subst (λ (x : TcpRecord). ListenGivenUp m place x es (record m { store = listen_gone free place r })) its (record { asked = k; left = refl; closed = listen_closed place r at stands }), refl)) (listening_up r.listening))
+    listen_goes : (place : ℕ) (marks : Option ℕ) → Under ids (StandingCall.Listen place marks) → (o : Option TcpRecord) → tcp2_at m.store.records place ≡ o → Meets (LeftRow (StandingCall.Listen place marks)) [] (cancel_listen_at free place o)
+    listen_goes place marks stands None at = ends (λ r there. absurd (cc), refl)
+    listen_goes place marks stands (Some r) at =
+        onto _ (widen (λ es done k. (λ q there. let its : r ≡ q = cc in subst (λ (x : TcpRecord). ListenGivenUp m place x es (record m { store = listen_gone free place r })) its (record { asked = k; left = refl; closed = listen_closed place marks r at stands }), refl)) (listening_up r.listening))
 
     -- a create that is pending waits for its network socket
     goes_on : (place : ℕ) (face : Interface) (create : Create) → udp2_at m.store.records place ≡ Some (udp.Creating create) → Under ids (StandingCall.UdpCreate place face) → PendingCallsFit m → is_going create.operation ≡ true
@@ -113,7 +115,7 @@ module _ (m : Machine) where
 
     goes : (its : StandingCall) → Under ids its → Meets (LeftRow its) [] (cancel_on free its)
     goes (StandingCall.Bind place face) stands = ends (bind_goes place face (tcp2_at m.store.records place) refl)
-    goes (StandingCall.Listen place) stands = listen_goes place stands (tcp2_at m.store.records place) refl
+    goes (StandingCall.Listen place marks) stands = listen_goes place marks stands (tcp2_at m.store.records place) refl
     goes (StandingCall.DropOutput place) stands = ends ((refl, refl), refl)
     goes (StandingCall.UdpCreate place face) stands = create_goes place face stands (udp2_at m.store.records place) refl
     goes (StandingCall.UdpBind place face) stands = ends (udp_bind_goes place face (open_at m.store.records place) refl)

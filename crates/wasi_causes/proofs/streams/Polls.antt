@@ -56,7 +56,7 @@ module _ (contexts : List WasiSocketsCtx) (m : Machine) (line : ℕ) (ids : Ids)
   like (blocking.Finish output) fields g = rw g (inl (inl tt))
   like (blocking.Flush output) fields g = rw g (inl (inl tt))
   like (blocking.Block pollable) fields g = rw g (inl (inl tt))
-  like (blocking.Poll pollables) fields g = inr (g.0, g.1, g.2)
+  like (blocking.Poll pollables) fields g = inr (inl (g.0, g.1, g.2))
 
   pub gives_so : (es : List Entry) (fields : List Field) (after : Machine) → GivesOf call fields → after.table ≡ m.table → Replies contexts m line (step.Poll n) es (reply.Ok fields) after
   gives_so es fields after g same = (like call fields g, inl (its_call (λ s. GivesBy m fields after s.call) (g, same)))

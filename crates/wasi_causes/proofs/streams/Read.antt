@@ -51,6 +51,9 @@ module _ (contexts : List WasiSocketsCtx) (m : Machine) (line : ℕ) where
     misses es (reply.Failed w handle) after row none = absurd row.1.0.0
     misses es (reply.Trap kind) after row none = trapped es kind after row.1
     misses es (reply.Pending n) after row none = absurd row.1.0.0
+    misses es reply.Cancelled after row none = absurd row.1.0
+    misses es reply.Dropped after row none = absurd row.1.0
+    misses es reply.Unfilled after row none = absurd row.1.0
     misses es reply.NoSuchCall after row none = absurd (elim row.1.0 [ inl k ↦ k | inr k ↦ k ])
     misses es _ after row none = absurd row.1
 

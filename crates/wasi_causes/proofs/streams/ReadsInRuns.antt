@@ -25,7 +25,8 @@ use Rattle.wasi_walks.specs.Licence.{IsMarkedWith, handles_of, step_at}
 use Rattle.wasi_causes.proofs.streams.Read.{ends_by_read}
 use Rattle.wasi_causes.proofs.Beside.{one_of_three}
 use Rattle.wasi_causes.proofs.tables.Steps.{busy_exactly, its_own, while_free}
-use Rattle.wasi_causes.specs.P3Connects.{IsOver, OverDone, OverGone, OverRefused}
+use Rattle.wasi_addr.specs.declared.address.IpAddress.TheVariants as ip
+use Rattle.wasi_causes.specs.P3Connects.{IsOver, OverDone, OverFound, OverGone, OverRefused, OverUnresolved}
 use Rattle.wasi_causes.specs.Blocking.{EndsByRead, GivesOf}
 use Rattle.wasi_causes.specs.HandedBytes.{HandsOutBytes, LastReadTold}
 use Rattle.wasi_causes.specs.HandedBytes as handed
@@ -168,6 +169,8 @@ module _ (contexts : List WasiSocketsCtx) (steps : List Step) (log : List Entry)
           ends)
       by_call s e same (StandingCall.UdpCreate place face) is k = absurd (let f = k.0 in cc)
       by_call s e same (StandingCall.UdpConnect place handle) is k = absurd (let f = k.0 in cc)
+      by_call s e same (StandingCall.Listen place (Some handle)) is k = absurd (let f = k.0 in cc)
+      by_call s e same (StandingCall.Listen place None) is k = absurd (let f = k in cc)
       by_call s e same _ is k = absurd (let f = k.0 in cc)
 
       -- it is the exclusive call
@@ -175,6 +178,10 @@ module _ (contexts : List WasiSocketsCtx) (steps : List Step) (log : List Entry)
       none_over _ OverDone e = cc
       none_over _ (OverRefused code) e = cc
       none_over _ OverGone e = cc
+      none_over _ (OverFound []) e = cc
+      none_over _ (OverFound (ip.Ipv4 a ∷ addresses)) e = cc
+      none_over _ (OverFound (ip.Ipv6 a ∷ addresses)) e = cc
+      none_over _ OverUnresolved e = cc
 
       none_other : stands_as m.store.standing n ≡ false → ⊥
       none_other other = one_of_three m n (λ on. let off = other in cc) (λ none. let k = row.0.0.1 none in cc)
@@ -194,4 +201,4 @@ module _ (contexts : List WasiSocketsCtx) (steps : List Step) (log : List Entry)
           by_line false other = absurd (none_other (ap (λ (o : Option Standing). stands_as o n) e ∙ other))
 
       pub polled_so : HandsOutBytes log (own_of n) input (b ∷ bytes) es
-      polled_so = elim row.1.1 [ inl gives ↦ by_stands m.store.standing refl gives | inr beside ↦ absurd (let none = beside.1 in cc) ]
+      polled_so = elim row.1.1 [ inl gives ↦ by_stands m.store.standing refl gives | inr beside ↦ absurd (none_other beside.0.0) ]

@@ -67,6 +67,9 @@ module _ (contexts : List WasiSocketsCtx) (m : Machine) (line c output len : ℕ
   zeroed_so es (reply.Trap trap.EmptyList) after row = absurd row.0
   zeroed_so es (reply.Trap _) after row = absurd row
   zeroed_so es (reply.Pending n) after row = absurd row.0.0
+  zeroed_so es reply.Cancelled after row = absurd row.0
+  zeroed_so es reply.Dropped after row = absurd row.0
+  zeroed_so es reply.Unfilled after row = absurd row.0
   zeroed_so es reply.NoSuchCall after row = elim row.0 [ inl p ↦ absurd p | inr p ↦ absurd p ]
   zeroed_so es _ after row = absurd row
 

@@ -1,5 +1,8 @@
 -- The table of replies on replies that no step gives.
 use Rattle.wasi_causes.proofs.Words.{List, None, ◌≡◌, inl, inr, ℕ, [], ◌∷◌, IpSocketAddress, SocketAddressFamily, NoSuchHandle, HasChildren, Full, NotPermitted, Reply, Step}
+use Rattle.wasi_addr.specs.declared.address.IpAddress.{IpAddress}
+use Rattle.wasi_addr.specs.declared.address.IpAddress.TheVariants as ip
+use Rattle.wasi_steps.specs.Reply.{ips_values}
 use Rattle.wasi_steps.specs.declared.reply.CodeWord.TheVariants as word
 use Rattle.wasi_world.specs.declared.datagram.OutgoingDatagram.{OutgoingDatagram}
 use Rattle.wasi_world.specs.declared.outcome.TrapKind.TheVariants.{Capacity, EmptyList, StreamsAlive, TooLong}
@@ -14,12 +17,27 @@ use Rattle.wasi_world.specs.declared.call.Opt.{Opt}
 abbrev Never : ℕ → Step → Reply → Type 0
 Never line s r = may_answer line s r → ⊥
 
-of_no_step : (line : ℕ) (s : Step) → Never line s reply.Cancelled × Never line s reply.Dropped
-of_no_step line s = (λ h. h, λ h. h)
+-- only a poll of an end tells that its stream is over, and only the take of a result that it isn't
+of_no_end : (c h n : ℕ) → Never 7 (step.Call c (guest.Read h n)) reply.Dropped × Never 7 (step.Call c (guest.P3Accept h n)) reply.Dropped × Never 7 (step.Call c (guest.P3Result h)) reply.Dropped × Never 7 (step.Call c (guest.P3Read h n)) reply.Unfilled
+of_no_end c h n = (λ k. k, λ k. k, λ k. k, λ k. k)
+
+-- an end is never pending, nor refused
+of_no_poll_of_end : (c h n : ℕ) (bytes : List ℕ) → Never 7 (step.Call c (guest.P3Read h n)) (reply.Pending n) × Never 7 (step.Call c (guest.P3Write h bytes)) (reply.Err word.InvalidState)
+of_no_poll_of_end c h n bytes = (λ k. k, λ k. k)
+
+-- an accept of 0.3 may be cancelled, and not a listen, and it is never pending
+of_no_accept : (c h n : ℕ) → Never 7 (step.Call c (guest.TcpAccept h)) reply.Cancelled × Never 7 (step.Call c (guest.P3TcpListen h)) reply.Cancelled × Never 7 (step.Call c (guest.P3Accept h n)) (reply.Pending n)
+of_no_accept c h n = (λ k. k, λ k. k, λ k. k)
+
+-- the fields of addresses are numbers
+no_addresses : (addresses : List IpAddress) → field.True ∷ [] ≡ ips_values addresses → ⊥
+no_addresses [] e = cc
+no_addresses (ip.Ipv4 a ∷ addresses) e = cc
+no_addresses (ip.Ipv6 a ∷ addresses) e = cc
 
 -- a poll answers for the call that it polls
 of_no_poll : Never 7 (step.Poll 3) (reply.Pending 7) × Never 7 (step.Poll 3) (reply.Ok (field.True ∷ [])) × Never 7 (step.Poll 3) (reply.Trap NotPermitted)
-of_no_poll = (λ h. absurd (let e : 7 ≡ 3 = h in cc), λ h. elim h [ inl g ↦ elim g [ inl k ↦ k | inr k ↦ elim k [ inl j ↦ j.0 | inr j ↦ elim j [ inl i ↦ i.0 | inr i ↦ elim i [ inl l ↦ l.0 | inr l ↦ l ] ] ] ] | inr g ↦ absurd (let e = g.2 in cc) ], λ h. elim h [ inl w ↦ w | inr s ↦ s ])
+of_no_poll = (λ h. absurd (let e : 7 ≡ 3 = h in cc), λ h. elim h [ inl g ↦ elim g [ inl k ↦ k | inr k ↦ elim k [ inl j ↦ j.0 | inr j ↦ elim j [ inl i ↦ i.0 | inr i ↦ elim i [ inl l ↦ l.0 | inr l ↦ l ] ] ] ] | inr g ↦ elim g [ inl k ↦ absurd (let e = k.2 in cc) | inr k ↦ no_addresses k.0 k.1 ] ], λ h. elim h [ inl w ↦ w | inr s ↦ s ])
 
 -- a cancel is never pending, traps for nothing, gives nothing but that it is done, and ends no stream
 of_no_cancel : (n : ℕ) → Never 7 (step.Cancel 3) (reply.Pending n) × Never 7 (step.Cancel 3) (reply.Trap NoSuchHandle) × Never 7 (step.Cancel 3) (reply.Ok (field.Number n ∷ [])) × Never 7 (step.Cancel 3) reply.Closed

@@ -65,4 +65,4 @@ closes m es _ _ (UdpConnectFailed place handle o op c at is why) = tt
 closes m es _ _ (UdpConnect3Failed place o op c at is why) = tt
 closes m es _ _ (UdpBindFailed place face o op c at is why) = tt
 closes m es _ _ (BindFailed place face r op c at is why) = tt
-closes m es _ _ (ListenFailed place r op c at is why) = tt
+closes m es _ _ (ListenFailed place handle r op c at is why) = tt

@@ -97,14 +97,18 @@ on_idle {A} {Row} m handle on call by gone calls lost goes conflicts missing bus
     by_progress place r n true e = begun place r n e
 
 -- == a handle that is made
+pub makes_room : {Row : Rows (Result ℕ Stop × HandleTable)} {es : List Entry} (t : HandleTable) (op : OpId) (made : Kind) (parent : Option ℕ) (side : Option OpId)
+    → (is_full t ≡ true → Row es (Err (Trap Full), t)) → (is_full t ≡ false → Row (es ++ entry op (call.Made t.next (name_of made) parent side) told.Done ∷ []) (Ok t.next, with_handle t made parent)) → Meets Row es (make_asks t op made parent side)
+unfolding bind
+makes_room {Row} {es} t op made parent side full row = branch (is_full t) (λ e. ends (full e)) (λ room. asks (λ u fits. by_told room u fits))
+  where
+    by_told : is_full t ≡ false → (u : Told) → IsDone u → Meets Row (es ++ entry op (call.Made t.next (name_of made) parent side) u ∷ []) (Give (Ok t.next, with_handle t made parent))
+    by_told room told.Done fits = ends (row room)
+    by_told room _ fits = absurd fits
+
 pub makes : {Row : Rows (Result ℕ Stop × HandleTable)} {es : List Entry} (t : HandleTable) (op : OpId) (made : Kind) (parent : Option ℕ) (side : Option OpId)
     → (is_full t ≡ true → Row es (Err (Trap Full), t)) → Row (es ++ entry op (call.Made t.next (name_of made) parent side) told.Done ∷ []) (Ok t.next, with_handle t made parent) → Meets Row es (make_asks t op made parent side)
-unfolding bind
-makes {Row} {es} t op made parent side full row = branch (is_full t) (λ e. ends (full e)) (λ room. asks (λ u fits. by_told u fits))
-  where
-    by_told : (u : Told) → IsDone u → Meets Row (es ++ entry op (call.Made t.next (name_of made) parent side) u ∷ []) (Give (Ok t.next, with_handle t made parent))
-    by_told told.Done fits = ends row
-    by_told _ fits = absurd fits
+makes t op made parent side full row = makes_room t op made parent side full (λ room. row)
 
 -- == blocks: one lemma a kind of line
 -- a look-up: what isn't found is a trap

@@ -7,6 +7,11 @@ use Rattle.wasi_causes.proofs.sockets.Makes.{network, create, finish_connect_row
 use Rattle.wasi_causes.proofs.sockets.Questions.{get, set, local_address_row, remote_address_row, is_listens, family}
 use Rattle.wasi_causes.proofs.sockets.P3Binds.{p3_tcp_bind, p3_udp_bind}
 use Rattle.wasi_causes.proofs.sockets.P3UdpConnects.{p3_udp_connect}
+use Rattle.wasi_causes.proofs.sockets.P3Listens.{p3_tcp_listen}
+use Rattle.wasi_causes.proofs.sockets.P3Accepts.{p3_accept}
+use Rattle.wasi_causes.proofs.sockets.P3Ends.{p3_receive, p3_send}
+use Rattle.wasi_causes.proofs.sockets.P3Results.{p3_result}
+use Rattle.wasi_causes.proofs.streams.EndPolls.{p3_read, p3_write}
 use Rattle.wasi_causes.proofs.sockets.P3Connects.{p3_tcp_connect}
 use Rattle.wasi_causes.proofs.sockets.P3Udp.{p3_udp_disconnect, p3_udp_family, p3_udp_get, p3_udp_local_address, p3_udp_remote_address, p3_udp_set}
 use Rattle.wasi_causes.proofs.sockets.Tcp3.{p3_address_family, p3_create, p3_get, p3_is_listening, p3_local_address, p3_remote_address, p3_set}
@@ -18,6 +23,7 @@ use Rattle.wasi_causes.proofs.udp_streams.Sends.{udp_check_send, udp_send}
 use Rattle.wasi_causes.proofs.udp_streams.Receives.{udp_receive}
 use Rattle.wasi_causes.proofs.udp_streams.Streams.{udp_stream}
 use Rattle.wasi_causes.proofs.resolving.Begins.{resolve}
+use Rattle.wasi_causes.proofs.resolving.P3Resolves.{p3_resolve}
 use Rattle.wasi_causes.proofs.resolving.Hands.{network_error_code, resolve_next}
 use Rattle.wasi_causes.proofs.pollables.Steps.{block, poll_list}
 use Rattle.wasi_causes.proofs.streams.Halves.{read, check_write, write, flush}
@@ -115,6 +121,13 @@ module _ (contexts : List WasiSocketsCtx) (m : Machine) (line : ℕ) where
   rows (step.Call c (guest.P3TcpBind s a)) = p3_tcp_bind contexts m line c s a
   rows (step.Call c (guest.P3TcpConnect s a)) = p3_tcp_connect contexts m line c s a
   rows (step.Call c (guest.P3UdpBind s a)) = p3_udp_bind contexts m line c s a
+  rows (step.Call c (guest.P3TcpListen s)) = p3_tcp_listen contexts m line c s
+  rows (step.Call c (guest.P3Accept s remaining)) = p3_accept contexts m line c s remaining
+  rows (step.Call c (guest.P3TcpReceive s)) = p3_receive contexts m line c s
+  rows (step.Call c (guest.P3TcpSend s)) = p3_send contexts m line c s
+  rows (step.Call c (guest.P3Read h len)) = p3_read contexts m line c h len
+  rows (step.Call c (guest.P3Write h bytes)) = p3_write contexts m line c h bytes
+  rows (step.Call c (guest.P3Result h)) = p3_result contexts m line c h
   rows (step.Call c (guest.P3UdpConnect s a)) = p3_udp_connect contexts m line c s a
   rows (step.Call c (guest.P3UdpDisconnect s)) = p3_udp_disconnect contexts m line c s
   rows (step.Call c (guest.P3UdpLocalAddress s)) = p3_udp_local_address contexts m line c s
@@ -122,6 +135,7 @@ module _ (contexts : List WasiSocketsCtx) (m : Machine) (line : ℕ) where
   rows (step.Call c (guest.P3UdpAddressFamily s)) = p3_udp_family contexts m line c s
   rows (step.Call c (guest.P3UdpGet s option)) = p3_udp_get contexts m line c s option
   rows (step.Call c (guest.P3UdpSet s setting)) = p3_udp_set contexts m line c s setting
+  rows (step.Call c (guest.P3Resolve name)) = p3_resolve contexts m line c name
   rows step.Turn = turn m contexts line
   rows (step.Poll n) = poll contexts m line n
 
@@ -199,6 +213,7 @@ misses m (step.Call ctx (guest.TcpCreate _)) h = h
 misses m (step.Call ctx (guest.UdpCreate _)) h = h
 misses m (step.Call ctx (guest.P3UdpCreate _)) h = h
 misses m (step.Call ctx (guest.P3TcpCreate _)) h = h
+misses m (step.Call ctx (guest.P3Resolve _)) h = h
 misses m (step.Call ctx (guest.PipeIn _)) h = h
 misses m (step.Call ctx (guest.PipeOut _)) h = h
 misses m (step.Call ctx guest.Sink) h = h
@@ -217,6 +232,8 @@ waits m line n (step.Call ctx (guest.P3TcpConnect _ _)) h = h
 waits m line n (step.Call ctx (guest.P3UdpCreate _)) h = h
 waits m line n (step.Call ctx (guest.P3UdpBind _ _)) h = h
 waits m line n (step.Call ctx (guest.P3UdpConnect _ _)) h = h
+waits m line n (step.Call ctx (guest.P3TcpListen _)) h = h
+waits m line n (step.Call ctx (guest.P3Resolve _)) h = h
 waits m line n (step.Call ctx (guest.UdpStartBind socket _ a)) h = h
 waits m line n (step.Call ctx (guest.UdpStream socket remote)) h = h
 waits m line n (step.Call ctx (guest.Drop handle)) h = h.1
@@ -234,6 +251,7 @@ waits m line n _ h = absurd h
 -- a call is pending under this number: the exclusive call, or one beside others
 pub pends_under : (s : Step) (n : ℕ) (after : Machine) → PendsUnder s n after → IsSomeAnd after.store.standing (λ call. call.ids.line ≡ n) ⊎ IsSome (beside_of after.store n)
 pends_under (step.Call c (guest.P3TcpConnect socket a)) n after h = inr h
+pends_under (step.Call c (guest.P3Resolve name)) n after h = inr h
 pends_under (step.Poll k) n after h = h
 pends_under _ n after h = inl h
 
@@ -283,6 +301,9 @@ module _ (contexts : List WasiSocketsCtx) (m : Machine) (line : ℕ) where
   by_row s es (reply.Trap kind) after row = traps s es kind after row.1
   by_row s es (reply.Pending n) after row = waits m line n s row.1.0.0
   by_row s es reply.NoSuchCall after row = row.1.0
+  by_row s es reply.Cancelled after row = row.1.0
+  by_row s es reply.Dropped after row = row.1.0
+  by_row s es reply.Unfilled after row = row.1.0
   by_row s es _ after row = absurd row.1
 
   may : {s : Step} {es : List Entry} {r : Reply} {after : Machine} → Answers contexts m line s es r after → may_answer line s r

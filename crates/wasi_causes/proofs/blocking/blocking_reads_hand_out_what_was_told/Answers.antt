@@ -5,7 +5,7 @@ use Rattle.wasi_causes.proofs.Words.{◌∷◌, bytes_fields, nothing_stands, re
 use Rattle.wasi_machine.specs.Machine.{first_ids}
 use Rattle.wasi_host.specs.declared.blocking.BlockingCall.TheVariants as blocking
 use Rattle.wasi_causes.proofs.streams.Read.{ends_by_read}
-use Rattle.wasi_causes.proofs.tables.Steps.{its_own, unheld, while_free}
+use Rattle.wasi_causes.proofs.tables.Steps.{its_own, while_free}
 use Rattle.wasi_causes.proofs.blocking.blocking_reads_hand_out_what_was_told.Goals as goal
 
 pub returns : goal.returns

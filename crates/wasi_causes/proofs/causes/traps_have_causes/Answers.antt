@@ -12,7 +12,7 @@ returns c = record {
   no_such_handle_stays = λ contexts m line s entries after live there w. missing_left m s entries after live there (its_own contexts m line s entries (reply.Trap NoSuchHandle) after w (λ e. cc)).1.1;
   has_children = λ contexts m line ctx handle entries reply after free w. (while_free contexts m line (step.Call ctx (guest.Drop handle)) free entries reply after w).0.0;
   has_children_stays = λ contexts m line s entries after w. (its_own contexts m line s entries (reply.Trap HasChildren) after w (λ e. cc)).1.1;
-  only_drops = λ contexts m line s entries after w. (its_own contexts m line s entries (reply.Trap HasChildren) after w (λ e. cc)).1.0;
+  takes_out = λ contexts m line s entries after w. (its_own contexts m line s entries (reply.Trap HasChildren) after w (λ e. cc)).1.0;
   full = λ contexts m line s entries after w. let h = (its_own contexts m line s entries (reply.Trap Full) after w (λ e. cc)).1 in (h.0, h.1.0);
   full_marks = λ contexts m line s entries after w. (its_own contexts m line s entries (reply.Trap Full) after w (λ e. cc)).1.1.1;
   streams_alive = λ contexts m line s entries after w. let h = (its_own contexts m line s entries (reply.Trap StreamsAlive) after w (λ e. cc)).1 in (h.0, h.1.0, h.1.1);

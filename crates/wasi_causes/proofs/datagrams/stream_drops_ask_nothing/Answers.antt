@@ -1,7 +1,7 @@
 use Rattle.wasi_causes.proofs.Words.{subst}
 use Rattle.wasi_causes.proofs.datagrams.stream_drops_ask_nothing.Goals as goal
 use Rattle.wasi_causes.proofs.tables.Steps.{its_own}
-use Rattle.wasi_causes.specs.Outcomes.{Gone}
+use Rattle.wasi_causes.specs.Gone.{Gone}
 use Rattle.wasi_steps.specs.declared.reply.Reply.TheVariants as reply
 use Rattle.wasi_steps.specs.declared.guest_call.GuestCall.TheVariants as guest
 use Rattle.wasi_steps.specs.declared.step.Step.TheVariants as step

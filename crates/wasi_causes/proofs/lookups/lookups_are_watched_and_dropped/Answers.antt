@@ -3,7 +3,7 @@ use Rattle.wasi_steps.specs.declared.step.Step.TheVariants as step
 use Rattle.wasi_steps.specs.declared.reply.Reply.TheVariants as reply
 use Rattle.wasi_causes.proofs.Words.{subst}
 use Rattle.wasi_causes.proofs.tables.Steps.{its_own, while_free}
-use Rattle.wasi_causes.specs.Outcomes.{Gone}
+use Rattle.wasi_causes.specs.Gone.{Gone}
 use Rattle.wasi_causes.proofs.lookups.lookups_are_watched_and_dropped.Goals as goal
 
 pub returns : goal.returns

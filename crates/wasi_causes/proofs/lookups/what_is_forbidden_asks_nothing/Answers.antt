@@ -12,4 +12,5 @@ returns c = record {
   udp = λ contexts m line ctx family entries reply after no. of_answer contexts m line (step.Call ctx (guest.UdpCreate family)) (λ es r after. Quiet m es after) (refl, refl) (λ es r after row. row.0 no) entries reply after;
   p3_udp = λ contexts m line ctx family entries reply after no. of_answer contexts m line (step.Call ctx (guest.P3UdpCreate family)) (λ es r after. Quiet m es after) (refl, refl) (λ es r after row. row.0 no) entries reply after;
   lookup = λ contexts m line ctx network name entries reply after no. of_answer contexts m line (step.Call ctx (guest.Resolve network name)) (λ es r after. Quiet m es after) (refl, refl) (λ es r after row. row.0.0 no) entries reply after;
+  p3_lookup = λ contexts m line ctx name entries reply after no. of_answer contexts m line (step.Call ctx (guest.P3Resolve name)) (λ es r after. Quiet m es after) (refl, refl) (λ es r after row. row.0.0 no) entries reply after;
 }

@@ -4,7 +4,7 @@ use Rattle.wasi_steps.specs.declared.reply.Reply.TheVariants as reply
 use Rattle.wasi_causes.proofs.Ending.{udp_ok}
 use Rattle.wasi_causes.proofs.Words.{subst}
 use Rattle.wasi_causes.proofs.tables.Steps.{its_own, while_free}
-use Rattle.wasi_causes.specs.Outcomes.{Gone}
+use Rattle.wasi_causes.specs.Gone.{Gone}
 use Rattle.wasi_causes.proofs.udp.udp_drops_close.Goals as goal
 
 pub returns : goal.returns

@@ -1,0 +1,69 @@
+-- What the drop of a handle asks, and what it leaves, by what the handle is of.
+use Rattle.wasi_records.specs.Records.{tcp2_at, udp2_at, open_at, lookup_at}
+use Rattle.wasi_records.specs.declared.slot.Slot.{Slot}
+use Rattle.wasi_records.specs.Slots.{slot_at}
+use Rattle.wasi_host.specs.declared.kind.PlainInput.TheVariants as input
+use Rattle.wasi_host.specs.declared.kind.PlainOutput.TheVariants as output
+use Rattle.wasi_causes.specs.Plain.{InputPipeGone, OutputPipeGone}
+use Rattle.std.specs.Prelude.{◌≡◌, ⊤, ℕ, List, [], Option, Some}
+use Rattle.wasi_records.specs.Holding.{without_socket}
+use Rattle.wasi_causes.specs.GivenUp.{IsGone, LetsGo, ListenerGoes, LooksOnce, socket_given_up, without}
+use Rattle.wasi_world.specs.declared.call.Entry.{Entry}
+use Rattle.wasi_records.specs.declared.name_lookup.Lookup.{Lookup}
+use Rattle.wasi_records.specs.declared.udp.OpenUdp.{OpenUdp}
+use Rattle.wasi_records.specs.declared.udp.UdpRecord.{UdpRecord}
+use Rattle.wasi_host.specs.declared.kind.Kind.{Kind}
+use Rattle.wasi_host.specs.declared.kind.Kind.TheVariants as kind
+use Rattle.wasi_host.specs.declared.machine.Machine.{Machine}
+use Rattle.wasi_records.specs.declared.socket.TcpRecord.{TcpRecord}
+use Rattle.wasi_host.specs.Machine.{own_of}
+use Rattle.wasi_causes.specs.Lookups.{LookupGone}
+use Rattle.wasi_causes.specs.Datagrams.{IncomingGone, OutgoingGone}
+use Rattle.wasi_causes.specs.P3Streams.{IsLetGo, ReadEndGoes, WriteEndGoes}
+use Rattle.wasi_causes.specs.Udp.{udp_given_up, udp_left}
+
+-- what the drop of a handle of this kind asks, unless that is a socket's, a listener's or an end's
+abbrev pub AsksOnce : ℕ → Option Kind → List Entry → Type 0
+AsksOnce line (Some (kind.Tcp2 place)) es = ⊤
+AsksOnce line (Some (kind.Tcp3 place)) es = ⊤
+AsksOnce line (Some (kind.Udp2 place)) es = ⊤
+AsksOnce line (Some (kind.Udp3 place)) es = ⊤
+AsksOnce line (Some (kind.Listen3 place)) es = ⊤
+AsksOnce line (Some (kind.Receive3 end)) es = ⊤
+AsksOnce line (Some (kind.Send3 end)) es = ⊤
+AsksOnce line (Some (kind.Output place)) es = LooksOnce (own_of line) es
+AsksOnce line _ es = es ≡ []
+
+-- what is left where the handle that was dropped is of the TCP socket of this record
+abbrev pub SocketGone : Machine → ℕ → ℕ → ℕ → List Entry → Machine → Type 0
+SocketGone m line handle place es after = (r : TcpRecord) → tcp2_at m.store.records place ≡ Some r → (es ≡ socket_given_up (own_of line) r) × IsGone m handle place after
+
+-- the same of a socket of 0.3
+abbrev pub Socket3Gone : Machine → ℕ → ℕ → ℕ → List Entry → Machine → Type 0
+Socket3Gone m line handle place es after = (r : TcpRecord) → tcp2_at m.store.records place ≡ Some r → LetsGo m line handle place (without_socket r) es after
+
+-- the same of a listener
+abbrev pub ListenerGone : Machine → ℕ → ℕ → ℕ → List Entry → Machine → Type 0
+ListenerGone m line handle place es after = (r : TcpRecord) → tcp2_at m.store.records place ≡ Some r → ListenerGoes m line handle place r es after
+
+-- the same of a UDP socket
+abbrev pub UdpGone : Machine → ℕ → ℕ → ℕ → List Entry → Machine → Type 0
+UdpGone m line handle place es after = (u : UdpRecord) → udp2_at m.store.records place ≡ Some u → (es ≡ udp_given_up (own_of line) u) × (after ≡ udp_left (without m handle) place u)
+
+-- what is left where the handle that was dropped is of this kind
+abbrev pub Gone : Machine → ℕ → ℕ → Option Kind → List Entry → Machine → Type 0
+Gone m line handle (Some (kind.Tcp2 place)) es after = SocketGone m line handle place es after
+Gone m line handle (Some (kind.Tcp3 place)) es after = Socket3Gone m line handle place es after
+Gone m line handle (Some (kind.Udp2 place)) es after = UdpGone m line handle place es after
+Gone m line handle (Some (kind.Udp3 place)) es after = UdpGone m line handle place es after
+Gone m line handle (Some (kind.Listen3 place)) es after = ListenerGone m line handle place es after
+Gone m line handle (Some (kind.Receive3 end)) es after = ReadEndGoes (without m handle) (own_of line) end es after
+Gone m line handle (Some (kind.Send3 end)) es after = WriteEndGoes (without m handle) (own_of line) end es after
+Gone m line handle (Some (kind.Result3 place)) es after = (s : Slot) → slot_at m.store.records place ≡ Some s → IsLetGo (without m handle) place after
+Gone m line handle (Some (kind.Output place)) es after = ⊤
+Gone m line handle (Some (kind.Incoming place)) es after = (o : OpenUdp) → open_at m.store.records place ≡ Some o → IncomingGone m handle place o es after
+Gone m line handle (Some (kind.Outgoing place)) es after = (o : OpenUdp) → open_at m.store.records place ≡ Some o → OutgoingGone m handle place o es after
+Gone m line handle (Some (kind.Lookup place)) es after = (l : Lookup) → lookup_at m.store.records place ≡ Some l → LookupGone m handle place es after
+Gone m line handle (Some (kind.PlainInput (input.Pipe place))) es after = InputPipeGone m handle place (without m handle) after
+Gone m line handle (Some (kind.PlainOutput (output.Pipe place))) es after = OutputPipeGone m handle place (without m handle) after
+Gone m line handle _ es after = after ≡ without m handle
