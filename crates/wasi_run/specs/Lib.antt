@@ -1,3 +1,4 @@
+pub mod Groups
 pub mod Lines
 pub mod Ran
 pub mod Script

@@ -9,7 +9,7 @@ ghost use Rattle.wasi_run.specs.Generate.{generated_steps, generated, script_lin
 
 use std::alloc::{AllocError, Global};
 use std::fmt::Write;
-use world_text::fields::push_octets;
+use world_text::digits::push_octets;
 
 /// How many lines a block has.
 const BLOCK: u32 = 9;

@@ -6,10 +6,14 @@ mod calls;
 pub mod counts;
 mod error;
 pub mod generate;
+mod groups;
 pub mod lines;
+mod p3_calls;
 pub mod progress;
 pub mod run;
 mod settings;
+mod socket_calls;
+mod stream_calls;
 mod text_source;
 
 pub use counts::Counts;

@@ -10,7 +10,7 @@ use crate::error::RunError;
 use crate::progress::Progress;
 use std::alloc::Global;
 use wasi_steps::parse::parse_step;
-use wasi_steps::reply::reply_text;
+use wasi_steps::reply::append_reply;
 use wasi_world::{WasiSocketsCtx, World};
 use world_io::{Sink, write_all};
 use world_text::lines::newline_at;
@@ -24,13 +24,14 @@ pub enum LinesEnd {
     Trapped,
 }
 
-/// Does the next line, and writes its reply.
+/// Does the next line, and writes its reply, whose text replaces that of the one before.
 fn do_line<W: World, K: Sink>(
     alloc: Global,
     progress: &mut Progress,
     world: &mut W,
     contexts: &[WasiSocketsCtx],
     writer: &mut K,
+    text: &mut Vec<u8>,
     line: &[u8],
 ) -> Result<LinesEnd, RunError>
     requires open { (W.seen world.old).ended ≡ false }
@@ -45,7 +46,8 @@ fn do_line<W: World, K: Sink>(
         return Err(RunError::BadStep(progress.lines + 1));
     };
     let reply = progress.step(alloc, world, contexts, step)?;
-    let text = reply_text(alloc, &reply)?;
+    text.clear();
+    append_reply(text, &reply)?;
     let Ok(()) = write_all(writer, text.as_slice()) else {
         return Err(RunError::WriteFault);
     };
@@ -62,6 +64,7 @@ fn do_lines<W: World, K: Sink>(
     world: &mut W,
     contexts: &[WasiSocketsCtx],
     writer: &mut K,
+    text: &mut Vec<u8>,
     at: &mut usize,
     bytes: &[u8],
 ) -> Result<LinesEnd, RunError>
@@ -77,7 +80,8 @@ fn do_lines<W: World, K: Sink>(
 {
     while let Some(end) = newline_at(&bytes[*at..]) {
         let line = &bytes[*at..*at + end];
-        let LinesEnd::AllDone = do_line(alloc, progress, world, contexts, writer, line)? else {
+        let LinesEnd::AllDone = do_line(alloc, progress, world, contexts, writer, text, line)?
+        else {
             return Ok(LinesEnd::Trapped);
         };
         *at += end + 1;
@@ -93,6 +97,7 @@ pub fn do_piece<W: World, K: Sink>(
     world: &mut W,
     contexts: &[WasiSocketsCtx],
     writer: &mut K,
+    text: &mut Vec<u8>,
     line: &mut Vec<u8>,
     piece: &[u8],
 ) -> Result<LinesEnd, RunError>
@@ -110,13 +115,23 @@ pub fn do_piece<W: World, K: Sink>(
         return Ok(LinesEnd::AllDone);
     };
     line.extend_from_slice(&piece[..end])?;
-    let LinesEnd::AllDone = do_line(alloc, progress, world, contexts, writer, line.as_slice())?
+    let LinesEnd::AllDone = do_line(
+        alloc,
+        progress,
+        world,
+        contexts,
+        writer,
+        text,
+        line.as_slice(),
+    )?
     else {
         return Ok(LinesEnd::Trapped);
     };
     line.clear();
     let mut at = end + 1;
-    let LinesEnd::AllDone = do_lines(alloc, progress, world, contexts, writer, &mut at, piece)?
+    let LinesEnd::AllDone = do_lines(
+        alloc, progress, world, contexts, writer, text, &mut at, piece,
+    )?
     else {
         return Ok(LinesEnd::Trapped);
     };

@@ -40,6 +40,7 @@ impl Progress {
     ///
     /// After a trap, or out of memory, no more steps should be done, but
     /// [`finish`](Progress::finish) should.
+    #[inline(always)]
     pub fn step<W: World>(
         &mut self,
         alloc: Global,

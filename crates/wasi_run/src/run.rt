@@ -49,6 +49,7 @@ fn run_lines<W: World, S: Source, K: Sink>(
         (W.seen world.old) (W.seen world.new) progress.new.machine result }
 {
     let mut line = Vec::new(alloc);
+    let mut text = Vec::new(alloc);
     let mut taken = 0;
     let mut piece = [0u8; PIECE_SIZE];
     'reading: while taken <= limit as usize {
@@ -70,6 +71,7 @@ fn run_lines<W: World, S: Source, K: Sink>(
             world,
             contexts,
             writer,
+            &mut text,
             &mut line,
             &piece[..within],
         )?

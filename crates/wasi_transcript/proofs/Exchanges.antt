@@ -1,6 +1,7 @@
 -- A line that was done, with what the log has of it.
-use Rattle.std.proofs.Common.{◌≡◌, ◌∙◌, ap, sym, refl, ℕ, ◌-◌, Bool, List, ◌++◌, length, take, drop, Option, Some, None}
-use Rattle.std.specs.Prelude.{option_map}
+use Rattle.std.proofs.Common.{◌≡◌, ◌∙◌, ap, inr, sym, refl, ℕ, ◌+◌, ◌-◌, Bool, List, ◌++◌, length, take, drop, Option, Some, None, Result, Ok, Err}
+use Rattle.std.specs.Prelude.{IsErrAnd, option_map}
+use Rattle.std.specs.declared.alloc.AllocError.{AllocError}
 use Rattle.std.proofs.Math.Seq.{drop-append_seam}
 use Rattle.std.proofs.lemmas.List.{take_rest}
 use Rattle.wasi_world.specs.declared.call.Entry.{Entry}
@@ -14,7 +15,9 @@ use Rattle.wasi_machine.specs.Machine.{machine_asks}
 use Rattle.wasi_steps.specs.Reply.{is_trap}
 use Rattle.wasi_steps.specs.Steps.{step_of}
 use Rattle.wasi_transcript.specs.Transcript.{answered_text}
-use Rattle.wasi_transcript.specs.Done.{Exchanged}
+use Rattle.wasi_run.specs.declared.progress.Progress.{Progress}
+use Rattle.wasi_transcript.specs.declared.exchange.LineEnd.{LineEnd}
+use Rattle.wasi_transcript.specs.Done.{Exchanged, LineDone, Starved}
 
 grown : (old : Option (List Entry)) (log_old log_new es : List Entry) → old ≡ Some log_old → Some log_new ≡ option_map (λ log. log ++ es) old → log_new ≡ log_old ++ es
 grown None log_old log_new es h k = absurd (let n : None ≡ Some log_old = h in cc)
@@ -34,3 +37,16 @@ exchanged {line = line} {s = s} {reply = reply} {old = old} {log_old = log_old} 
   text_is = text ∙ ap (λ es. answered_text line es reply) (newer log_old log_new h.entries (grown old.log log_old log_new h.entries before (sym after ∙ h.passed.log)));
   trap_is = trap;
 }
+
+-- memory ran out once the step was done
+pub starved : {contexts : List WasiSocketsCtx} {m next : Machine} {number : ℕ} {line : List ℕ} {s : Step} {reply : Reply} {old new : Seen} → step_of (length contexts) line ≡ Some s → Reaches (machine_asks contexts m number s) (Give (reply, next)) old new → Starved contexts m number line old new
+starved {next = next} {s = s} {reply = reply} spelled h = record {
+  calls = h.entries;
+  logged = record { log = h.passed.log; plan = h.passed.plan };
+  closings = h.passed.closings;
+  first = inr (s, spelled, (Give (reply, next), h.left));
+}
+
+pub starved_exit : {contexts : List WasiSocketsCtx} (s_old s_new : Progress) {line : List ℕ} {old new : Seen} {e : AllocError} (r : Result LineEnd AllocError) → IsErrAnd r (λ x. x ≡ e) → Starved contexts s_old.machine (s_old.lines + 1) line old new → LineDone contexts s_old s_new line old new r
+starved_exit s_old s_new (Ok x) h k = absurd h
+starved_exit s_old s_new (Err x) h k = k

@@ -52,13 +52,13 @@ fn answered_text(
     alloc: Global,
     line: &[u8],
     calls: &[Entry],
-    reply: &Reply,
+    reply: Reply,
 ) -> Result<Vec<u8>, AllocError>
-    ensures { IfOk result (λ text. text.items ≡ answered_text line.now calls.now reply.now) }
+    ensures { IfOk result (λ text. text.items ≡ answered_text line.now calls.now reply) }
 {
     let mut shown = String::new(alloc);
     push_calls(&mut shown, calls)?;
-    let reply = reply_text(alloc, reply)?;
+    let reply = reply_text(alloc, &reply)?;
     let mut text = Vec::new(alloc);
     push_line(&mut text, line)?;
     text.extend_from_slice(shown.as_bytes())?;
@@ -99,8 +99,9 @@ pub fn do_line(
     };
     let before = world.entries().len();
     let reply = progress.step(alloc, world, contexts, step)?;
-    let text = answered_text(alloc, line, &world.entries()[before..], &reply)?;
-    if reply.is_trap() {
+    let trapped = reply.is_trap();
+    let text = answered_text(alloc, line, &world.entries()[before..], reply)?;
+    if trapped {
         return Ok(LineEnd::Trapped(text));
     }
     Ok(LineEnd::Answered(text))

@@ -13,18 +13,18 @@ pub returns-in_err-reply-clause-ran : goal.returns-in_err-reply-clause-ran
 returns-in_err-reply-clause-ran g c =
     at_exit c.from_residual-in_err-reply.result c.from_residual-in_err-reply.ensures.1 (one_hungry (sym c.in_ok-step.ensures ∙ c.in-Some.is) c.in_err-reply.ensures.asked.err c.step.ensures.sides)
 
-pub returns-in_err-text-clause-ran : goal.returns-in_err-text-clause-ran
-returns-in_err-text-clause-ran g c =
-    at_exit c.from_residual-in_err-text.result c.from_residual-in_err-text.ensures.1 (one_hungry (sym c.in_ok-step.ensures ∙ c.in-Some.is) (record { rest = _; reached = c.in_ok-reply.ensures.asked.ok }) c.step.ensures.sides)
+pub returns-in_err-append_reply-clause-ran : goal.returns-in_err-append_reply-clause-ran
+returns-in_err-append_reply-clause-ran g c =
+    at_exit c.from_residual-in_err-append_reply.result c.from_residual-in_err-append_reply.ensures.1 (one_hungry (sym c.in_ok-step.ensures ∙ c.in-Some.is) (record { rest = _; reached = c.in_ok-reply.ensures.asked.ok }) c.step.ensures.sides)
 
 pub returns-in_default-write_all-clause-ran : goal.returns-in_default-write_all-clause-ran
 returns-in_default-write_all-clause-ran g c =
-    one_cut (sym c.in_ok-step.ensures ∙ c.in-Some.is) (record { asked = c.in_ok-reply.ensures.asked.ok; sides = c.step.ensures.sides }) (rw (c.as_slice.ensures, c.in_ok-text.ensures) at c.in_default-write_all.ensures.front)
+    one_cut (sym c.in_ok-step.ensures ∙ c.in-Some.is) (record { asked = c.in_ok-reply.ensures.asked.ok; sides = c.step.ensures.sides }) (rw (c.as_slice.ensures.value, rw c.clear.ensures.items at c.in_ok-append_reply.ensures) at c.in_default-write_all.ensures.front)
 
 pub returns-then-is_trap-clause-ran : goal.returns-then-is_trap-clause-ran
 returns-then-is_trap-clause-ran g c =
-    one_trap (sym c.in_ok-step.ensures ∙ c.in-Some.is) (record { asked = c.in_ok-reply.ensures.asked.ok; sides = c.step.ensures.sides }) (rw (c.as_slice.ensures, c.in_ok-text.ensures) at c.in-Ok.ensures.all) (sym c.if-is_trap.ensures)
+    one_trap (sym c.in_ok-step.ensures ∙ c.in-Some.is) (record { asked = c.in_ok-reply.ensures.asked.ok; sides = c.step.ensures.sides }) (rw (c.as_slice.ensures.value, rw c.clear.ensures.items at c.in_ok-append_reply.ensures) at c.in-Ok.ensures.all) (sym c.if-is_trap.ensures)
 
 pub returns-clause-ran : goal.returns-clause-ran
 returns-clause-ran g c =
-    one_done (sym c.in_ok-step.ensures ∙ c.in-Some.is) (record { asked = c.in_ok-reply.ensures.asked.ok; sides = c.step.ensures.sides }) (rw (c.as_slice.ensures, c.in_ok-text.ensures) at c.in-Ok.ensures.all) (sym c.if-is_trap.ensures)
+    one_done (sym c.in_ok-step.ensures ∙ c.in-Some.is) (record { asked = c.in_ok-reply.ensures.asked.ok; sides = c.step.ensures.sides }) (rw (c.as_slice.ensures.value, rw c.clear.ensures.items at c.in_ok-append_reply.ensures) at c.in-Ok.ensures.all) (sym c.if-is_trap.ensures)
