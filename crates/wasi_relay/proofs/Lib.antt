@@ -1,0 +1,7 @@
+mod Going
+mod Each
+mod Turning
+mod Settling
+mod Making
+mod Addresses
+mod Relaying

@@ -1,0 +1,11 @@
+pub mod Order
+pub mod Pair
+pub mod Guest
+pub mod Went
+pub mod Replies
+pub mod Copying
+pub mod Serving
+pub mod Turns
+pub mod Setup
+pub mod Addresses
+pub mod RelaySteps

@@ -1,0 +1,81 @@
+//! The relay, whole.
+
+ghost use Rattle.std.specs.Prelude.{◌≡◌, false, true};
+ghost use Rattle.wasi_relay.specs.Went.{Went};
+ghost use Rattle.wasi_relay.specs.Turns.{course_of, finished};
+ghost use Rattle.wasi_relay.specs.RelaySteps.{Relays, relayed, no_course};
+
+use crate::order::Order;
+use crate::pair::Pair;
+use crate::setup::set_up;
+use crate::turns::{Progress, make_turns};
+use std::alloc::Global;
+use wasi_session::{Session, StepError};
+use wasi_steps::CodeWord;
+use wasi_world::{WasiSocketsCtx, World};
+
+/// How a relay ends.
+#[derive(Clone, Copy, Debug, PartialEq, Eq)]
+pub enum RelayEnd {
+    /// All arrivals that were ordered are over.
+    Served,
+    /// All turns that were ordered were made.
+    Budget,
+    /// A call of the setup was refused with this code.
+    SetupRefused(CodeWord),
+}
+
+/// What a relay leaves.
+#[derive(Drop)]
+pub struct Relayed<W: World> {
+    /// How it ended, unless a step had no reply.
+    pub end: Result<RelayEnd, StepError>,
+    /// The pairs, in order of arrival.
+    pub pairs: Vec<Pair>,
+    /// The world, which is ended.
+    pub world: W,
+}
+
+/// Serves an order by a guest of context 0, over a world whose end mark isn't set, and ends it.
+///
+/// The guest's steps are those of the definition, whatever the world answers. Takes memory for each
+/// pair, and for what its calls take.
+pub fn relay<W: World>(
+    alloc: Global,
+    world: W,
+    contexts: Vec<WasiSocketsCtx>,
+    order: Order,
+) -> Relayed<W>
+    requires { (W.seen world).ended ≡ false }
+    ensures ended { (W.seen result.world).ended ≡ true }
+    ensures went { Relays order contexts.items (W.seen world) (W.seen result.world) result.end
+        result.pairs.items }
+{
+    let mut session = Session::new(alloc, world, contexts);
+    let mut at = Progress {
+        taken: 0,
+        pairs: Vec::new(alloc),
+    };
+    let end = serve(alloc, &mut session, order, &mut at);
+    Relayed {
+        end,
+        pairs: at.pairs,
+        world: session.finish(),
+    }
+}
+
+/// Sets the relay up and makes its turns.
+fn serve<W: World>(
+    alloc: Global,
+    session: &mut Session<W>,
+    order: Order,
+    at: &mut Progress,
+) -> Result<RelayEnd, StepError>
+    requires { course_of at.old ≡ no_course }
+    ensures { Went (relayed order) session.old session.new (finished (course_of at.new) result) }
+{
+    match set_up(session, order) {
+        Ok(listener) => make_turns(alloc, session, order, listener, at),
+        Err(stop) => stop.end(),
+    }
+}

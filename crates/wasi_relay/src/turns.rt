@@ -1,0 +1,197 @@
+//! The turns of a relay: in each an arrival is accepted and begins to be connected to the target,
+//! and each pair is served.
+
+ghost use Rattle.std.specs.Prelude.{◌≡◌, ◌<◌};
+ghost use Rattle.wasi_relay.specs.Went.{Went, given};
+ghost use Rattle.wasi_relay.specs.Pair.{open_pairs};
+ghost use Rattle.wasi_relay.specs.Turns.{course_of, is_served, may_accept};
+ghost use Rattle.wasi_relay.specs.Turns.{turned, accepted, after_accept, paired, begun};
+ghost use Rattle.wasi_relay.specs.Turns.{rounds, last_end, finished};
+
+use crate::calls::{call, handle_at, step};
+use crate::order::{Order, family_of};
+use crate::pair::{Pair, Peer};
+use crate::service::RelayEnd;
+use crate::serving::{close, serve_each};
+use crate::setup::Listener;
+use std::alloc::Global;
+use wasi_session::{GuestCall, Reply, Session, Step, StepError};
+use wasi_steps::CodeWord;
+use wasi_world::{Handle, World};
+
+/// How many pairs are open at most.
+const MOST_OPEN: usize = 16;
+
+/// Where a relay is between two turns.
+#[derive(Drop)]
+pub(crate) struct Progress {
+    /// How many arrivals were taken.
+    pub taken: u32,
+    /// The pairs of those that have one, in order of arrival.
+    pub pairs: Vec<Pair>,
+}
+
+impl Progress {
+    /// How many pairs aren't over.
+    fn open_pairs(&self) -> usize
+        ensures { result ≡ open_pairs self.now.pairs.items }
+    {
+        self.pairs.iter().filter(|pair| !pair.is_over()).count()
+    }
+
+    /// Whether all arrivals are over.
+    fn is_served(&self, order: &Order) -> bool
+        ensures { result ≡ is_served order.now (course_of self.now) }
+    {
+        self.taken == order.connections && self.open_pairs() == 0
+    }
+
+    /// Whether one more may be accepted.
+    fn may_accept(&self, order: &Order) -> bool
+        ensures { result ≡ may_accept order.now (course_of self.now) }
+    {
+        self.taken < order.connections && self.open_pairs() < MOST_OPEN
+    }
+}
+
+/// Makes turns until all arrivals are over or no turn is left.
+pub(crate) fn make_turns<W: World>(
+    alloc: Global,
+    session: &mut Session<W>,
+    order: Order,
+    listener: Listener,
+    at: &mut Progress,
+) -> Result<RelayEnd, StepError>
+    ensures { Went (rounds order listener listener.turns (course_of at.old)) session.old
+        session.new (finished (course_of at.new) result) }
+{
+    let mut left = listener.turns;
+    while left > 0 {
+        if at.is_served(&order) {
+            return Ok(RelayEnd::Served);
+        }
+        left -= 1;
+        make_turn(alloc, session, order, listener, at)?;
+    }
+    Ok(last_end(at, &order))
+}
+
+/// How it ends where no turn is left.
+fn last_end(at: &Progress, order: &Order) -> RelayEnd
+    ensures { result ≡ last_end order.now (course_of at.now) }
+{
+    if at.is_served(order) {
+        return RelayEnd::Served;
+    }
+    RelayEnd::Budget
+}
+
+/// Makes a turn.
+fn make_turn<W: World>(
+    alloc: Global,
+    session: &mut Session<W>,
+    order: Order,
+    listener: Listener,
+    at: &mut Progress,
+) -> Result<(), StepError>
+    ensures { Went (turned order listener (course_of at.old)) session.old session.new
+        (given (course_of at.new) result) }
+{
+    step(session, Step::Turn)?;
+    accept(session, order, listener, at)?;
+    serve_each(alloc, session, at.pairs.as_mut_slice())
+}
+
+/// Accepts an arrival, if one may be.
+fn accept<W: World>(
+    session: &mut Session<W>,
+    order: Order,
+    listener: Listener,
+    at: &mut Progress,
+) -> Result<(), StepError>
+    ensures { Went (accepted order listener (course_of at.old)) session.old session.new
+        (given (course_of at.new) result) }
+{
+    if !at.may_accept(&order) {
+        return Ok(());
+    }
+    let socket = listener.socket;
+    let reply = call(session, GuestCall::TcpAccept { socket })?;
+    after_accept(session, order, listener, at, &reply)
+}
+
+/// Goes on by the reply of an accept: `would-block` takes no arrival, and another refusal is an
+/// arrival that is over without a pair.
+fn after_accept<W: World>(
+    session: &mut Session<W>,
+    order: Order,
+    listener: Listener,
+    at: &mut Progress,
+    reply: &Reply,
+) -> Result<(), StepError>
+    requires { at.old.taken < order.connections }
+    ensures { Went (after_accept order listener (course_of at.old) reply.now) session.old
+        session.new (given (course_of at.new) result) }
+{
+    match reply {
+        Reply::Ok(fields) => {
+            let client = Peer {
+                socket: handle_at(fields.as_slice(), 0),
+                input: handle_at(fields.as_slice(), 1),
+                output: handle_at(fields.as_slice(), 2),
+            };
+            at.taken += 1;
+            pair_up(session, order, listener, &mut at.pairs, client)
+        }
+        Reply::Err(CodeWord::WouldBlock) => Ok(()),
+        _ => {
+            at.taken += 1;
+            Ok(())
+        }
+    }
+}
+
+/// Begins to connect an arrival to the target. Where there is no socket for that, it is closed.
+fn pair_up<W: World>(
+    session: &mut Session<W>,
+    order: Order,
+    listener: Listener,
+    pairs: &mut Vec<Pair>,
+    client: Peer,
+) -> Result<(), StepError>
+    ensures { Went (paired order listener client pairs.old.items) session.old session.new
+        (given pairs.new.items result) }
+{
+    pairs.reserve(1)?;
+    let family = family_of(order.target);
+    let reply = call(session, GuestCall::TcpCreate { family })?;
+    match reply {
+        Reply::Ok(fields) => {
+            let target = handle_at(fields.as_slice(), 0);
+            begin_connect(session, order, listener, target)?;
+            pairs.push_reserved(Pair::new(client, target));
+            Ok(())
+        }
+        _ => {
+            close(session, client)?;
+            Ok(())
+        }
+    }
+}
+
+/// Begins to connect a socket to the target.
+fn begin_connect<W: World>(
+    session: &mut Session<W>,
+    order: Order,
+    listener: Listener,
+    socket: Handle,
+) -> Result<Reply, StepError>
+    ensures { Went (begun order listener socket) session.old session.new result }
+{
+    let connect = GuestCall::TcpStartConnect {
+        socket,
+        network: listener.network,
+        addr: order.target,
+    };
+    call(session, connect)
+}
