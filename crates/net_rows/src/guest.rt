@@ -9,7 +9,7 @@ use std::net::Net;
 use std::test::Fail;
 use wasi_addr::{IpSocketAddress, Ipv4SocketAddress, SocketAddrUse, SocketAddressFamily};
 use wasi_net::{Allowed, Hosts, Linux, SystemWorld};
-use wasi_world::{Call, OpId, Sock, Told, World};
+use wasi_world::{Call, OpId, Sock, Told, Waits, World};
 use world_text::digits::push_octets;
 
 /// A network that has not ended.

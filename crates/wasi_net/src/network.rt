@@ -10,6 +10,7 @@ use crate::hosts::Hosts;
 use crate::socket::Socket;
 use crate::system::System;
 use crate::waiting::Waiting;
+use libc::types::pollfd;
 use std::alloc::{AllocError, Global};
 use std::collections::BTreeMap;
 use wasi_addr::{ErrorCode, IpSocketAddress};
@@ -115,6 +116,11 @@ impl<S> Network<S> {
             Some((sock, readiness)) => self.is_awaited(sock, readiness),
             None => false,
         }
+    }
+
+    /// The sockets that are waited for, and what for.
+    pub fn awaited(&self) -> &[pollfd] {
+        self.waiting.asked()
     }
 
     /// Keeps what a call waits for, where its answer is pending, and drops that where it isn't.

@@ -6,7 +6,7 @@ use crate::system::System;
 use crate::system_world::SystemWorld;
 use std::alloc::AllocError;
 use wasi_addr::IpSocketAddress;
-use wasi_world::{Call, OpId, Sock, Told, World};
+use wasi_world::{Call, OpId, Sock, Told, Waits, World};
 
 /// How looks wait.
 #[derive(Clone, Copy, Debug, PartialEq, Eq)]

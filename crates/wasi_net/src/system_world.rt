@@ -9,9 +9,10 @@ use crate::calls::Readiness;
 use crate::hosts::Hosts;
 use crate::network::Network;
 use crate::system::System;
+use libc::types::pollfd;
 use std::alloc::{AllocError, Global};
 use wasi_addr::{ErrorCode, IpSocketAddress};
-use wasi_world::{Call, OpId, Sock, Told, World};
+use wasi_world::{Call, OpId, Sock, Told, Waits, World};
 
 /// A world over the system's sockets, TCP and UDP, IPv4 and IPv6. It reports no log.
 ///
@@ -91,6 +92,12 @@ impl<S> SystemWorld<S> {
         self.faults = count_after(self.faults, told);
     }
 
+    /// What earlier answers left pending: descriptors, and the events that each waits for. A host
+    /// that waits by a `poll` of its own asks for these.
+    pub fn awaited(&self) -> &[pollfd] {
+        self.network.awaited()
+    }
+
     /// How many codes were reported. The count stays at its greatest value.
     pub fn faults(&self) -> u64
         ensures { result ≡ (seen_by self.now).faults }
@@ -105,21 +112,6 @@ impl<S: System> SystemWorld<S> {
     ghost use Rattle.wasi_net.specs.Answers.{OnNetwork, NoMemory};
     ghost use Rattle.wasi_net.specs.Owned.{Owned};
     ghost use Rattle.wasi_net.specs.Net.{seen_by, policy_in, names_in, sides_of, system_of};
-
-    /// Waits until a socket that an earlier answer left pending may go on, for at most so many
-    /// milliseconds, or without limit where they are negative; and whether one may. No processor
-    /// time is used meanwhile. What may go on isn't waited for again until a call on it is pending
-    /// once more.
-    pub fn wait(&mut self, timeout: i32) -> bool
-        ensures seen { seen_by self.new ≡ seen_by self.old }
-        ensures policy { policy_in self.new ≡ policy_in self.old }
-        ensures names { names_in self.new ≡ names_in self.old }
-        ensures sides { sides_of self.new ≡ sides_of self.old }
-        ensures owned { Owned (sides_of self.old) (S.acts (system_of self.old))
-            → Owned (sides_of self.new) (S.acts (system_of self.new)) }
-    {
-        self.network.wait(timeout)
-    }
 
     /// Whether the last answer to this call was pending, and no wait since has found that it may go
     /// on.
@@ -282,5 +274,25 @@ impl<S: System> World for SystemWorld<S> {
     {
         self.network.close(sock);
         self.closings = self.closings.saturating_add(1);
+    }
+}
+
+impl<S: System> Waits for SystemWorld<S> {
+    ghost use Rattle.wasi_net.specs.Owned.{Owned};
+    ghost use Rattle.wasi_net.specs.Net.{seen_by, policy_in, names_in, sides_of, system_of};
+
+    /// Waits until a socket that an earlier answer left pending may go on, for at most so many
+    /// milliseconds, or without limit where they are negative; and whether one may. No processor
+    /// time is used meanwhile. What may go on isn't waited for again until a call on it is pending
+    /// once more.
+    fn wait(&mut self, timeout: i32) -> bool
+        ensures seen { seen_by self.new ≡ seen_by self.old }
+        ensures policy { policy_in self.new ≡ policy_in self.old }
+        ensures names { names_in self.new ≡ names_in self.old }
+        ensures sides { sides_of self.new ≡ sides_of self.old }
+        ensures owned { Owned (sides_of self.old) (S.acts (system_of self.old))
+            → Owned (sides_of self.new) (S.acts (system_of self.new)) }
+    {
+        self.network.wait(timeout)
     }
 }

@@ -62,6 +62,11 @@ impl Waiting {
         self.asked.retain(|it| it.fd != fd);
     }
 
+    /// The sockets that are waited for, and what for.
+    pub fn asked(&self) -> &[pollfd] {
+        self.asked.as_slice()
+    }
+
     /// Waits until one of the sockets is ready, for at most so many milliseconds, or without limit
     /// where they are negative; and whether one is. What is ready isn't waited for any longer,
     /// until a call is pending again.

@@ -11,7 +11,7 @@ use crate::policy::Policy;
 use std::alloc::{AllocError, Global};
 use std::marker::{Brand, PhantomData};
 use wasi_addr::IpSocketAddress;
-use wasi_world::{Call, Entry, OpId, Sock, Told, World};
+use wasi_world::{Call, Entry, OpId, Sock, Told, Waits, World};
 
 /// What proofs know of a [`PolicyWorld`] besides its log: its rules, and the plan of the world that
 /// it hands on to. A caller reads a [`Policy`] and calls a function that is generic in `Rules`, at
@@ -202,5 +202,11 @@ impl<W: World, R: Rules> World for PolicyWorld<W, R> {
 
     fn close_after_end(&mut self, sock: Sock) {
         self.inner.close_after_end(sock);
+    }
+}
+
+impl<W: Waits, R: Rules> Waits for PolicyWorld<W, R> {
+    fn wait(&mut self, timeout: i32) -> bool {
+        self.inner.wait(timeout)
     }
 }

@@ -8,7 +8,8 @@ ghost use Rattle.wasi_replay.specs.Replayed.{entry, seen_of};
 use crate::replay_world::count_code;
 use std::alloc::{AllocError, Global};
 use wasi_addr::IpSocketAddress;
-use wasi_world::{Call, Entry, Octets, OpId, Sock, Told, World};
+use wasi_decides::Decides;
+use wasi_world::{Call, Entry, Octets, OpId, Sock, Told, Waits, World};
 
 /// A world round another one that reports no log, as one over the system's sockets. It hands every
 /// call on, and its own log is what it noted: each call with the other world's answer.
@@ -153,6 +154,13 @@ impl<W: World> RecordingWorld<W> {
         self.log.as_slice()
     }
 
+    /// The other world.
+    pub fn inner(&self) -> &W
+        ensures { result.now ≡ self.now.inner }
+    {
+        &self.inner
+    }
+
     /// The calls that were noted, and the other world. Takes no memory.
     pub fn into_parts(self) -> (Vec<Entry>, W)
         ensures log { result.0.items ≡ self.log.items }
@@ -235,5 +243,17 @@ impl<W: World> World for RecordingWorld<W> {
 
     fn close_after_end(&mut self, sock: Sock) {
         self.inner.close_after_end(sock);
+    }
+}
+
+impl<W: Waits> Waits for RecordingWorld<W> {
+    fn wait(&mut self, timeout: i32) -> bool {
+        self.inner.wait(timeout)
+    }
+}
+
+impl<W: Decides> Decides for RecordingWorld<W> {
+    fn decide(&mut self, ask: u64, yes: bool) -> bool {
+        self.inner.decide(ask, yes)
     }
 }

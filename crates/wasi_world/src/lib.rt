@@ -15,6 +15,7 @@ pub mod octets;
 pub mod outcome;
 pub mod plan;
 pub mod sides;
+pub mod waits;
 pub mod world;
 
 pub use call::{Call, Entry, HandleKind, Opt, Told};
@@ -24,4 +25,5 @@ pub use ids::{Handle, Ids, OpId, Sock};
 pub use octets::{IpList, NameText, NumberList, Octets};
 pub use outcome::{Answer, Refusal, TrapKind, WasiSocketsCtx};
 pub use plan::{Kind, Planned};
+pub use waits::Waits;
 pub use world::World;

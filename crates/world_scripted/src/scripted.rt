@@ -22,7 +22,7 @@ use crate::sides::{Sides, keep, option_of};
 use std::alloc::{AllocError, Global};
 use std::collections::HashMap;
 use wasi_addr::{ErrorCode, IpSocketAddress};
-use wasi_world::{Call, ClosedSockets, Entry, Octets, OpId, Sock, Told, World};
+use wasi_world::{Call, ClosedSockets, Entry, Octets, OpId, Sock, Told, Waits, World};
 
 /// The count of faults after an answer: one more where it is a code, up to the greatest count.
 fn count_after(faults: u64, told: &Told) -> u64
@@ -439,5 +439,12 @@ impl World for ScriptedWorld {
     fn close_after_end(&mut self, sock: Sock) {
         self.closings = self.closings.saturating_add(1);
         self.closed.close(sock);
+    }
+}
+
+impl Waits for ScriptedWorld {
+    /// It goes by its plan alone, so nothing is waited for.
+    fn wait(&mut self, _: i32) -> bool {
+        false
     }
 }
