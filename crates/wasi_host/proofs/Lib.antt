@@ -9,6 +9,8 @@ pub mod Blocks
 pub mod WriteRests
 pub mod Called
 pub mod Bases
+pub mod BesidePlaces
+pub mod SocketDatagrams
 pub mod Binds
 pub mod Connects
 pub mod Listens

@@ -1,5 +1,5 @@
 -- The pending calls that stand beside others: in the order of their lines.
-use Rattle.std.specs.Prelude.{ℕ, ◌==◌, Bool, true, false, not, ◌||◌, List, [], ◌∷◌, ◌++◌, Option, Some, None, is_some, Result, Ok, Err}
+use Rattle.std.specs.Prelude.{ℕ, ◌==◌, Bool, not, ◌||◌, List, [], ◌∷◌, ◌++◌, Option, Some, None, is_some, position, slice_set, Result, Ok, Err}
 use Rattle.std.specs.List.{filter, find}
 use Rattle.wasi_world.specs.declared.outcome.Answer.{Answer}
 use Rattle.wasi_world.specs.declared.outcome.Answer.TheVariants.{Ready, Pending}
@@ -16,6 +16,14 @@ beside_in calls line = find (λ b. b.line == line) calls
 
 abbrev pub beside_without : List Beside → ℕ → List Beside
 beside_without calls line = filter (λ b. not (b.line == line)) calls
+
+-- one of this number in the place of the first that has it
+abbrev pub beside_put : List Beside → ℕ → BesideCall → Option ℕ → List Beside
+beside_put calls line call None = calls
+beside_put calls line call (Some i) = slice_set calls i (record { line = line; call = call })
+
+abbrev pub beside_with : List Beside → ℕ → BesideCall → List Beside
+beside_with calls line call = beside_put calls line call (position (λ b. b.line == line) calls)
 
 -- == of the records
 abbrev pub beside_of : Records → ℕ → Option Beside
@@ -42,11 +50,6 @@ abbrev pub beside_polled : {A E : Type 0} → ℕ → Result (Answer A) E × Rec
 beside_polled line (Ok Pending, store) = (Ok Pending, store)
 beside_polled line (Ok (Ready value), store) = (Ok (Ready value), unbeside store line)
 beside_polled line (Err stop, store) = (Err stop, unbeside store line)
-
--- one that is given up is over, and nothing is asked: the socket of a connect keeps connecting
-abbrev pub beside_cancelled : Records → ℕ → Option Beside → Bool × Records
-beside_cancelled store line None = (false, store)
-beside_cancelled store line (Some b) = (true, unbeside store line)
 
 -- == the same of what the code answers
 abbrev pub begun_beside : {A : Type 0} → List Beside → Beside → Result (Answer A) Refusal → List Beside

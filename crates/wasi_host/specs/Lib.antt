@@ -32,6 +32,7 @@ pub mod Connects
 pub mod UdpConnects
 pub mod Listens
 pub mod Resolves
+pub mod SocketDatagrams
 pub mod UdpCreates
 pub mod DatagramCalls
 pub mod NameLookupCalls

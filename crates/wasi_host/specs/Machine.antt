@@ -25,6 +25,7 @@ use Rattle.wasi_records.specs.declared.socket.TcpRecord.{TcpRecord}
 use Rattle.wasi_records.specs.Stops.{Stop, Trap, code_stop}
 use Rattle.wasi_host.specs.Kinds.{HandleTable, kind_at, place_of, udp_of, tcp3_of, udp3_of, input_of, output_of, incoming_of, outgoing_of, lookup_of, listen3_of, watched_by, watch_of, place_in, make_asks, taken_out, receive3_of, send3_of, result3_of}
 pub use Rattle.wasi_records.specs.Names.{own_of}
+use Rattle.wasi_host.specs.SocketDatagrams.{drop_udp}
 use Rattle.wasi_host.specs.Store.{Records, no_records, with_record}
 use Rattle.wasi_host.specs.Jobs.{turn_store_asks}
 use Rattle.wasi_host.specs.Readiness.{ready_at, ready_ids_at}
@@ -188,7 +189,7 @@ abbrev pub drop_kind : Machine → Ids → Kind → Asks (Result (Answer (Unit {
 drop_kind m ids (Tcp2 place) = bind (release_at m.store (own_of ids.line) place (tcp2_at m.store.records place)) (λ done. Give (answered (with_store m (at_once done))))
 drop_kind m ids (Udp2 place) = bind (release_udp_at m.store (own_of ids.line) place (udp2_at m.store.records place)) (λ done. Give (answered (with_store m (at_once done))))
 drop_kind m ids (Tcp3 place) = bind (let_go_at m.store place (drop_socket_asks (own_of ids.line)) (tcp2_at m.store.records place)) (λ done. Give (answered (with_store m (at_once done))))
-drop_kind m ids (Udp3 place) = bind (release_udp_at m.store (own_of ids.line) place (udp2_at m.store.records place)) (λ done. Give (answered (with_store m (at_once done))))
+drop_kind m ids (Udp3 place) = bind (drop_udp (own_of ids.line) place m.store) (λ done. Give (answered (with_store m (at_once done))))
 drop_kind m ids (Listen3 place) = bind (let_go_at m.store place (drop_listener_asks (own_of ids.line)) (tcp2_at m.store.records place)) (λ done. Give (answered (with_store m (at_once done))))
 drop_kind m ids (Output place) = bind (drop_output_at m.store ids place (tcp2_at m.store.records place)) (λ done. Give (answered (with_store m done)))
 drop_kind m ids (Incoming place) = Give (answered (with_store m (at_once (drop_incoming_at m.store place (open_at m.store.records place)))))

@@ -1,36 +1,52 @@
 //! The pending calls that stand beside others.
 
-ghost use Rattle.std.specs.Prelude.{◌≡◌, List, [], ◌∷◌, ◌++◌, IfOk, OnOk, OnErr};
+ghost use Rattle.std.specs.Prelude.{◌≡◌, ◌==◌, ◌<◌, List, [], ◌∷◌, ◌++◌, length, position, IfSome, OnOk, OnErr};
 ghost use Rattle.std.specs.Prelude.{option_map};
 ghost use Rattle.wasi_host.specs.declared.beside.Beside.{Beside};
 ghost use Rattle.wasi_host.specs.declared.beside.BesideCall.{BesideCall};
-ghost use Rattle.wasi_host.specs.Beside.{beside_in, beside_without};
+ghost use Rattle.wasi_host.specs.Beside.{beside_in, beside_with, beside_without};
+ghost use Rattle.wasi_host.specs.SocketDatagrams.{has_datagram, is_datagram_of};
 
 use std::alloc::{AllocError, Global};
 use std::marker::Model;
-use wasi_records::RecordId;
+use std::mem;
+use wasi_records::{PendingReceive, PendingSend, RecordId};
 use wasi_world::NameText;
 
 /// What such a call does.
 #[derive(Drop)]
 pub enum BesideCall {
     /// Connects the TCP socket with this record number, whose state has the operation.
-    Connect { socket: RecordId },
+    Connect {
+        socket: RecordId,
+    },
     /// Looks up this host. It has no record.
-    Resolve { host: NameText },
+    Resolve {
+        host: NameText,
+    },
+    /// Sends a datagram on the UDP socket with this record number.
+    Send {
+        socket: RecordId,
+        send: PendingSend,
+    },
+    /// Receives a datagram on the UDP socket with this record number.
+    Receive {
+        socket: RecordId,
+        receive: PendingReceive,
+    },
 }
 
 impl BesideCall {
-    /// A copy. Takes memory for the host.
-    pub(crate) fn try_clone(&self) -> Result<BesideCall, AllocError>
-        ensures { IfOk result (λ call. call ≡ self.now) }
+    /// Whether it is a datagram of the UDP socket with this record number. Takes no memory.
+    fn is_datagram_of(&self, place: RecordId) -> bool
+        ensures { result ≡ is_datagram_of place self.now }
     {
-        Ok(match self {
-            BesideCall::Connect { socket } => BesideCall::Connect { socket: *socket },
-            BesideCall::Resolve { host } => BesideCall::Resolve {
-                host: host.try_clone()?,
-            },
-        })
+        match self {
+            BesideCall::Send { socket, .. } | BesideCall::Receive { socket, .. } => {
+                *socket == place
+            }
+            BesideCall::Connect { .. } | BesideCall::Resolve { .. } => false,
+        }
     }
 }
 
@@ -96,5 +112,33 @@ impl BesideList {
         ensures { self.new ≡ beside_without self.old line }
     {
         self.calls.retain(|b| b.line != line);
+    }
+
+    /// The place of the first one with this number. Takes no memory.
+    fn place_of(&self, line: u32) -> Option<usize>
+        ensures found { result ≡ position (λ b. b.line == line) self.now }
+        ensures bound { IfSome result (λ i. i < length self.now) }
+    {
+        self.calls.iter().position(|b| b.line == line)
+    }
+
+    /// Puts this call in the place of the first one with this number, which it returns; `None`
+    /// where there is none. Takes no memory.
+    pub(crate) fn replace(&mut self, line: u32, call: BesideCall) -> Option<BesideCall>
+        ensures calls { self.new ≡ beside_with self.old line call }
+        ensures before { result ≡ option_map (λ b. b.call) (beside_in self.old line) }
+    {
+        let Some(place) = self.place_of(line) else {
+            return None;
+        };
+        let before = mem::replace(&mut self.calls[place], Beside { line, call });
+        Some(before.call)
+    }
+
+    /// Whether one is a datagram of the UDP socket with this record number. Takes no memory.
+    pub(crate) fn has_datagram(&self, place: RecordId) -> bool
+        ensures { result ≡ has_datagram self.now place }
+    {
+        self.calls.iter().any(|b| b.call.is_datagram_of(place))
     }
 }

@@ -9,10 +9,12 @@ ghost use Rattle.wasi_host.specs.Cancel.{cancel_drop_outgoing_at, cancel_on, can
 ghost use Rattle.wasi_host.specs.Cancel.{listen_kept, uncancelled, cancel_left};
 ghost use Rattle.wasi_host.specs.Standing.{call_of};
 ghost use Rattle.wasi_records.specs.Records.{tcp2_at, udp2_at, open_at};
-ghost use Rattle.wasi_host.specs.Beside.{beside_cancelled, beside_of};
+ghost use Rattle.wasi_host.specs.Cancel.{beside_cancelled, beside_left};
+ghost use Rattle.wasi_host.specs.Beside.{beside_of};
 ghost use Rattle.wasi_host.specs.KnownSides.{KnowsSides};
 ghost use Rattle.wasi_host.specs.Views.{SameView, state_of};
 
+use crate::beside::BesideCall;
 use crate::store::{StandingCall, Store};
 use crate::view::WasiSocketsCtxView;
 use std::alloc::AllocError;
@@ -148,15 +150,39 @@ impl Store {
     }
 
     /// Gives the call with this number up that stands beside others; `false` exactly where there is
-    /// none.
-    fn cancel_beside(&mut self, line: u32) -> bool
-        ensures { (result, self.new) ≡ beside_cancelled self.old line (beside_of self.old line) }
+    /// none. A datagram closes the network socket where nothing else holds it.
+    fn cancel_beside<W: World>(&mut self, world: &mut W, line: u32) -> Result<bool, AllocError>
+        requires { (W.seen world.old).ended ≡ false }
+        ensures asked { AsksFor (beside_cancelled self.old line (beside_of self.old line))
+            (W.seen world.old) (W.seen world.new) (λ given_up. (given_up, self.new)) result }
+        ensures left { OnErr result (self.new ≡ beside_left self.old line (beside_of self.old line)) }
+        ensures unasked { OnErr result (W.seen world.new ≡ W.seen world.old) }
+        ensures sides { KnowsSides (W.seen world.old) self.old
+            → KnowsSides (W.seen world.new) self.new }
     {
-        if self.find_beside(line).is_none() {
-            return false;
+        let Some(beside) = self.find_beside(line) else {
+            return Ok(false);
+        };
+        match &beside.call {
+            BesideCall::Connect { .. } => {
+                self.beside.remove(line);
+                Ok(true)
+            }
+            BesideCall::Resolve { .. } => {
+                self.beside.remove(line);
+                Ok(true)
+            }
+            BesideCall::Send { socket, .. } => {
+                let socket = *socket;
+                self.drop_datagram(world, line, socket)?;
+                Ok(true)
+            }
+            BesideCall::Receive { socket, .. } => {
+                let socket = *socket;
+                self.drop_datagram(world, line, socket)?;
+                Ok(true)
+            }
         }
-        self.beside.remove(line);
-        true
     }
 }
 
@@ -167,9 +193,10 @@ impl Store {
 /// - A listen closes its network socket, and the socket stays closed.
 /// - A create closes its network socket.
 /// - The drop of an outgoing datagram stream loses its datagram.
+/// - A datagram of 0.3 closes its socket's network socket where nothing else holds it any more.
 /// - The drop of an output, a call that blocks and a lookup change nothing.
 ///
-/// Out of memory, which takes an exclusive call, nothing was asked, so no network socket is closed
+/// Out of memory nothing was asked, so no network socket is closed
 /// and its record keeps it. The call isn't pending any more.
 pub fn cancel<W: World>(
     view: &mut WasiSocketsCtxView<'_>,
@@ -179,7 +206,7 @@ pub fn cancel<W: World>(
     requires { (W.seen world.old).ended ≡ false }
     ensures asked { AsksFor (cancel_asks (state_of view.old) line) (W.seen world.old)
         (W.seen world.new) (λ cancelled. (cancelled, state_of view.new)) result }
-    ensures left { OnErr result (state_of view.new ≡ cancel_left (state_of view.old)
+    ensures left { OnErr result (state_of view.new ≡ cancel_left (state_of view.old) line
         (call_of view.old.store.now.standing line)) }
     ensures unasked { OnErr result (W.seen world.new ≡ W.seen world.old) }
     ensures sides { KnowsSides (W.seen world.old) view.old.store.now
@@ -187,7 +214,7 @@ pub fn cancel<W: World>(
     ensures view { SameView view.old view.new }
 {
     let Some(standing) = view.store.take(line) else {
-        return Ok(view.store.cancel_beside(line));
+        return view.store.cancel_beside(world, line);
     };
     view.store.cancel(world, standing.call)?;
     Ok(true)

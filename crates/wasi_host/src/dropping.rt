@@ -196,8 +196,12 @@ fn release_kind<W: World>(
             view.store.drop_listener(world, ids.own(), place)?;
             Ok(Answer::Ready(()))
         }
-        Kind::Udp2(place) | Kind::Udp3(place) => {
+        Kind::Udp2(place) => {
             view.store.release_udp(world, ids.own(), place)?;
+            Ok(Answer::Ready(()))
+        }
+        Kind::Udp3(place) => {
+            view.store.drop_udp(world, ids.own(), place)?;
             Ok(Answer::Ready(()))
         }
         Kind::Output(place) => {

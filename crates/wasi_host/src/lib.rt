@@ -24,6 +24,7 @@ mod plain_streams;
 mod pollables;
 pub mod polling;
 mod resolving;
+mod socket_datagrams;
 pub mod store;
 mod stream_ends;
 mod streams;

@@ -7,9 +7,11 @@ ghost use Rattle.wasi_records.specs.Stops.{host_outcome};
 ghost use Rattle.wasi_host.specs.Pending.{outcome_of, handle_outcome, pair_outcome, places_outcome};
 ghost use Rattle.wasi_host.specs.Pending.{relisten_at, stop_told, blocked_told};
 ghost use Rattle.wasi_host.specs.Pending.{nothing_given, unblock_asks, go_on, resume_asks};
-ghost use Rattle.wasi_host.specs.Pending.{go_on_beside, resume_beside};
+ghost use Rattle.wasi_host.specs.Pending.{resume_beside, datagram_outcome};
+ghost use Rattle.wasi_host.specs.SocketDatagrams.{is_datagram_in};
 ghost use Rattle.wasi_host.specs.Pending.{refused_as, answered_told, resolved_told};
 ghost use Rattle.wasi_host.specs.BaseStops.{ends_as};
+ghost use Rattle.wasi_host.specs.declared.kind.Interface.TheVariants.{P3};
 ghost use Rattle.wasi_host.specs.Beside.{beside_of};
 ghost use Rattle.wasi_host.specs.KnownSides.{KnowsSides};
 ghost use Rattle.wasi_host.specs.Standing.{call_of, unstood};
@@ -28,7 +30,9 @@ use crate::view::WasiSocketsCtxView;
 use std::alloc::Global;
 use wasi_addr::{ErrorCode, lookup, p2, p3};
 use wasi_records::{RecordId, SocketError, TcpRecord, find_mut};
-use wasi_world::{Answer, Handle, Ids, IpList, NumberList, Octets, TrapKind, World};
+use wasi_world::{
+    Answer, Handle, Ids, IncomingDatagram, IpList, NumberList, Octets, TrapKind, World,
+};
 
 /// What a pending call gives once it is polled: its value, or the error of a call of a stream.
 #[derive(Drop)]
@@ -55,6 +59,8 @@ pub enum Outcome {
     Addresses(IpList),
     /// A lookup of 0.3 failed with this code.
     Unresolved(lookup::ErrorCode),
+    /// A datagram that a socket of 0.3 received.
+    Datagram(IncomingDatagram),
 }
 
 impl Outcome {
@@ -64,6 +70,16 @@ impl Outcome {
     {
         match answer {
             Answer::Ready(()) => Answer::Ready(Outcome::Nothing),
+            Answer::Pending => Answer::Pending,
+        }
+    }
+
+    /// The outcome of a call whose value is a datagram.
+    fn of_datagram(answer: Answer<IncomingDatagram>) -> Answer<Outcome>
+        ensures { result ≡ datagram_outcome answer }
+    {
+        match answer {
+            Answer::Ready(datagram) => Answer::Ready(Outcome::Datagram(datagram)),
             Answer::Pending => Answer::Pending,
         }
     }
@@ -247,6 +263,20 @@ fn of_lookup(told: Result<Answer<IpList>, LookupError>) -> Result<Answer<Outcome
     }
 }
 
+/// The outcome of a receive of 0.3.
+fn of_received(
+    told: Result<Answer<IncomingDatagram>, StoreError>,
+) -> Result<Answer<Outcome>, SocketError>
+    ensures { host_outcome result ≡ answered_told datagram_outcome P3 (ends_as told) }
+{
+    match told {
+        Ok(answer) => Ok(Outcome::of_datagram(answer)),
+        Err(StoreError::Code(code)) => of_refusal(Interface::P3, code),
+        Err(StoreError::Trap(kind)) => Err(SocketError::Trap(kind)),
+        Err(StoreError::Memory(e)) => Err(SocketError::Memory(e)),
+    }
+}
+
 /// Polls a call that blocks, under the names of its line.
 fn unblock<W: World>(
     alloc: Global,
@@ -373,35 +403,10 @@ fn go_on<W: World>(
     }
 }
 
-/// Polls a call that stands beside others once, where it stands, under the operation names of the
-/// line that began it. Out of memory it stands still.
-fn go_on_beside<W: World>(
-    view: &mut WasiSocketsCtxView<'_>,
-    world: &mut W,
-    line: u32,
-    call: BesideCall,
-) -> Result<Answer<Outcome>, SocketError>
-    requires { (W.seen world.old).ended ≡ false }
-    ensures asked { AsksFor (go_on_beside (state_of view.old) line call) (W.seen world.old)
-        (W.seen world.new) (λ answer. (answer, state_of view.new)) (host_outcome result) }
-    ensures exclusive { view.new.store.now.standing ≡ view.old.store.now.standing }
-    ensures stays { OnErr (host_outcome result)
-        (view.new.store.now.beside ≡ view.old.store.now.beside) }
-    ensures sides { KnowsSides (W.seen world.old) view.old.store.now
-        → KnowsSides (W.seen world.new) view.new.store.now }
-    ensures view { SameView view.old view.new }
-{
-    match call {
-        BesideCall::Connect { socket } => {
-            let connected = view.store.reconnect_tcp(world, line, socket);
-            of_start(Interface::P3, connected)
-        }
-        BesideCall::Resolve { host } => of_lookup(view.store.reresolve_host(world, line, host)),
-    }
-}
-
-/// Polls the call with this number once that stands beside others; `None` exactly where there is
-/// none. If it is over it is taken out; out of memory it stands still.
+/// Polls the call with this number once that stands beside others, where it stands, under the
+/// operation names of its line; `None` exactly where there is none. If it is over it is taken out.
+/// Out of memory a connect and a lookup stand still, and so does a datagram whose poll ran out of
+/// it.
 fn resume_beside<W: World>(
     view: &mut WasiSocketsCtxView<'_>,
     world: &mut W,
@@ -413,7 +418,8 @@ fn resume_beside<W: World>(
         (λ answer. (answer, state_of view.new)) (host_outcome result) }
     ensures exclusive { view.new.store.now.standing ≡ view.old.store.now.standing }
     ensures stays { OnErr (host_outcome result)
-        (view.new.store.now.beside ≡ view.old.store.now.beside) }
+        (is_datagram_in (beside_of view.old.store.now line) ≡ false
+        → view.new.store.now.beside ≡ view.old.store.now.beside) }
     ensures sides { KnowsSides (W.seen world.old) view.old.store.now
         → KnowsSides (W.seen world.new) view.new.store.now }
     ensures view { SameView view.old view.new }
@@ -421,9 +427,30 @@ fn resume_beside<W: World>(
     let Some(beside) = view.store.find_beside(line) else {
         return Ok(None);
     };
-    let call = beside.call.try_clone()?;
-    let answer = go_on_beside(view, world, line, call)?;
-    Ok(Some(answer))
+    match &beside.call {
+        BesideCall::Connect { socket } => {
+            let socket = *socket;
+            let connected = view.store.reconnect_tcp(world, line, socket);
+            let answer = of_start(Interface::P3, connected)?;
+            Ok(Some(answer))
+        }
+        BesideCall::Resolve { host } => {
+            let host = host.try_clone()?;
+            let answer = of_lookup(view.store.reresolve_host(world, line, host))?;
+            Ok(Some(answer))
+        }
+        BesideCall::Send { socket, .. } => {
+            let socket = *socket;
+            let sent = view.store.resend(world, line, socket);
+            let answer = of_start(Interface::P3, sent)?;
+            Ok(Some(answer))
+        }
+        BesideCall::Receive { socket, .. } => {
+            let socket = *socket;
+            let answer = of_received(view.store.rereceive(world, line, socket))?;
+            Ok(Some(answer))
+        }
+    }
 }
 
 /// Polls the pending call with this number once, under the operation names of the line that began
@@ -435,8 +462,9 @@ fn resume_beside<W: World>(
 /// The error of a call of a stream is an [`Outcome`], and so is the code of a call of 0.3. A code
 /// that is an error is that of a bind, a listen, a create or a connect of 0.2.
 ///
-/// Out of memory an exclusive call isn't pending any more, and a call that stands beside others
-/// still is.
+/// Out of memory an exclusive call isn't pending any more. A connect and a lookup that stand beside
+/// others still are, and so is a datagram, unless it had ended: then its network socket isn't
+/// closed.
 pub fn resume<W: World>(
     alloc: Global,
     view: &mut WasiSocketsCtxView<'_>,
@@ -450,6 +478,7 @@ pub fn resume<W: World>(
         (call_of view.new.store.now.standing line ≡ None) }
     ensures stays { OnErr (host_outcome result)
         (call_of view.old.store.now.standing line ≡ None
+        → is_datagram_in (beside_of view.old.store.now line) ≡ false
         → view.new.store.now.beside ≡ view.old.store.now.beside) }
     ensures sides { KnowsSides (W.seen world.old) view.old.store.now
         → KnowsSides (W.seen world.new) view.new.store.now }

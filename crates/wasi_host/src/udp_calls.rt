@@ -1,6 +1,6 @@
 //! The calls on a UDP socket, by the number of its record.
 
-ghost use Rattle.std.specs.Prelude.{◌≡◌, ◌≤◌, false, IfOk, Ok, Some};
+ghost use Rattle.std.specs.Prelude.{◌≡◌, ◌≤◌, false, IfOk, Ok, OnErr, Some};
 ghost use Rattle.wasi_world.specs.Asks.{AsksFor};
 ghost use Rattle.wasi_world.specs.Seen.{Seen};
 ghost use Rattle.socket_common.specs.Options.{largest_value, option_of, number_of};
@@ -323,6 +323,9 @@ impl Store {
         requires { (W.seen world.old).ended ≡ false }
         ensures asked { AsksFor (release_udp_at self.old op place (udp2_at self.old.records place))
             (W.seen world.old) (W.seen world.new) (λ done. (done, self.new)) result }
+        ensures exclusive { self.new.standing ≡ self.old.standing }
+        ensures err { OnErr result (self.new ≡ self.old) }
+        ensures unasked { OnErr result (W.seen world.new ≡ W.seen world.old) }
         ensures sides { KnowsSides (W.seen world.old) self.old
             → KnowsSides (W.seen world.new) self.new }
     {
@@ -336,6 +339,7 @@ impl Store {
 
     /// Gives back the record of the UDP socket with this number, if its network socket is closed.
     fn leave_udp(&mut self, place: RecordId)
+        ensures exclusive { self.new.standing ≡ self.old.standing }
         ensures state { (u : UdpRecord) → udp2_at self.old.records place ≡ Some u
             → self.new ≡ udp_left self.old place u }
         ensures sides { (s : Seen) → KnowsSides s self.old → KnowsSides s self.new }

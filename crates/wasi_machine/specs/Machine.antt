@@ -58,7 +58,7 @@ use Rattle.wasi_steps.specs.declared.guest_call.GuestCall.{GuestCall}
 use Rattle.wasi_steps.specs.declared.step.Step.{Step}
 use Rattle.wasi_steps.specs.declared.guest_call.GuestCall.TheVariants as guest
 use Rattle.wasi_steps.specs.declared.step.Step.TheVariants as step
-use Rattle.wasi_steps.specs.Reply.{word_of_p2, word_of_p3, word_of_lookup, is_trap, no_fields, no_values, number_fields, numbers_fields, handed_fields, pair_fields, pair_values, datagram_values, triple_values, bytes_fields, truth_fields, family_fields, address_values, found_values, ips_values, absent_values}
+use Rattle.wasi_steps.specs.Reply.{word_of_p2, word_of_p3, word_of_lookup, is_trap, no_fields, no_values, number_fields, numbers_fields, handed_fields, pair_fields, pair_values, datagram_values, received_values, triple_values, bytes_fields, truth_fields, family_fields, address_values, found_values, ips_values, absent_values}
 use Rattle.wasi_steps.specs.Settings.{Chosen, AnOption, TheBacklog, chosen, udp_opt, udp_chosen}
 use Rattle.wasi_steps.specs.Steps.{context_of}
 
@@ -186,6 +186,7 @@ outcome_reply line (Ready (Places places)) = reply.Ok (numbers_fields places)
 outcome_reply line (Ready (outcome.Refused c)) = reply.Err (word_of_p3 c)
 outcome_reply line (Ready (outcome.Addresses addresses)) = reply.Ok (ips_values addresses)
 outcome_reply line (Ready (outcome.Unresolved c)) = reply.Err (word_of_lookup c)
+outcome_reply line (Ready (outcome.Datagram d)) = reply.Ok (received_values d)
 outcome_reply line Pending = reply.Pending line
 
 abbrev pub resumed_reply : ℕ → Result (Option (Answer Outcome)) Stop → Reply
@@ -294,6 +295,8 @@ call_asks ctx m line (guest.P3UdpCreate family) = bind (udp3.create (first_ids l
 call_asks ctx m line (guest.P3UdpBind s a) = bind (udp3.bind_to (first_ids line) s a m) (λ done. Give (p3_answer_reply no_values line done.0, done.1))
 call_asks ctx m line (guest.P3UdpConnect s a) = bind (udp3.connect_to (first_ids line) s a m) (λ done. Give (p3_answer_reply no_values line done.0, done.1))
 call_asks ctx m line (guest.P3UdpDisconnect s) = bind (udp3.disconnect (own_of line) s m) (λ done. Give (p3_reply no_values done.0, done.1))
+call_asks ctx m line (guest.P3UdpSend s d) = bind (udp3.send line s d m) (λ done. Give (p3_answer_reply no_values line done.0, done.1))
+call_asks ctx m line (guest.P3UdpReceive s) = bind (udp3.receive line s m) (λ done. Give (p3_answer_reply received_values line done.0, done.1))
 call_asks ctx m line (guest.P3UdpLocalAddress s) = bind (udp3.local_address (own_of line) s m) (λ done. Give (p3_reply address_values done.0, done.1))
 call_asks ctx m line (guest.P3UdpRemoteAddress s) = Give (p3_reply address_values (udp3.remote_address m s), m)
 call_asks ctx m line (guest.P3UdpAddressFamily s) = Give (p3_reply family_fields (udp3.address_family m s), m)

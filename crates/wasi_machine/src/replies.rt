@@ -238,6 +238,7 @@ fn outcome_reply(alloc: Global, line: u32, answer: Answer<Outcome>) -> Result<Re
         Answer::Ready(Outcome::Failed(code, handle)) => Ok(failed(code, handle)),
         Answer::Ready(Outcome::Closed) => Ok(Reply::Closed),
         Answer::Ready(Outcome::Places(places)) => ok(alloc, places),
+        Answer::Ready(Outcome::Datagram(datagram)) => ok(alloc, datagram),
         Answer::Ready(Outcome::Refused(code)) => Ok(Reply::Err(CodeWord::from_p3(code))),
         Answer::Ready(Outcome::Addresses(addresses)) => ok(alloc, addresses),
         Answer::Ready(Outcome::Unresolved(code)) => Ok(Reply::Err(CodeWord::from_lookup(code))),

@@ -6,6 +6,8 @@ use Rattle.wasi_addr.specs.declared.code.ErrorCode.{ErrorCode}
 use Rattle.wasi_addr.specs.declared.p3.ErrorCode.{ErrorCode as P3Code}
 use Rattle.wasi_addr.specs.Code.{p3_of_code}
 use Rattle.wasi_world.specs.declared.call.Opt.{Opt}
+use Rattle.wasi_world.specs.declared.datagram.IncomingDatagram.{IncomingDatagram}
+use Rattle.wasi_world.specs.declared.datagram.OutgoingDatagram.{OutgoingDatagram}
 use Rattle.wasi_world.specs.declared.ids.Ids.{Ids}
 use Rattle.wasi_world.specs.declared.ids.OpId.{OpId}
 use Rattle.wasi_world.specs.declared.outcome.Answer.{Answer}
@@ -20,6 +22,7 @@ use Rattle.wasi_host.specs.declared.kind.Interface.TheVariants.{P3}
 use Rattle.wasi_host.specs.declared.machine.Machine.{Machine}
 use Rattle.wasi_host.specs.Binds.{udp_bind_of}
 use Rattle.wasi_host.specs.Block.{Does, last, ◌>>=◌}
+use Rattle.wasi_host.specs.SocketDatagrams.{receive_of, send_of}
 use Rattle.wasi_host.specs.UdpConnects.{udp_connect_of}
 use Rattle.wasi_host.specs.UdpCreates.{create_udp, created_by}
 use Rattle.wasi_p3.specs.Lines.{in_base, of_udp, udp_named, udp_of, told_of}
@@ -40,6 +43,17 @@ abbrev pub connect_to : Ids → ℕ → IpSocketAddress → Does P3Code Machine 
 connect_to ids socket a = do
   place ← udp_named socket
   last (in_base (udp_connect_of ids place a))
+
+-- == a datagram
+abbrev pub send : ℕ → ℕ → OutgoingDatagram → Does P3Code Machine (Answer (Unit {0}))
+send line socket d = do
+  place ← udp_named socket
+  last (in_base (send_of line place d))
+
+abbrev pub receive : ℕ → ℕ → Does P3Code Machine (Answer IncomingDatagram)
+receive line socket = do
+  place ← udp_named socket
+  last (in_base (receive_of line place))
 
 -- == what a socket says of itself
 abbrev pub local_address : OpId → ℕ → Does P3Code Machine IpSocketAddress

@@ -8,13 +8,14 @@ ghost use Rattle.wasi_host.specs.Machine.{own_of};
 ghost use Rattle.wasi_host.specs.Views.{state_of, HostKept};
 ghost use Rattle.wasi_p3.specs.Stops.{ends_as};
 ghost use Rattle.wasi_p3.specs.Udp.{create, bind_to, connect_to, local_address, remote_address};
+ghost use Rattle.wasi_p3.specs.Udp.{send, receive};
 ghost use Rattle.wasi_p3.specs.Udp.{address_family, disconnect, get_option, set_option};
 
 use crate::error::{SocketError, answered, named, told};
 use socket_common::Setting;
 use wasi_addr::{IpSocketAddress, SocketAddressFamily};
 use wasi_host::{Interface, OpenUdp, WasiSocketsCtxView, handles};
-use wasi_world::{Answer, Handle, Ids, Opt, TrapKind, World};
+use wasi_world::{Answer, Handle, Ids, IncomingDatagram, Opt, OutgoingDatagram, TrapKind, World};
 
 /// Creates a UDP socket of this family (`udp-socket.create`). A context that may not use UDP:
 /// `AccessDenied`, and nothing is asked. The call is pending until the network socket can send, and
@@ -84,6 +85,60 @@ pub fn connect<W: World>(
 {
     let place = handles::udp3_socket(view.table, socket)?;
     named(view.store.connect_udp(world, *ids, place, addr))
+}
+
+/// Sends a datagram (`udp-socket.send`), to its address or to the one that the socket is connected
+/// to.
+///
+/// - More than 65,535 bytes: `DatagramTooLarge`.
+/// - An address of another family, or that is none of a single other host, or other than the one
+///   that the socket is connected to; or none, and the socket isn't connected: `InvalidArgument`.
+/// - A check says no: `AccessDenied`. A socket that isn't bound has the wildcard checked for the
+///   bind first.
+/// - The socket was connected to its address at the start, and is connected to another one now, or
+///   to none: `InvalidState`, and it isn't sent.
+/// - The network's code is returned.
+///
+/// While it is pending it stands beside other calls, and holds the socket's network socket.
+/// [`resume`](wasi_host::resume) continues it.
+pub fn send<W: World>(
+    view: &mut WasiSocketsCtxView<'_>,
+    world: &mut W,
+    ids: &mut Ids,
+    socket: Handle,
+    datagram: OutgoingDatagram,
+) -> Result<Answer<()>, SocketError>
+    requires { (W.seen world.old).ended ≡ false }
+    ensures asked { AsksFor (send ids.old.line socket datagram (state_of view.old))
+        (W.seen world.old) (W.seen world.new) (λ answer. (answer, state_of view.new))
+        (ends_as result) }
+    ensures kept { HostKept view.old view.new ids.old ids.new (W.seen world.old)
+        (W.seen world.new) }
+{
+    let place = handles::udp3_socket(view.table, socket)?;
+    named(view.store.send_datagram(world, *ids, place, datagram))
+}
+
+/// Receives a datagram (`udp-socket.receive`), whoever sent it. Not bound: `InvalidState`. A
+/// datagram whose sender's check says no is dropped, and the next one is waited for. The network's
+/// code is returned.
+///
+/// While it is pending it stands beside other calls, and holds the socket's network socket.
+/// [`resume`](wasi_host::resume) continues it.
+pub fn receive<W: World>(
+    view: &mut WasiSocketsCtxView<'_>,
+    world: &mut W,
+    ids: &mut Ids,
+    socket: Handle,
+) -> Result<Answer<IncomingDatagram>, SocketError>
+    requires { (W.seen world.old).ended ≡ false }
+    ensures asked { AsksFor (receive ids.old.line socket (state_of view.old)) (W.seen world.old)
+        (W.seen world.new) (λ answer. (answer, state_of view.new)) (ends_as result) }
+    ensures kept { HostKept view.old view.new ids.old ids.new (W.seen world.old)
+        (W.seen world.new) }
+{
+    let place = handles::udp3_socket(view.table, socket)?;
+    named(view.store.receive_datagram(world, *ids, place))
 }
 
 /// The address that a socket is bound to (`udp-socket.get-local-address`). Not bound:

@@ -40,14 +40,16 @@ impl Model for PendingSend {
 }
 
 impl PendingSend {
-    fn new(send: SendOp) -> PendingSend
+    /// The send, which hasn't ended.
+    pub fn new(send: SendOp) -> PendingSend
         requires { is_going send ≡ true }
         ensures { result ≡ send }
     {
         PendingSend { send }
     }
 
-    fn into_inner(self) -> SendOp
+    /// The send itself.
+    pub fn into_inner(self) -> SendOp
         ensures send { result ≡ self }
         ensures going { is_going result ≡ true }
     {
@@ -75,14 +77,16 @@ impl Model for PendingReceive {
 }
 
 impl PendingReceive {
-    pub(crate) fn new(receive: RecvOp) -> PendingReceive
+    /// The receive, which hasn't ended.
+    pub fn new(receive: RecvOp) -> PendingReceive
         requires { is_going receive ≡ true }
         ensures { result ≡ receive }
     {
         PendingReceive { receive }
     }
 
-    pub(crate) fn into_inner(self) -> RecvOp
+    /// The receive itself.
+    pub fn into_inner(self) -> RecvOp
         ensures receive { result ≡ self }
         ensures going { is_going result ≡ true }
     {

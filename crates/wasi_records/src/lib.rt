@@ -22,7 +22,7 @@ pub mod udp;
 pub mod udp_connecting;
 
 pub use closing::close_sides;
-pub use datagrams::{Incoming, Outgoing, Receiving, Sending};
+pub use datagrams::{Incoming, Outgoing, PendingReceive, PendingSend, Receiving, Sending};
 pub use error::SocketError;
 pub use name_lookup::{Addresses, Lookup, LookupOp, unresolvable};
 pub use record_list::{RecordId, RecordList, SlotKey};

@@ -154,6 +154,9 @@ pub struct OpenUdp {
     pub in_progress: UdpInProgress,
     /// The connect in progress, while it is pending: of 0.3, or before its datagram streams.
     pub connecting: Option<PendingUdpConnect>,
+    /// Its handle is gone, and datagrams in progress alone hold it. Of 0.3 only: a socket of 0.2 goes
+    /// with its handle.
+    pub dropped: bool,
 }
 
 /// A UDP socket of the 0.2 interface.
@@ -256,6 +259,7 @@ impl UdpRecord {
                     connecting: None,
                     incoming: None,
                     outgoing: None,
+                    dropped: false,
                 });
                 Ok(Answer::Ready(()))
             }

@@ -64,7 +64,7 @@ destination_exactly = exactly
     (only_last Some address_exactly (λ a fits. (fits, refl)), (only_give None (tt, refl), tt))))
     destination_all
 
-datagram_exactly : ReadsExactly datagram_at datagram_fields FitsDatagram
+pub datagram_exactly : ReadsExactly datagram_at datagram_fields FitsDatagram
 unfolding datagram_at
 datagram_exactly = exactly
     (only_then _ destination_exactly (λ remote fits. only_then _ bytes_exactly (λ bytes are. only_give _ ((fits, are), refl))))
@@ -103,9 +103,10 @@ destination_visible : (remote : Option IpSocketAddress) → FitsRemote remote �
 destination_visible None fits = (refl, tt)
 destination_visible (Some a) fits = (refl, address_visible a fits)
 
+pub datagram_visible : (d : OutgoingDatagram) → FitsDatagram d → AreVisible (datagram_fields d)
+datagram_visible d fits = both_visible (destination_fields d.remote_address) _ (destination_visible d.remote_address fits.0) (bytes_visible d.bytes fits.1)
+
 pub datagrams_visible : (ds : List OutgoingDatagram) → FitsDatagrams ds → AreVisible (datagrams_fields ds)
 datagrams_visible [] fits = tt
 datagrams_visible (d ∷ ds) fits =
-    both_visible (datagram_fields d) (datagrams_fields ds)
-    (both_visible (destination_fields d.remote_address) _ (destination_visible d.remote_address fits.0.0) (bytes_visible d.bytes fits.0.1))
-    (datagrams_visible ds fits.1)
+    both_visible (datagram_fields d) (datagrams_fields ds) (datagram_visible d fits.0) (datagrams_visible ds fits.1)

@@ -23,7 +23,7 @@ use Rattle.wasi_steps.specs.declared.guest_call.GuestCall.TheVariants as guest
 use Rattle.wasi_steps.specs.declared.step.Step.{Step}
 use Rattle.wasi_steps.specs.declared.step.Step.TheVariants as step
 use Rattle.wasi_steps.specs.Reply.{ip_values, address_values, ips_values, received_values, datagram_values, numbers_fields}
-use Rattle.wasi_steps.specs.Replies.{code_text, trap_text, field_text, fields_of_reply, text_of, FieldKind, ANumber, SomeBytes, Truth, Nothing, FieldKinds, Each, AnAddress, AnIpOrNone, ADatagramList, SomeNumbers, SomeIps, OfAPolledCall, kinds_of, IsOfKind, EachOfKind, AreOfKinds, AreNumbers, AreIps, FitsReceived, GivesAs, Gives, is_poll, polled_fields}
+use Rattle.wasi_steps.specs.Replies.{code_text, trap_text, field_text, fields_of_reply, text_of, FieldKind, ANumber, SomeBytes, Truth, Nothing, FieldKinds, Each, AnAddress, AnIpOrNone, ADatagramList, SomeNumbers, SomeIps, OneDatagram, OfAPolledCall, kinds_of, IsOfKind, EachOfKind, AreOfKinds, AreNumbers, AreIps, FitsReceived, GivesAs, Gives, is_poll, polled_fields}
 use Rattle.wasi_steps.specs.Steps.{call_signature}
 use Rattle.wasi_steps.proofs.LineEnds.{both_visible}
 
@@ -95,6 +95,7 @@ of_kinds AnIpOrNone n = ip_or_none n
 of_kinds ADatagramList n = number_at 18446744073709551615 >>= λ count. times_at count >>= λ ds. give (datagram_values ds)
 of_kinds SomeNumbers n = some_numbers n
 of_kinds SomeIps n = some_numbers n
+of_kinds OneDatagram n = received_at >>= λ d. give (received_values d)
 of_kinds OfAPolledCall n = give_some None
 
 rows : FieldKinds → ℕ → List (Row Reply)
@@ -218,6 +219,7 @@ all_of_kinds ADatagramList fields known are =
     rw are.values (all_then _ (number_exactly 18446744073709551615 (omega arith)) (let count = are.count in omega arith) (all_end _ (all_times are.datagrams are.fits) all_give))
 all_of_kinds SomeNumbers fields known are = all_numbers fields are
 all_of_kinds SomeIps fields known are = all_ips fields are
+all_of_kinds OneDatagram fields known are = rw are.values (all_end _ (all_received are.datagram are.fits) all_give)
 all_of_kinds OfAPolledCall fields known are = absurd known
 
 code_all : (code : CodeWord) → All code_at code (code_text code ∷ [])
@@ -264,6 +266,10 @@ each_visible (kind ∷ kinds) (f ∷ fields) are = (field_visible kind f are.0, 
 each_visible [] (f ∷ fields) are = absurd are
 each_visible (kind ∷ kinds) [] are = absurd are
 
+datagram_visible : (d : IncomingDatagram) → FitsReceived d → AreVisible (map field_text (received_values d))
+datagram_visible d fits =
+    rw (received_texts d) (both_visible (address_fields d.remote_address) (bytes_fields d.bytes) (address_visible d.remote_address fits.0) (bytes_visible d.bytes fits.1))
+
 received_visible : (ds : List IncomingDatagram) → AllByRecursion FitsReceived ds → AreVisible (map field_text (flat_map received_values ds))
 received_visible [] fits = tt
 received_visible (d ∷ ds) fits =
@@ -288,6 +294,7 @@ fields_visible AnIpOrNone fields known are = ip_or_none_visible fields are
 fields_visible ADatagramList fields known are = rw are.values (number_visible (length are.datagrams) are.count, received_visible are.datagrams are.fits)
 fields_visible SomeNumbers fields known are = each_visible (so_many_numbers (length (map field_text fields))) fields (are_numbers fields are)
 fields_visible SomeIps fields known are = each_visible (so_many_numbers (length (map field_text fields))) fields (are_ips fields are)
+fields_visible OneDatagram fields known are = rw are.values (datagram_visible are.datagram are.fits)
 fields_visible OfAPolledCall fields known are = absurd known
 
 reply_visible : (kinds : FieldKinds) (r : Reply) → AreKnown kinds → GivesAs kinds r → AreVisible (fields_of_reply r)

@@ -18,11 +18,11 @@ use Rattle.wasi_steps.specs.declared.guest_call.GuestCall.{GuestCall}
 use Rattle.wasi_steps.specs.declared.guest_call.GuestCall.TheVariants as guest
 use Rattle.wasi_steps.specs.declared.step.Step.{Step}
 use Rattle.wasi_steps.specs.declared.step.Step.TheVariants as step
-use Rattle.wasi_steps.specs.Arguments.{Kind, ALine, ACount, ACapacity, AFamily, ASocketAddress, AnOption, ASetting, AUdpOption, AUdpSetting, AHalf, AllBytes, ARemote, SomeDatagrams, SomePollables, AName, Value, value_at, value_fields, FitsValue, Values, values_fields, FitsValues, shutdown_fields, shutdown_words, shutdown_at}
+use Rattle.wasi_steps.specs.Arguments.{Kind, ALine, ACount, ACapacity, AFamily, ASocketAddress, AnOption, ASetting, AUdpOption, AUdpSetting, AHalf, AllBytes, ARemote, SomeDatagrams, ADatagram, SomePollables, AName, Value, value_at, value_fields, FitsValue, Values, values_fields, FitsValues, shutdown_fields, shutdown_words, shutdown_at}
 use Rattle.wasi_steps.specs.Names.{IsText}
 use Rattle.wasi_steps.specs.Steps.{Takes, made, values_at, Written, fields_of_written, Signature, call_signature, turn_signature, poll_signature, cancel_signature, written_of, context_fields, context_of, is_of_a_name, takes_a_name, fields_of_step, line_of, IsStep, row_by, rows_of, IsRead, call_is_read, guest_calls, bare_signatures, bare_rows, call_at, guest_call_at, after_first, step_reader, step_of}
 use Rattle.wasi_steps.proofs.LineEnds.{ReadsLast, Last, last_of, lastly, last_give, last_then, last_alone, only_next, both_visible}
-use Rattle.wasi_steps.proofs.DatagramLaws.{remote_last, remote_visible, datagrams_last, datagrams_visible}
+use Rattle.wasi_steps.proofs.DatagramLaws.{remote_last, remote_visible, datagram_exactly, datagram_visible, datagrams_last, datagrams_visible}
 use Rattle.wasi_steps.proofs.HandleLaws.{handles_last, handles_visible}
 use Rattle.wasi_steps.proofs.NameLaws.{name_last, visible_text, name_text, text_both}
 use Rattle.wasi_steps.proofs.SettingLaws.{◌and◌, u64_exactly, option_exactly, option_visible, setting_exactly, setting_visible, udp_option_exactly, udp_option_visible, udp_setting_exactly, udp_setting_visible}
@@ -61,6 +61,7 @@ kind_exactly AUdpOption more = udp_option_exactly
 kind_exactly AUdpSetting more = udp_setting_exactly
 kind_exactly AHalf more = shutdown_exactly
 kind_exactly AllBytes more = bytes_exactly
+kind_exactly ADatagram more = datagram_exactly
 kind_exactly ARemote more = absurd (cc)
 kind_exactly SomeDatagrams more = absurd (cc)
 kind_exactly SomePollables more = absurd (cc)
@@ -240,6 +241,7 @@ value_visible AHalf how other fits = shutdown_visible how
 value_visible AllBytes bytes other fits = bytes_visible bytes fits
 value_visible ARemote remote other fits = remote_visible remote fits
 value_visible SomeDatagrams datagrams other fits = datagrams_visible datagrams fits
+value_visible ADatagram datagram other fits = datagram_visible datagram fits
 value_visible SomePollables handles other fits = handles_visible handles fits
 value_visible AName name other fits = absurd (cc)
 value_visible _ n other fits = number_visible n (omega arith) and tt

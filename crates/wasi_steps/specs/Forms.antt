@@ -2,7 +2,7 @@
 use Rattle.std.specs.Prelude.{ℕ, Bool, true, false, ◌==◌, List, [], ◌∷◌, ◌++◌, map, codes, Option, Some, None}
 use Rattle.world_text.specs.Fields.{line_with}
 use Rattle.wasi_steps.specs.declared.step.Step.{Step}
-use Rattle.wasi_steps.specs.Arguments.{Target, ANetwork, ASocket, ASocket3, ADatagramSocket, ADatagramSocket3, AListener3, AnInput, AnOutput, AnIncoming, AnOutgoing, ALookup, AnError, Watchable, APollable, Anything, Kind, HandleOf, ALine, ACount, ACapacity, AFamily, ASocketAddress, AnOption, ASetting, AUdpOption, AUdpSetting, AHalf, AllBytes, ARemote, SomeDatagrams, SomePollables, AName, AReadEnd3, AWriteEnd3, AResult3}
+use Rattle.wasi_steps.specs.Arguments.{Target, ANetwork, ASocket, ASocket3, ADatagramSocket, ADatagramSocket3, AListener3, AnInput, AnOutput, AnIncoming, AnOutgoing, ALookup, AnError, Watchable, APollable, Anything, Kind, HandleOf, ALine, ACount, ACapacity, AFamily, ASocketAddress, AnOption, ASetting, AUdpOption, AUdpSetting, AHalf, AllBytes, ARemote, SomeDatagrams, ADatagram, SomePollables, AName, AReadEnd3, AWriteEnd3, AResult3}
 use Rattle.wasi_steps.specs.Steps.{context_of, written_of}
 
 -- the letters for a handle, and for an argument
@@ -41,6 +41,7 @@ letters AHalf = codes "HOW"
 letters AllBytes = codes "BYTES"
 letters ARemote = codes "[4 a b c d port]"
 letters SomeDatagrams = codes "DATAGRAM.."
+letters ADatagram = codes "DATAGRAM"
 letters SomePollables = codes "P.."
 letters AName = codes "NAME"
 

@@ -14,10 +14,10 @@ use Rattle.wasi_steps.specs.declared.reply.Field.{Field}
 use Rattle.wasi_steps.specs.declared.reply.Field.TheVariants as field
 use Rattle.wasi_steps.specs.declared.reply.Reply.{Reply}
 use Rattle.wasi_steps.specs.declared.reply.Reply.TheVariants as reply
-use Rattle.wasi_steps.specs.Reply.{ip_values, ips_values, address_values, datagram_values, numbers_fields}
+use Rattle.wasi_steps.specs.Reply.{ip_values, ips_values, address_values, received_values, datagram_values, numbers_fields}
 use Rattle.wasi_steps.specs.declared.step.Step.{Step}
 use Rattle.wasi_steps.specs.declared.step.Step.TheVariants as step
-pub use Rattle.wasi_steps.specs.Steps.{FieldKind, ANumber, SomeBytes, Truth, Nothing, FieldKinds, Each, AnAddress, AnIpOrNone, ADatagramList, SomeNumbers, SomeIps, OfAPolledCall, polled_kinds, polled_fields, kinds_of}
+pub use Rattle.wasi_steps.specs.Steps.{FieldKind, ANumber, SomeBytes, Truth, Nothing, FieldKinds, Each, AnAddress, AnIpOrNone, ADatagramList, SomeNumbers, SomeIps, OneDatagram, OfAPolledCall, polled_kinds, polled_fields, kinds_of}
 
 -- the words of codes
 abbrev pub code_text : CodeWord → List ℕ
@@ -119,6 +119,12 @@ pub record AreDatagrams (fields : List Field) : Type 0 where
   pub fits : AllByRecursion FitsReceived datagrams
   pub values : fields ≡ datagram_values datagrams
 
+-- These are who sent a datagram, and its bytes.
+pub record AreADatagram (fields : List Field) : Type 0 where
+  pub datagram : IncomingDatagram
+  pub fits : FitsReceived datagram
+  pub values : fields ≡ received_values datagram
+
 -- These are numbers, one at least.
 pub record AreNumbers (fields : List Field) : Type 0 where
   pub first : ℕ
@@ -144,7 +150,8 @@ AreOfKinds AnIpOrNone fields = (fields ≡ field.Absent ∷ []) ⊎ AreAnIp fiel
 AreOfKinds ADatagramList fields = AreDatagrams fields
 AreOfKinds SomeNumbers fields = AreNumbers fields
 AreOfKinds SomeIps fields = AreIps fields
-AreOfKinds OfAPolledCall fields = AsOneSays polled_kinds fields ⊎ (AreNumbers fields ⊎ AreIps fields)
+AreOfKinds OneDatagram fields = AreADatagram fields
+AreOfKinds OfAPolledCall fields = AsOneSays polled_kinds fields ⊎ (AreNumbers fields ⊎ (AreIps fields ⊎ AreADatagram fields))
 
 -- a reply with fields of these kinds where it has any, and with numbers that are within their widths
 abbrev pub GivesAs : FieldKinds → Reply → Type 0

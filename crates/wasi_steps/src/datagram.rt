@@ -35,7 +35,10 @@ fn destination(fields: &mut Fields<'_>) -> Option<Option<IpSocketAddress>>
 
 /// Takes a datagram: where it goes, and its bytes.
 #[tactic(auto, unfolding(crate::specs::Datagrams::datagram_at, world_text::specs::Fields::read_then, world_text::specs::Fields::give))]
-fn datagram(alloc: Global, fields: &mut Fields<'_>) -> Result<Option<OutgoingDatagram>, AllocError>
+pub(crate) fn datagram(
+    alloc: Global,
+    fields: &mut Fields<'_>,
+) -> Result<Option<OutgoingDatagram>, AllocError>
     ensures { IfOk result (λ datagram. Reads datagram_at fields.old datagram fields.new) }
 {
     let Some(remote_address) = destination(fields) else {

@@ -237,6 +237,19 @@ impl IntoFields for IncomingDatagrams {
     }
 }
 
+/// A datagram that was received: who sent it, and its bytes, which are moved.
+impl IntoFields for IncomingDatagram {
+    ghost use Rattle.wasi_steps.specs.Reply.{received_values};
+
+    ghost fields = { received_values };
+
+    fn into_fields(self, alloc: Global) -> Result<ReplyFields, AllocError> {
+        let mut fields = Vec::new(alloc);
+        push_datagram(alloc, &mut fields, self)?;
+        Ok(ReplyFields::from_vec(fields))
+    }
+}
+
 /// Appends the fields of a datagram.
 fn push_datagram(
     alloc: Global,

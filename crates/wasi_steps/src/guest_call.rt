@@ -2,7 +2,7 @@
 
 use crate::setting::{TcpSetting, UdpOption, UdpSetting};
 use wasi_addr::{IpSocketAddress, ShutdownType, SocketAddressFamily};
-use wasi_world::{Handle, NameText, NumberList, Octets, Opt, OutgoingDatagrams};
+use wasi_world::{Handle, NameText, NumberList, Octets, Opt, OutgoingDatagram, OutgoingDatagrams};
 
 /// A call that a guest makes, with its arguments.
 #[derive(Drop)]
@@ -350,6 +350,15 @@ pub enum GuestCall {
     },
     /// Takes the 0.3 UDP socket's remote address away (`disconnect`).
     P3UdpDisconnect {
+        socket: Handle,
+    },
+    /// Sends a datagram on the 0.3 UDP socket (`send`).
+    P3UdpSend {
+        socket: Handle,
+        datagram: OutgoingDatagram,
+    },
+    /// Receives a datagram on the 0.3 UDP socket (`receive`).
+    P3UdpReceive {
         socket: Handle,
     },
     /// The address that the 0.3 UDP socket is bound to (`get-local-address`).

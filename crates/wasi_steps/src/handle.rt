@@ -59,6 +59,7 @@ fn p3_handle_call(word: &[u8], handle: u32) -> Option<GuestCall>
         _ if is(word, "p3-tcp-receive") => Some(P3TcpReceive { socket }),
         _ if is(word, "p3-result") => Some(P3Result { slot: handle }),
         _ if is(word, "p3-udp-disconnect") => Some(P3UdpDisconnect { socket }),
+        _ if is(word, "p3-udp-receive") => Some(P3UdpReceive { socket }),
         _ if is(word, "p3-udp-local-address") => Some(P3UdpLocalAddress { socket }),
         _ if is(word, "p3-udp-remote-address") => Some(P3UdpRemoteAddress { socket }),
         _ if is(word, "p3-udp-address-family") => Some(P3UdpAddressFamily { socket }),

@@ -4,8 +4,9 @@ ghost use Rattle.std.specs.Prelude.{IfOk};
 ghost use Rattle.world_text.specs.Fields.{Reads};
 ghost use Rattle.wasi_steps.specs.Steps.{pipe_call, write_call, blocking_write_call, send_call};
 ghost use Rattle.wasi_steps.specs.Steps.{poll_list_call, resolve_call, p3_write_call, row_of, p3_resolve_call};
+ghost use Rattle.wasi_steps.specs.Steps.{p3_send_call};
 
-use crate::datagram::datagrams;
+use crate::datagram::{datagram, datagrams};
 use crate::guest_call::GuestCall;
 use crate::handle_list::pollables;
 use crate::name::name;
@@ -148,4 +149,22 @@ pub(crate) fn p3_resolve_arguments(
         return Ok(None);
     };
     Ok(Some(GuestCall::P3Resolve { name }))
+}
+
+/// Takes the arguments of a p3-udp-send.
+#[tactic(auto, unfolding(world_text::specs::Fields::read_then, world_text::specs::Fields::give, world_text::specs::Fields::give_some))]
+pub(crate) fn p3_send_arguments(
+    alloc: Global,
+    fields: &mut Fields<'_>,
+) -> Result<Option<GuestCall>, AllocError>
+    ensures { IfOk result (λ call. Reads (row_of p3_send_call).reads fields.old call
+        fields.new) }
+{
+    let Some(socket) = fields.u32() else {
+        return Ok(None);
+    };
+    let Some(datagram) = datagram(alloc, fields)? else {
+        return Ok(None);
+    };
+    Ok(Some(GuestCall::P3UdpSend { socket, datagram }))
 }

@@ -17,8 +17,8 @@ ghost use Rattle.wasi_steps.specs.Steps.{call_at, guest_call_at, step_reader, st
 use crate::datagram::remote;
 use crate::guest_call::GuestCall;
 use crate::memory::{
-    blocking_write_arguments, p3_resolve_arguments, p3_write_arguments, pipe_arguments,
-    poll_list_arguments, resolve_arguments, send_arguments, write_arguments,
+    blocking_write_arguments, p3_resolve_arguments, p3_send_arguments, p3_write_arguments,
+    pipe_arguments, poll_list_arguments, resolve_arguments, send_arguments, write_arguments,
 };
 use crate::setting::{TcpSetting, UdpOption, UdpSetting};
 use crate::step::Step;
@@ -315,6 +315,7 @@ fn arguments(
         _ if is(word, "resolve") => resolve_arguments(alloc, fields),
         _ if is(word, "p3-write") => p3_write_arguments(alloc, fields),
         _ if is(word, "p3-resolve") => p3_resolve_arguments(alloc, fields),
+        _ if is(word, "p3-udp-send") => p3_send_arguments(alloc, fields),
         _ => Ok(plain_arguments(fields, word)),
     }
 }

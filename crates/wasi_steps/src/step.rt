@@ -120,6 +120,8 @@ pub const STEP_FORMS: &str = "    0 network                               makes 
     0 p3-udp-bind S 4 a b c d port          binds it
     0 p3-udp-connect S 4 a b c d port       connects it
     0 p3-udp-disconnect S                   takes its remote address away
+    0 p3-udp-send S DATAGRAM                sends a datagram, as `udp-send` does
+    0 p3-udp-receive S                      receives one: ok, its sender and its bytes
     0 p3-udp-local-address S                its address
     0 p3-udp-remote-address S               the address that it is connected to
     0 p3-udp-address-family S               its family: ok 4 or ok 6

@@ -1,6 +1,6 @@
 use Rattle.std.proofs.Common.{Bool, ap, refl, sym}
 use Rattle.wasi_world.specs.Asks.{Give}
-use Rattle.wasi_world.proofs.Walks.{asks_end, asks_exit, asks_given}
+use Rattle.wasi_world.proofs.Walks.{asks_end, asks_exit, asks_gives}
 use Rattle.wasi_records.proofs.ReceiveLists.{on_err}
 use Rattle.wasi_host.specs.Machine.{with_store}
 use Rattle.wasi_host.specs.Store.{Records}
@@ -11,7 +11,7 @@ use Rattle.wasi_host.proofs.cancelling.cancel.Goals as goal
 pub returns-in_default-clause-asked : goal.returns-in_default-clause-asked
 returns-in_default-clause-asked g c =
     rw (← c.take.ensures.taken, c.in_default.is)
-    (asks_given _ _ refl (ap (λ (d : Bool × Records). Give (with_store (state_of c.args.view.now) d)) (sym (rw (rw c.in_default.is at c.take.ensures.none) at c.cancel_beside.ensures))))
+    (asks_gives (with_store (state_of c.args.view.now)) (rw (rw c.in_default.is at c.take.ensures.none) at c.cancel_beside.ensures.asked))
 
 pub returns-in_err-cancel-clause-asked : goal.returns-in_err-cancel-clause-asked
 returns-in_err-cancel-clause-asked g c =

@@ -1,18 +1,7 @@
-use Rattle.std.proofs.Common.{◌≡◌, ℕ, inl, inr, ◌⊎◌, refl}
-use Rattle.wasi_world.specs.declared.ids.Ids.{Ids}
-use Rattle.wasi_world.proofs.Walks.{asks_end, asks_at}
+use Rattle.std.proofs.Common.{refl}
+use Rattle.wasi_world.proofs.Walks.{asks_end}
 use Rattle.wasi_records.proofs.Hosts.{fault_exit}
-use Rattle.wasi_host.specs.declared.kind.Kind.{Kind}
-use Rattle.wasi_host.specs.declared.kind.Kind.TheVariants.{Udp2, Udp3}
-use Rattle.wasi_host.specs.declared.machine.Machine.{Machine}
-use Rattle.wasi_host.specs.Machine.{drop_kind}
-use Rattle.wasi_host.specs.Views.{state_of}
 use Rattle.wasi_host.proofs.dropping.release_kind.Goals as goal
-
--- a UDP socket of either interface
-drop_udp : (m : Machine) (ids : Ids) (kind : Kind) {place : ℕ} → (kind ≡ Udp2 place) ⊎ (kind ≡ Udp3 place) → drop_kind m ids kind ≡ drop_kind m ids (Udp2 place)
-drop_udp m ids kind (inl e) = rw e refl
-drop_udp m ids kind (inr e) = rw e refl
 
 pub returns-in_err-tcp_release-in-Tcp2-clause-asked : goal.returns-in_err-tcp_release-in-Tcp2-clause-asked
 returns-in_err-tcp_release-in-Tcp2-clause-asked g c = rw c.in-Tcp2.is (fault_exit _ c.from_residual.result c.from_residual.ensures.1 (rw c.own.ensures at c.in_err-tcp_release-in-Tcp2.ensures.asked).err)
@@ -33,10 +22,16 @@ pub returns-in_ok-answer-in-Output-clause-asked : goal.returns-in_ok-answer-in-O
 returns-in_ok-answer-in-Output-clause-asked g c = rw c.in-Output.is (asks_end _ c.in_ok-answer-in-Output.ensures.asked.ok refl)
 
 pub returns-in_err-release_udp-in-Udp2-clause-asked : goal.returns-in_err-release_udp-in-Udp2-clause-asked
-returns-in_err-release_udp-in-Udp2-clause-asked g c = asks_at (λ asks. asks) (drop_udp (state_of c.args.view.now) c.args.ids.now c.args.kind c.in-Udp2.is) (fault_exit _ c.from_residual-in_err-release_udp-in-Udp2.result c.from_residual-in_err-release_udp-in-Udp2.ensures.1 (rw c.own-in-Udp2.ensures at c.in_err-release_udp-in-Udp2.ensures.asked).err)
+returns-in_err-release_udp-in-Udp2-clause-asked g c = rw c.in-Udp2.is (fault_exit _ c.from_residual-in_err-release_udp-in-Udp2.result c.from_residual-in_err-release_udp-in-Udp2.ensures.1 (rw c.own-in-Udp2.ensures at c.in_err-release_udp-in-Udp2.ensures.asked).err)
 
 pub returns-in_ok-release_udp-in-Udp2-clause-asked : goal.returns-in_ok-release_udp-in-Udp2-clause-asked
-returns-in_ok-release_udp-in-Udp2-clause-asked g c = asks_at (λ asks. asks) (drop_udp (state_of c.args.view.now) c.args.ids.now c.args.kind c.in-Udp2.is) (asks_end _ (rw c.own-in-Udp2.ensures at c.in_ok-release_udp-in-Udp2.ensures.asked).ok refl)
+returns-in_ok-release_udp-in-Udp2-clause-asked g c = rw c.in-Udp2.is (asks_end _ (rw c.own-in-Udp2.ensures at c.in_ok-release_udp-in-Udp2.ensures.asked).ok refl)
+
+pub returns-in_err-drop_udp-in-Udp3-clause-asked : goal.returns-in_err-drop_udp-in-Udp3-clause-asked
+returns-in_err-drop_udp-in-Udp3-clause-asked g c = rw c.in-Udp3.is (fault_exit _ c.from_residual-in_err-drop_udp-in-Udp3.result c.from_residual-in_err-drop_udp-in-Udp3.ensures.1 (rw c.own-in-Udp3.ensures at c.in_err-drop_udp-in-Udp3.ensures.asked).err)
+
+pub returns-in_ok-drop_udp-in-Udp3-clause-asked : goal.returns-in_ok-drop_udp-in-Udp3-clause-asked
+returns-in_ok-drop_udp-in-Udp3-clause-asked g c = rw c.in-Udp3.is (asks_end _ (rw c.own-in-Udp3.ensures at c.in_ok-drop_udp-in-Udp3.ensures.asked).ok refl)
 
 pub returns-in_err-drop_listener-in-Listen3-clause-asked : goal.returns-in_err-drop_listener-in-Listen3-clause-asked
 returns-in_err-drop_listener-in-Listen3-clause-asked g c = rw c.in-Listen3.is (fault_exit _ c.from_residual-in_err-drop_listener-in-Listen3.result c.from_residual-in_err-drop_listener-in-Listen3.ensures.1 (rw c.own-in-Listen3.ensures at c.in_err-drop_listener-in-Listen3.ensures.asked).err)

@@ -1,4 +1,4 @@
-use Rattle.std.proofs.Common.{◌≡◌, ◌∙◌, ℕ, List, Option, None, Result, Err, ap, refl}
+use Rattle.std.proofs.Common.{◌≡◌, ◌∙◌, ℕ, false, List, Option, None, Result, Err, ap, refl}
 use Rattle.std.specs.Prelude.{OnErr}
 use Rattle.wasi_streams.specs.declared.fault.HostError.TheVariants.{Code, Trap, Memory}
 use Rattle.wasi_world.proofs.Walks.{asks_end}
@@ -7,6 +7,8 @@ use Rattle.wasi_records.proofs.Hosts.{host_exit, host_passed}
 use Rattle.wasi_records.proofs.ReceiveLists.{on_err}
 use Rattle.wasi_host.proofs.Pipes.{on_err as on_err_by}
 use Rattle.wasi_host.specs.declared.beside.Beside.{Beside}
+use Rattle.wasi_host.specs.Beside.{beside_in}
+use Rattle.wasi_host.specs.SocketDatagrams.{is_datagram_in}
 use Rattle.wasi_host.specs.Standing.{call_of}
 use Rattle.wasi_host.specs.Store.{Records}
 use Rattle.wasi_host.specs.declared.store.Standing.{Standing}
@@ -52,12 +54,13 @@ pub returns-in-Err-Memory-clause-gone : goal.returns-in-Err-Memory-clause-gone
 returns-in-Err-Memory-clause-gone g c = rw c.forget_call.ensures refl
 
 -- a call that stands beside others stays then
-stays_there : {T : Type 0} (r : Result T SocketError) (now old before : List Beside) (P : Type 0) → OnErr (host_outcome r) (now ≡ old) → old ≡ before → OnErr (host_outcome r) (P → now ≡ before)
-stays_there r now old before P s e = on_err_by (host_outcome r) (λ same none. same ∙ e) s
+stays_there : {T : Type 0} (r : Result T SocketError) (now old before : List Beside) (line : ℕ) (P : Type 0) → OnErr (host_outcome r) (is_datagram_in (beside_in old line) ≡ false → now ≡ old) → old ≡ before
+    → OnErr (host_outcome r) (P → is_datagram_in (beside_in before line) ≡ false → now ≡ before)
+stays_there r now old before line P s e = on_err_by (host_outcome r) (λ same none other. same (rw e other) ∙ e) s
 
 pub returns-in_default-clause-stays : goal.returns-in_default-clause-stays
 returns-in_default-clause-stays g c =
-    stays_there c.resume_beside.result _ _ _ _ c.resume_beside.ensures.stays (ap (λ (s : Records). s.beside) (rw c.in_default.is at c.take.ensures.none))
+    stays_there c.resume_beside.result _ _ _ c.args.line _ c.resume_beside.ensures.stays (ap (λ (s : Records). s.beside) (rw c.in_default.is at c.take.ensures.none))
 
 pub returns-in-Err-Memory-clause-stays : goal.returns-in-Err-Memory-clause-stays
 returns-in-Err-Memory-clause-stays g c = λ none. absurd (let taken = c.take.ensures.taken in let some = c.in-Some.is in cc)

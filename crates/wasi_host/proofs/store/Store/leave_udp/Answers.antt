@@ -1,4 +1,4 @@
-use Rattle.std.proofs.Common.{Some, ap, sym, ◌∙◌}
+use Rattle.std.proofs.Common.{Some, ap, refl, sym, ◌∙◌}
 use Rattle.wasi_records.specs.Records.{udp2_at}
 use Rattle.wasi_host.specs.Store.{Records}
 use Rattle.wasi_records.specs.declared.udp.UdpRecord.TheVariants.{Closed}
@@ -8,7 +8,7 @@ use Rattle.wasi_host.proofs.store.Store.leave_udp.Goals as goal
 pub returns-in_default-socket : goal.returns-in_default-socket
 returns-in_default-socket c =
     let there = c.in-Some.ensures.item ∙ ap (λ (s : Records). udp2_at s.records c.args.place) c.self.view_is in
-    record { state = λ u found. left_same c.args.self.now c.args.place u c.in-Some.socket.now found there c.in_default-socket.not-Closed; sides = λ s k. k }
+    record { state = λ u found. left_same c.args.self.now c.args.place u c.in-Some.socket.now found there c.in_default-socket.not-Closed; exclusive = refl; sides = λ s k. k }
 
 pub returns-clause-state : goal.returns-clause-state
 returns-clause-state c =

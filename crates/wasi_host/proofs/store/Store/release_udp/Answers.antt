@@ -1,9 +1,12 @@
-use Rattle.std.proofs.Common.{refl, ap, sym, ◌∙◌}
+use Rattle.std.proofs.Common.{◌≡◌, List, refl, ap, sym, ◌∙◌}
 use Rattle.wasi_world.specs.Asks.{Give}
 use Rattle.wasi_world.proofs.Walks.{asks_end, asks_exit, asks_given}
+use Rattle.wasi_records.proofs.ReceiveLists.{on_err}
+use Rattle.wasi_records.specs.declared.records.Record.{Record}
 use Rattle.wasi_host.specs.Store.{Records}
+use Rattle.wasi_host.specs.UdpCalls.{with_udp}
 use Rattle.wasi_host.proofs.GivenBack.{udp_there, left_put}
-use Rattle.wasi_records.proofs.UdpLookups.{udp_at, no_udp}
+use Rattle.wasi_records.proofs.UdpLookups.{udp_at, no_udp, udp_put_same}
 use Rattle.wasi_host.proofs.KnownSides.{knows_fewer}
 use Rattle.wasi_host.proofs.store.Store.release_udp.Goals as goal
 
@@ -29,3 +32,19 @@ pub returns-clause-sides : goal.returns-clause-sides
 returns-clause-sides g c = λ k.
     let store : Records = record { records = c.self.inside.records.items; jobs = c.self.inside.jobs.items; standing = c.self.inside.standing; beside = c.self.inside.beside } in
     c.leave_udp.ensures.sides _ (knows_fewer store c.args.place c.in-Some.record.now c.close.new.self (udp_at c.self.inside.records.items c.args.place c.in-Some.record c.in-Some.ensures.item) c.close.ensures.held (rw (← c.self.view_is) at k))
+
+pub returns-in_err-close-clause-err : goal.returns-in_err-close-clause-err
+returns-in_err-close-clause-err g c =
+    let store : Records = record { records = c.self.inside.records.items; jobs = c.self.inside.jobs.items; standing = c.self.inside.standing; beside = c.self.inside.beside } in
+    let found = udp_at c.self.inside.records.items c.args.place c.in-Some.record c.in-Some.ensures.item in
+    let same : with_udp store c.args.place c.close.new.self ≡ store = rw c.in_err-close.ensures.err (ap (λ (l : List Record). let r : Records = record store { records = l } in r) (udp_put_same c.self.inside.records.items c.args.place c.in-Some.record.now found)) in
+    on_err c.from_residual.result (same ∙ c.self.view_is)
+
+pub returns-in_err-close-clause-unasked : goal.returns-in_err-close-clause-unasked
+returns-in_err-close-clause-unasked g c = on_err c.from_residual.result c.in_err-close.ensures.unasked
+
+pub returns-in_err-close-clause-exclusive : goal.returns-in_err-close-clause-exclusive
+returns-in_err-close-clause-exclusive g c = ap (λ (store : Records). store.standing) c.self.view_is
+
+pub returns-clause-exclusive : goal.returns-clause-exclusive
+returns-clause-exclusive g c = c.leave_udp.ensures.exclusive ∙ ap (λ (store : Records). store.standing) c.self.view_is

@@ -1,0 +1,10 @@
+use Rattle.wasi_addr.specs.Code.{p3_of_code}
+use Rattle.wasi_host.specs.BaseStops.{ends_as}
+use Rattle.wasi_host.specs.Views.{state_of}
+use Rattle.wasi_host.proofs.Bases.{stored_named}
+use Rattle.wasi_p3.proofs.udp.receive.Goals as goal
+
+pub returns-clause-asked : goal.returns-clause-asked
+returns-clause-asked g c =
+    rw (c.named.ensures, c.in_ok-place.ensures)
+    (stored_named p3_of_code (state_of c.args.view.now) (ends_as c.receive_datagram.result) c.receive_datagram.ensures.asked)
