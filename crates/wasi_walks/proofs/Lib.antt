@@ -13,3 +13,4 @@ pub mod claims
 pub mod remotes
 pub mod licence
 pub mod received
+pub mod BesideLists

@@ -28,6 +28,12 @@ has_split [] e x (inr h) = absurd h
 has_split (y ∷ es) e x (inl h) = inl (inl h)
 has_split (y ∷ es) e x (inr h) = elim (has_split es e x h) [ inl i ↦ inl (inr i) | inr i ↦ inr i ]
 
+-- an item of two lists
+pub has_parts : {A : Type 0} (es fs : List A) (x : A) → Has (es ++ fs) x → Has es x ⊎ Has fs x
+has_parts [] fs x h = inr h
+has_parts (y ∷ es) fs x (inl h) = inl (inl h)
+has_parts (y ∷ es) fs x (inr h) = elim (has_parts es fs x h) [ inl i ↦ inl (inr i) | inr i ↦ inr i ]
+
 -- an entry of a list, with what is before it and after it
 pub record Cut (es : List Entry) (e : Entry) : Type 0 where
   pub front : List Entry

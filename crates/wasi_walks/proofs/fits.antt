@@ -6,5 +6,10 @@ pub mod UdpPolls
 pub mod DatagramPolls
 pub mod TcpFits
 pub mod UdpFits
+pub mod Besides
+pub mod Datagrams
+pub mod DatagramFacts
+pub mod DatagramLaw
+pub mod ClosedCalls
 pub mod Law
 pub mod Lines

@@ -32,10 +32,14 @@ pub mod ErrorMarks
 pub mod ListenMarks
 pub mod EndAsks
 pub mod UdpGoesOn
+pub mod DatagramCalls
 pub mod GoesOn
 pub mod Meanings
 pub mod WildAsks
 pub mod Judged
+pub mod Law
+pub mod Prefixes
+pub mod Served
 pub mod Runs
 pub mod Rows
 pub mod ListenRows
@@ -45,4 +49,5 @@ pub mod UdpRows
 pub mod DatagramRows
 pub mod StreamRows
 pub mod P3Rows
+mod DatagramRuns
 pub mod PollRows

@@ -14,3 +14,8 @@ pub mod Marks
 pub mod Since
 pub mod Wanted
 pub mod Kept
+pub mod Single
+pub mod OneReceive
+pub mod Parted
+pub mod Askers
+pub mod OneDone

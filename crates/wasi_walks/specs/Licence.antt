@@ -19,7 +19,7 @@ use Rattle.wasi_world.specs.declared.call.HandleKind.TheVariants as handle_kind
 use Rattle.wasi_world.specs.declared.call.HandleKind.TheVariants.{Network, Tcp2, Tcp3, Udp2, Udp3, Listen3, Input, Output, Pollable, ErrorValue, Incoming, Outgoing, Receive3, Send3, Result3}
 use Rattle.wasi_world.specs.declared.call.Opt.{Opt}
 use Rattle.wasi_world.specs.declared.call.Told.{Told}
-use Rattle.wasi_world.specs.declared.call.Told.TheVariants.{Done, Yes, Addr, Arrived, Code}
+use Rattle.wasi_world.specs.declared.call.Told.TheVariants.{Done, Yes, Addr, Arrived, Code, Datagram}
 use Rattle.wasi_world.specs.declared.call.Entry.{Entry}
 use Rattle.wasi_world.specs.declared.outcome.WasiSocketsCtx.{WasiSocketsCtx}
 use Rattle.socket_common.specs.Options.{value_set}
@@ -27,7 +27,8 @@ use Rattle.wasi_names.specs.declared.name.HostName.TheVariants.{Domain}
 use Rattle.wasi_names.specs.Names.{name_is}
 use Rattle.wasi_steps.specs.declared.reply.Field.{Field}
 use Rattle.wasi_steps.specs.declared.reply.Reply.{Reply}
-use Rattle.wasi_steps.specs.Reply.{datagram_values}
+use Rattle.wasi_steps.specs.Reply.{datagram_values, received_values}
+use Rattle.wasi_records.specs.Names.{own_of}
 use Rattle.wasi_steps.specs.declared.step.Step.{Step}
 use Rattle.wasi_steps.specs.declared.guest_call.GuestCall.TheVariants as guest
 use Rattle.wasi_steps.specs.declared.step.Step.TheVariants as step
@@ -216,6 +217,7 @@ Receives (step.Call ctx (guest.UdpReceive incoming most)) = ⊤
 Receives (step.Call ctx (guest.Ready pollable)) = ⊤
 Receives (step.Call ctx (guest.Block pollable)) = ⊤
 Receives (step.Call ctx (guest.PollList pollables)) = ⊤
+Receives (step.Call ctx (guest.P3UdpReceive socket)) = ⊤
 Receives _ = ⊥
 
 -- the datagram streams of the UDP socket of this handle are made
@@ -230,9 +232,10 @@ IsItem (suc n) d [] = ⊥
 IsItem (suc zero) d (x ∷ ds) = x ≡ d
 IsItem (suc (suc n)) d (x ∷ ds) = IsItem (suc n) d ds
 
--- a send of datagrams, of which this is the one of this part
+-- a send of datagrams, of which this is the one of this part; that of 0.3 sends one, as the line's own operation
 abbrev pub IsSendOf : ℕ → OutgoingDatagram → Step → Type 0
 IsSendOf part d (step.Call ctx (guest.UdpSend outgoing ds)) = IsItem part d ds
+IsSendOf part d (step.Call ctx (guest.P3UdpSend socket x)) = (part ≡ 0) × (x ≡ d)
 IsSendOf part d _ = ⊥
 
 -- It is the datagram of the operation's part in its step, with these bytes, and goes to this address.
@@ -463,17 +466,63 @@ pub record HandsOut (log : List Entry) (handle : ℕ) (fields : List Field) : Ty
   pub upto : ℕ
   pub order : InOrder log side 0 datagrams upto
 
-abbrev pub MayReply : List Entry → Step → Reply → Type 0
-MayReply log (step.Call ctx (guest.UdpReceive handle most)) (Reply.Ok fields) = HandsOut log handle fields
-MayReply log _ reply = ⊤
+-- a receive of 0.3
+abbrev pub IsReceive : Step → Type 0
+IsReceive (step.Call ctx (guest.P3UdpReceive socket)) = ⊤
+IsReceive _ = ⊥
+
+-- none of these lines is this one
+abbrev pub IsNone : ℕ → List ℕ → Type 0
+IsNone line [] = ⊤
+IsNone line (n ∷ ns) = (line ≡ n → ⊥) × IsNone line ns
+
+-- What the receive of 0.3 of this line hands out: the last `recv` of the line's own operation reported it, on a network socket that
+-- the step of that line reaches, and after it came a yes for its sender. No reply before handed out a datagram of that line.
+pub record HandsOne (steps : List Step) (log : List Entry) (served : List ℕ) (line : ℕ) (fields : List Field) : Type 0 where
+  pub began : BeganBy steps (own_of line) IsReceive
+  pub side : OpId
+  pub reached : ReachesSide steps log (own_of line) side
+  pub bytes : List ℕ
+  pub peer : IpSocketAddress
+  pub front : List Entry
+  pub back : List Entry
+  pub cut : log ≡ front ++ entry (own_of line) (Recv side) (Datagram bytes peer) ∷ back
+  pub last : (told : Told) → Has back (entry (own_of line) (Recv side) told) → ⊥
+  pub yes : HasYes log back (own_of line) side peer use_of.UdpReceive
+  pub values : fields ≡ received_values (record { bytes = bytes; remote_address = peer })
+  pub once : IsNone line served
+
+-- a reply to a call that receives hands one datagram out; the call is that of a line that is there
+abbrev pub HandsAs : List Step → List Entry → List ℕ → ℕ → Option Step → List Field → Type 0
+HandsAs steps log served line (Some (step.Call ctx (guest.P3UdpReceive socket))) fields = HandsOne steps log served line fields
+HandsAs steps log served line (Some s) fields = ⊤
+HandsAs steps log served line None fields = ⊥
+
+-- a poll is replied to as the call that it polls
+abbrev pub MayReply : List Step → List Entry → List ℕ → ℕ → Step → Reply → Type 0
+MayReply steps log served line (step.Call ctx (guest.UdpReceive handle most)) (Reply.Ok fields) = HandsOut log handle fields
+MayReply steps log served line (step.Call ctx (guest.P3UdpReceive socket)) (Reply.Ok fields) = HandsOne steps log served line fields
+MayReply steps log served line (step.Poll n) (Reply.Ok fields) = HandsAs steps log served n (step_at steps n) fields
+MayReply steps log served line _ reply = ⊤
+
+-- the lines that handed a datagram out, with this one where its reply does
+abbrev pub served_by : ℕ → Option Step → List ℕ → List ℕ
+served_by line (Some (step.Call ctx (guest.P3UdpReceive socket))) served = line ∷ served
+served_by line _ served = served
+
+abbrev pub serves : List Step → ℕ → Step → Reply → List ℕ → List ℕ
+serves steps line (step.Poll n) (Reply.Ok fields) served = served_by n (step_at steps n) served
+serves steps line s (Reply.Ok fields) served = served_by line (Some s) served
+serves steps line s _ served = served
 
 -- each reply is to the step of its line, and is one that it may have
-abbrev pub EachMayReply : List Entry → List Step → List Reply → Type 0
-EachMayReply log steps [] = ⊤
-EachMayReply log [] (reply ∷ replies) = ⊥
-EachMayReply log (s ∷ steps) (reply ∷ replies) = MayReply log s reply × EachMayReply log steps replies
+abbrev pub EachMayReply : List Step → List Entry → List ℕ → ℕ → List Step → List Reply → Type 0
+EachMayReply steps log served line more [] = ⊤
+EachMayReply steps log served line [] (reply ∷ replies) = ⊥
+EachMayReply steps log served line (s ∷ more) (reply ∷ replies) =
+    MayReply steps log served line s reply × EachMayReply steps log (serves steps line s reply served) (line + 1) more replies
 
 -- Each entry may come after those before it, and each reply is to the step of its line, and hands out only what was allowed.
 pub record IsLicensed (contexts : List WasiSocketsCtx) (steps : List Step) (log : List Entry) (replies : List Reply) : Type 0 where
   pub each : (before : List Entry) (e : Entry) (after : List Entry) → log ≡ before ++ e ∷ after → MayAsk contexts steps before e.op e.call
-  pub replied : EachMayReply log steps replies
+  pub replied : EachMayReply steps log [] 1 steps replies

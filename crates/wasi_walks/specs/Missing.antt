@@ -20,7 +20,7 @@ use Rattle.wasi_host.specs.Machine.{listen3_at, lookup_number, receive3_at, send
 use Rattle.wasi_records.specs.Records.{tcp2_at, udp2_at, open_at, input_pipe_at, output_pipe_at}
 use Rattle.wasi_host.specs.Standing.{call_of, stands_as}
 use Rattle.wasi_host.specs.declared.beside.BesideCall.{BesideCall}
-use Rattle.wasi_host.specs.declared.beside.BesideCall.TheVariants.{Connect, Resolve}
+use Rattle.wasi_host.specs.declared.beside.BesideCall.TheVariants.{Connect, Resolve, Send, Receive}
 use Rattle.wasi_host.specs.Beside.{beside_of}
 use Rattle.wasi_host.specs.StreamCalls.{plain_input_at, plain_output_at}
 use Rattle.wasi_p3.specs.Lines as p3
@@ -112,6 +112,8 @@ IsOnNothing m (standing.Blocking call) = MissesStream m call
 abbrev pub IsOfNoSocket : Machine → BesideCall → Type 0
 IsOfNoSocket m (Connect place) = tcp2_at m.store.records place ≡ None
 IsOfNoSocket m (Resolve host) = ⊥
+IsOfNoSocket m (Send place op) = open_at m.store.records place ≡ None
+IsOfNoSocket m (Receive place op) = open_at m.store.records place ≡ None
 
 abbrev pub BesideNothing : Machine → ℕ → Type 0
 BesideNothing m n = (stands_as m.store.standing n ≡ false) × IsSomeAnd (beside_of m.store n) (λ b. IsOfNoSocket m b.call)

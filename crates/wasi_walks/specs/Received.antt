@@ -1,4 +1,5 @@
--- In which order the replies of a run hand out what was received on a network socket: in that of the log, and each datagram once.
+-- In which order the receives on streams of a run hand out what was received on a network socket: in that of the log, and each
+-- datagram once.
 use Rattle.std.specs.Prelude.{◌≡◌, ℕ, ◌≤◌, ◌⊎◌, List, [], ◌∷◌, ◌++◌, length}
 use Rattle.wasi_world.specs.declared.datagram.IncomingDatagram.{IncomingDatagram}
 use Rattle.wasi_world.specs.declared.ids.OpId.{OpId}

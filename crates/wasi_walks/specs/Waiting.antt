@@ -1,5 +1,5 @@
 -- What waits: what a pollable watches and isn't ready, and a pending call.
-use Rattle.std.specs.Prelude.{◌≡◌, ◌⊎◌, ⊤, ℕ, true, false, List, [], ◌∷◌, ◌++◌, Option, Some, None, IsSome, IsSomeAnd, IfSome}
+use Rattle.std.specs.Prelude.{◌≡◌, ◌⊎◌, ⊤, ℕ, Bool, true, false, List, [], ◌∷◌, ◌++◌, Option, Some, None, IsSome, IsSomeAnd, IfSome}
 use Rattle.wasi_addr.specs.Address.{wildcard}
 use Rattle.wasi_addr.specs.declared.address.IpSocketAddress.{IpSocketAddress}
 use Rattle.wasi_addr.specs.declared.address.SocketAddressFamily.{SocketAddressFamily}
@@ -52,7 +52,8 @@ use Rattle.wasi_host.specs.Kinds.{kind_at, watch_of, place_in}
 use Rattle.wasi_records.specs.Datagrams.{sends}
 use Rattle.wasi_host.specs.Machine.{output_at, outgoing_at, watched_side}
 use Rattle.wasi_records.specs.InProgress.{is_nothing, is_connect}
-use Rattle.wasi_host.specs.Beside.{unbeside}
+use Rattle.wasi_host.specs.Beside.{beside_of, unbeside}
+use Rattle.wasi_host.specs.SocketDatagrams.{is_datagram_in}
 use Rattle.wasi_host.specs.Standing.{call_of, unstood}
 use Rattle.wasi_host.specs.declared.store.Standing.{Standing}
 use Rattle.wasi_steps.specs.declared.reply.CodeWord.{CodeWord}
@@ -131,8 +132,8 @@ abbrev pub IsPoll : Step → Type 0
 IsPoll (step.Poll n) = ⊤
 IsPoll _ = ⊥
 
--- the step may be pending under this number: a bind or a listen, or the start of one, a connect or a lookup of 0.3, a create of a UDP
--- socket, that of its streams, the drop of an output or of an outgoing datagram stream, and a call that blocks, of a stream or for
+-- the step may be pending under this number: a bind or a listen, or the start of one, a connect, a lookup or a datagram of 0.3, a create
+-- of a UDP socket, that of its streams, the drop of an output or of an outgoing datagram stream, and a call that blocks, of a stream or for
 -- pollables, under their line's, and a poll under the one that it polls
 abbrev pub MayStand : Machine → ℕ → Step → ℕ → Type 0
 MayStand m line (step.Call ctx (guest.TcpStartBind socket network a)) n = n ≡ line
@@ -144,6 +145,8 @@ MayStand m line (step.Call ctx (guest.P3TcpListen socket)) n = n ≡ line
 MayStand m line (step.Call ctx (guest.P3UdpCreate family)) n = n ≡ line
 MayStand m line (step.Call ctx (guest.P3UdpBind socket a)) n = n ≡ line
 MayStand m line (step.Call ctx (guest.P3UdpConnect socket a)) n = n ≡ line
+MayStand m line (step.Call ctx (guest.P3UdpSend socket d)) n = n ≡ line
+MayStand m line (step.Call ctx (guest.P3UdpReceive socket)) n = n ≡ line
 MayStand m line (step.Call ctx (guest.P3Resolve name)) n = n ≡ line
 MayStand m line (step.Call ctx (guest.UdpStartBind socket network a)) n = n ≡ line
 MayStand m line (step.Call ctx (guest.UdpStream socket remote)) n = n ≡ line
@@ -368,11 +371,16 @@ nothing_stands m = record m { store = unstood m.store }
 abbrev pub call_over : Machine → ℕ → Machine
 call_over m n = record m { store = unbeside m.store n }
 
+-- where its socket isn't there, a connect is over, and a datagram stays
+abbrev pub left_beside : Machine → ℕ → Bool → Machine
+left_beside m n true = m
+left_beside m n false = call_over m n
+
 abbrev pub left_by : Machine → ℕ → Option Standing → Machine
 left_by m n (Some s) = nothing_stands m
-left_by m n None = call_over m n
+left_by m n None = left_beside m n (is_datagram_in (beside_of m.store n))
 
--- a trap for lack of a handle leaves the machine, but the call that a poll is of is over
+-- a trap for lack of a handle leaves the machine, but the call that a poll is of is over, unless that is a datagram
 abbrev pub left_missing : Machine → Step → Machine
 left_missing m (step.Poll n) = left_by m n (call_of m.store.standing n)
 left_missing m _ = m

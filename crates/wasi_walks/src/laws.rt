@@ -66,8 +66,8 @@ pub fn sides_have_one_maker()
         → (ctx ≡ other) × (family ≡ its) }
 {}
 
-/// The replies of a run hand out the datagrams of a network socket in the order in which they were
-/// received, and none twice.
+/// The receives on streams in a run hand out the datagrams of a network socket in the order in which
+/// they were received, and none twice.
 ///
 /// - Each has its own place in the log, where it was received, after the handle of its stream was
 ///   logged.

@@ -1,6 +1,6 @@
 -- The base law: numbers and network sockets are claimed once, and are of older lines. A network socket is claimed by the record
 -- that was made with it, and the name of an accept by the record of its listener.
-use Rattle.wasi_walks.proofs.walks.Moves.{AddsSlot, OfReceive, OfSend, TakesEnd}
+use Rattle.wasi_walks.proofs.walks.Moves.{AddsSlot, DropsUdp, OfReceive, OfSend, TakesEnd}
 use Rattle.wasi_records.specs.Slots.{slot_pushed}
 use Rattle.wasi_walks.proofs.PipeLists.{slot_push_same}
 use Rattle.wasi_walks.proofs.Words.{Bool, Machine, Accepting, Accepts, Allows, Asks, Begins, Done, End, Entry, Err, ErrorCode}
@@ -11,7 +11,7 @@ use Rattle.wasi_walks.proofs.Words.{connect_ended, gone, inl, inr, new_record}
 use Rattle.wasi_walks.proofs.Words.{own_of, poll_asks, refl, side_in, side_of, subst, sym, told_addr}
 use Rattle.wasi_walks.proofs.Words.{with_inner, with_listening, with_progress, with_state, with_writer, ℕ, ⊤, ◌+◌, ◌∙◌, ◌≡◌, ◌⊎◌}
 use Rattle.wasi_walks.proofs.walks.Layers.{begins_stand, layer, over, restate, stand}
-use Rattle.wasi_walks.proofs.walks.OfState.{Becomes, Learnt, IsClosed, GivenUp, UdpLearnt, UdpIsClosed, UdpGivenUp, UdpBegun, Resolved, Created, CreatedWith, Writing, OfState, creating, of_state}
+use Rattle.wasi_walks.proofs.walks.OfState.{Becomes, Learnt, IsClosed, GivenUp, UdpLearnt, UdpIsClosed, UdpGivenUp, UdpBegun, Resolved, DatagramBegan, Created, CreatedWith, Writing, OfState, creating, of_state}
 use Rattle.wasi_walks.proofs.walks.Here.{Grows, IsOlder, IsToCome, grows_to, next_given, next_grows, next_to_come, not_given, older_unused, older_used, own_not_given}
 use Rattle.wasi_walks.proofs.licence.State.{name_in, accept_name}
 use Rattle.wasi_walks.proofs.fits.Polls.{Anything}
@@ -23,6 +23,8 @@ use Rattle.wasi_walks.proofs.walks.Moves.{closed_record, Own, Used, Unused, Here
 use Rattle.wasi_walks.proofs.walks.Law.{BeginsWrites, InCall, Law, Rests, Walks}
 use Rattle.wasi_walks.proofs.Words.{new_socket}
 use Rattle.wasi_walks.proofs.fits.Law.{Fit, begins_fit, told_same, whatever, fits}
+use Rattle.wasi_walks.proofs.fits.Datagrams.{Datagrams}
+use Rattle.wasi_walks.proofs.fits.DatagramLaw.{datagrams, datagrams_begin}
 use Rattle.wasi_walks.proofs.fits.UdpPolls.{create_side}
 use Rattle.wasi_walks.proofs.fits.UdpFits.{connected_side, reconnected_side}
 use Rattle.wasi_tcp.specs.Accept as accept
@@ -358,6 +360,7 @@ module _ (contexts : List WasiSocketsCtx) (line : ℕ) (origin : Step) where
   moves_named _ _ (TakesEnd h handle place r _ of g (OfSend c e free)) n = put_inner h place r _ g refl refl (λ x p. ap side_in e ∙ p) n
   moves_named _ _ (AddsSlot h s) n = let k = records_named line h (slot_pushed h.machine.store.records s) (slot_push_same {new = λ op. ⊥} h.machine.store.records s) n in record { one = k.one; apart = k.apart; older = k.older; named = k.named; held = k.held; udps = record { one = k.udps.one; apart = k.udps.apart; older = k.udps.older } }
   moves_named _ _ (Finds h records s) n = records_named line h records s n
+  moves_named _ _ (DropsUdp h place o idle made g) n = let k = put_udp_named line h place (UdpRecord.Open o) (UdpRecord.Open _) g refl n in record { one = k.one; apart = k.apart; older = k.older; named = k.named; held = k.held; udps = record { one = k.udps.one; apart = k.udps.apart; older = k.udps.older } }
   moves_named _ _ (GivesBack h place idle left) n = fewer_named line h place n
   moves_named _ _ _ n = record { one = n.one; apart = n.apart; older = n.older; named = n.named; held = n.held; udps = record { one = n.udps.one; apart = n.udps.apart; older = n.udps.older } }
 
@@ -374,9 +377,9 @@ module _ (contexts : List WasiSocketsCtx) (line : ℕ) (origin : Step) where
   abbrev pub Pair : Here → Type 0
   Pair h = Fit h × Named line h
 
-  -- and what is live of each record
+  -- and what is live of each record, and of datagrams in progress
   abbrev pub Base : Here → Type 0
-  Base h = Fit h × Named line h × Owns h
+  Base h = Fit h × Named line h × Owns h × Datagrams h
 
   pub names_polled : (es : List Entry) (h : Here) (op : Operation) (after : End × List Item → Here) → Held h op after → Pair h → Allows Anything (λ fs ended. Named line (after ended)) es (poll_asks op)
   names_polled es h _ _ (BindsOn place r op q g e) n = whatever (λ ended. Named line (put h place (with_progress r (bind_progress op ended)))) (λ ended. put_inner h place r _ g refl refl (λ x p. p) n.1) es _
@@ -435,6 +438,7 @@ module _ (contexts : List WasiSocketsCtx) (line : ℕ) (origin : Step) where
       put_udp_named line h place (UdpRecord.Creating create) (UdpRecord.Closed create.operation.who.side) g refl n
   becomes_named h _ (UdpBegun face ctx family r c u m) n = begun_named h ctx.name family r u n
   becomes_named h _ (Resolved host records l s) n = records_named line h records s n
+  becomes_named h _ (DatagramBegan place o call op polled ended at g starts made own left) n = let k = spends_named h n in record { one = k.one; apart = k.apart; older = k.older; named = k.named; held = k.held; udps = record { one = k.udps.one; apart = k.udps.apart; older = k.udps.older } }
   becomes_named h _ (Created face ctx family c u m) n = created_named h ctx family u n
   becomes_named h _ (CreatedWith face ctx family c u m) n = let j = created_named h ctx family u n in record { one = j.one; apart = j.apart; older = j.older; named = j.named; held = j.held; udps = record { one = j.udps.one; apart = j.udps.apart; older = j.udps.older } }
   becomes_named h _ (Writing _ (InCall place k r s half permit bytes at g e w within used)) n =
@@ -445,21 +449,35 @@ module _ (contexts : List WasiSocketsCtx) (line : ℕ) (origin : Step) where
   abbrev pub named_state : OfState contexts line origin (λ es h. ⊤ × Fit h)
   named_state = record { Holds = Named line; moves = λ es h now m b i. moves_named h now m i; becomes = λ es h now k b i. becomes_named h now k i; polls = λ es h op after k b i. names_polled es h op after k (b.1, i); turns = λ es h place r s g e b n. whatever (λ done. Named line (put h place (with_writer r s done.1))) (λ done. put_inner h place r _ g refl refl (λ x p. p) n) es _ }
 
-  -- the three
-  unfoldable three : Law contexts line origin
-  unfolding fits owners
-  three =
-      layer (fits contexts line origin) (layer (of_state named_state)
-      (over (λ es h b. tt) (owners contexts line origin)))
+  -- the four
+  unfoldable four : Law contexts line origin
+  unfolding fits owners datagrams
+  four =
+      layer (owners contexts line origin) (layer (over (λ es h b. b.1) (datagrams contexts line origin))
+      (layer (over (λ es h b. (b.0.1, b.1)) (fits contexts line origin)) (over (λ es h b. (tt, b.1)) (of_state named_state))))
 
   pub names : Law contexts line origin
-  unfolding three fits owners
-  names = restate (λ es h. Base h) three (λ es h k. (k.0, k.1.0, k.1.1)) (λ es h k. (k.0, (k.1, k.2)))
+  unfolding four fits owners datagrams
+  names = restate (λ es h. Base h) four (λ es h k. (k.1.1.0, k.1.1.1, k.0, k.1.0)) (λ es h k. (k.2, (k.3, (k.0, k.1))))
 
   -- a write that begins in a call of streams
   pub begins_named : BeginsWrites names
-  unfolding names fits owners
-  begins_named = record { begins = λ es h now w b i. ((begins_fit contexts line origin).begins es h now w tt i.0, becomes_named h now (Writing now w) i.1, (owners_begin contexts line origin).begins es h now w tt i.2) }
+  unfolding names fits owners datagrams
+  begins_named = record { begins = λ es h now w b i. ((begins_fit contexts line origin).begins es h now w (i.2, i.3) i.0, becomes_named h now (Writing now w) i.1, (owners_begin contexts line origin).begins es h now w tt i.2, (datagrams_begin contexts line origin).begins es h now w i.2 i.3) }
+
+  -- of the records alone
+  unfoldable pub fitting : Law contexts line origin
+  unfolding fits owners datagrams
+  fitting = layer (owners contexts line origin) (layer (over (λ es h b. b.1) (datagrams contexts line origin)) (over (λ es h b. (b.0.1, b.1)) (fits contexts line origin)))
+
+  pub begins_fitting : BeginsWrites fitting
+  unfolding fitting fits owners datagrams
+  begins_fitting = record { begins = λ es h now w b i. ((owners_begin contexts line origin).begins es h now w tt i.0, ((datagrams_begin contexts line origin).begins es h now w i.0 i.1.0, (begins_fit contexts line origin).begins es h now w (i.0, i.1.0) i.1.1)) }
+
+  -- what it says of a tree
+  pub fits_along : {A : Type 0} {h : Here} {end : A → Here} {asks : Asks A} → Walks fitting h end asks → (es : List Entry) → Owns h × (Datagrams h × Fit h) → Allows Anything (λ fs a. Owns (end a) × (Datagrams (end a) × Fit (end a))) es asks
+  unfolding fitting fits owners datagrams
+  fits_along w es i = w.along es i
 
   -- the laws that rest on it
   pub on_names : Rests contexts line origin (λ es h. Base h) → Law contexts line origin

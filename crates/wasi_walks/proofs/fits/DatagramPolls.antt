@@ -1,19 +1,20 @@
 -- What is left of a datagram, of a receive and of a connect of a UDP socket after a poll.
-use Rattle.std.specs.Prelude.{Bool, true, false, not, ◌&&◌, if◌then◌else◌, ℕ, suc, List, [], ◌∷◌, ⊤, Option, Result, Ok, Err}
-use Rattle.wasi_walks.proofs.Words.{AccessDenied, Asks, Check, End, Entry, ErrorCode, Front, Given, IpSocketAddress, Item, LastAsk, Nothing, NothingLast}
-use Rattle.wasi_walks.proofs.Words.{Operation, Polled, Verdict, Waits, Who, allows_if, bind, front, last_ask, poll_asks, told_addr, told_done}
+use Rattle.std.specs.Prelude.{Bool, true, false, not, ◌&&◌, if◌then◌else◌, ℕ, zero, suc, refl, List, [], ◌∷◌, ⊤, ◌≡◌, Option, Result, Ok, Err}
+use Rattle.wasi_walks.proofs.Words.{AccessDenied, Asks, Check, Done, End, Entry, ErrorCode, Front, Given, IpSocketAddress, Item, LastAsk, Nothing, NothingLast}
+use Rattle.wasi_walks.proofs.Words.{Operation, Polled, Refused, Verdict, Waits, Who, allows_if, bind, front, last_ask, poll_asks, told_addr, told_done}
 use Rattle.wasi_walks.proofs.Words.{told_polled, told_verdict, wildcard}
 use Rattle.wasi_addr.specs.declared.address.SocketAddressFamily.{SocketAddressFamily}
 use Rattle.wasi_addr.specs.declared.address.SocketAddrUse.TheVariants.{UdpBind, UdpReceive, UdpSend}
 use Rattle.wasi_addr.specs.declared.code.ErrorCode.TheVariants.{InvalidState}
-use Rattle.wasi_world.specs.Operation.{Again, Datagram, Goes, Receive, Send, UdpConnect, after, check_peer_front, is_now, is_wanted, peer_front, polls, receive_front, received_front, remote_told, round, send_front, verdict_front}
+use Rattle.wasi_world.specs.Operation.{Again, Datagram, Ends, Goes, Stays, Receive, Send, UdpConnect, after, check_peer_front, is_now, is_wanted, peer_front, polls, receive_front, received_front, remote_told, round, send_front, verdict_front}
 use Rattle.wasi_world.specs.Typed.{told_datagram}
+use Rattle.socket_common.specs.Rounds.{some_left}
 use Rattle.wasi_udp.specs.Receive.{IsLeftOfReceive, wanted_in}
 use Rattle.wasi_udp.specs.Receive as receive
 use Rattle.wasi_udp.specs.Send.{IsLeftOfSend}
 use Rattle.wasi_udp.specs.Send as send
 use Rattle.wasi_walks.specs.Waiting.{IsLeftOfUdpConnect, ConnectUnbound, ConnectUnchecked, ConnectSendChecked}
-use Rattle.wasi_walks.proofs.Gives.{Gives}
+use Rattle.wasi_walks.proofs.Gives.{Gives, gives_more, gives_then}
 use Rattle.wasi_walks.proofs.fits.Polls.{Anything, Keeps, by_polled, checks, kept, lasts}
 
 -- == a datagram
@@ -156,3 +157,65 @@ connect_polls n who items its es = connect_round who (polls n who) es items its
 -- a connect that waits is one whose checks aren't both answered
 pub udp_connect_leaves : (op : Operation) → IsLeftOfUdpConnect op.left → (es : List Entry) → Gives (λ fs end. LeavesConnect end) es (poll_asks op)
 udp_connect_leaves op its es = connect_polls 63 op.who op.left its es
+
+-- == of one that is pending something is left
+module _ (who : Who) (C : List Item → Type 0) (over : C []) where
+  abbrev Pends : End × List Item → Type 0
+  Pends (Waits, items) = C items × (some_left items ≡ true)
+  Pends _ = ⊤
+
+  -- one that ended with a code is pending no more
+  refused_so : (es : List Entry) (last : LastAsk) (c : ErrorCode) (given : Given) → Gives (λ fs end. Pends end) es (last_ask who last c given)
+  unfolding bind
+  refused_so es NothingLast c given = tt
+  refused_so es _ c given = (tt, λ t fits. tt)
+
+  module _ (fronts : (es : List Entry) (given : Given) (item : Item) (items : List Item) → C (item ∷ items) → Gives (λ fs f. Keeps who C over items fs f) es (front who item)) where
+    pends_after : (again : List Item → Asks (End × List Item)) (items : List Item) (next : Given → Asks (End × List Item)) → ((es : List Entry) (item : Item) (items : List Item) → C (item ∷ items) → Gives (λ fs end. Pends end) es (again (item ∷ items)))
+        → ((es : List Entry) (given : Given) → C items → Gives (λ fs end. Pends end) es (next given)) → (es : List Entry) (f : Front) → Keeps who C over items es f → Gives (λ fs end. Pends end) es (after again who items next f)
+    pends_after again items next a n es (Goes given) k = n es given k
+    pends_after again items next a n es (Stays item) k = (k, refl)
+    pends_after again items next a n es (Again item) k = a es item items k
+    pends_after again items next a n es (Ends c given) k = refused_so es who.last c given
+
+    pends_round : (again : List Item → Asks (End × List Item)) → ((es : List Entry) (item : Item) (items : List Item) → C (item ∷ items) → Gives (λ fs end. Pends end) es (again (item ∷ items)))
+        → (items : List Item) (es : List Entry) (given : Given) → C items → Gives (λ fs end. Pends end) es (round again who given items)
+    pends_round again a [] es given k = tt
+    pends_round again a (item ∷ items) es given k =
+        gives_then (λ fs f. Keeps who C over items fs f) (λ fs end. Pends end) es (front who item) (after again who items (λ g. round again who g items)) (fronts es given item items k)
+        (λ fs f l. pends_after again items (λ g. round again who g items) a (λ gs g. pends_round again a items gs g) fs f l)
+
+    pends_again : (n : ℕ) (es : List Entry) (item : Item) (items : List Item) → C (item ∷ items) → Gives (λ fs end. Pends end) es (polls n who (item ∷ items))
+    unfolding polls
+    pends_again zero es item items k = (k, refl)
+    pends_again (suc n) es item items k = pends_round (polls n who) (pends_again n) (item ∷ items) es Nothing k
+
+    pub pends : (n : ℕ) (items : List Item) → C items → (es : List Entry) → Gives (λ fs end. Pends end) es (polls (suc n) who items)
+    unfolding polls
+    pends n items k es = pends_round (polls n who) (pends_again n) items es Nothing k
+
+-- a datagram, and a receive
+abbrev pub LeavesSend : End × List Item → Type 0
+LeavesSend (Waits, items) = IsLeftOfSend items × (some_left items ≡ true)
+LeavesSend _ = ⊤
+
+abbrev pub LeavesReceive : End × List Item → Type 0
+LeavesReceive (Waits, items) = IsLeftOfReceive items × (some_left items ≡ true)
+LeavesReceive _ = ⊤
+
+pub send_leaves : (op : Operation) → IsLeftOfSend op.left → (es : List Entry) → Gives (λ fs end. LeavesSend end) es (poll_asks op)
+send_leaves op its es = gives_more (λ fs end. Pends op.who IsLeftOfSend send.Ended end) (λ fs end. LeavesSend end) (λ fs end k. so end k) es (poll_asks op) (pends op.who IsLeftOfSend send.Ended (send_fronts op.who) 63 op.left its es)
+  where
+    so : (end : End × List Item) → Pends op.who IsLeftOfSend send.Ended end → LeavesSend end
+    so (Waits, items) k = k
+    so (Done given, items) k = tt
+    so (Refused c given, items) k = tt
+
+pub receive_leaves : (op : Operation) → IsLeftOfReceive op.left → (es : List Entry) → Gives (λ fs end. LeavesReceive end) es (poll_asks op)
+receive_leaves op its es =
+    gives_more (λ fs end. Pends op.who IsLeftOfReceive receive.Ended end) (λ fs end. LeavesReceive end) (λ fs end k. so end k) es (poll_asks op) (pends op.who IsLeftOfReceive receive.Ended (receive_fronts op.who) 63 op.left its es)
+  where
+    so : (end : End × List Item) → Pends op.who IsLeftOfReceive receive.Ended end → LeavesReceive end
+    so (Waits, items) k = k
+    so (Done given, items) k = tt
+    so (Refused c given, items) k = tt

@@ -11,19 +11,23 @@ use Rattle.wasi_walks.proofs.Words.{after_local, allows_weaker, ap, bind_progres
 use Rattle.wasi_walks.proofs.Words.{false, if◌then◌else◌, inl, inr}
 use Rattle.wasi_walks.proofs.Words.{is_nothing, is_wildcard, new_job, new_record, own_of, poll_asks, refl}
 use Rattle.wasi_walks.proofs.Words.{standing_as, subst, sym, told_addr, true, wildcard, with_inner}
-use Rattle.wasi_walks.proofs.Words.{with_progress, with_state, with_writer, ℕ, ⊤, ◌+◌, ◌∙◌, ◌≡◌, ◌⊎◌}
+use Rattle.wasi_walks.proofs.Words.{with_progress, with_state, with_writer, ℕ, ◌+◌, ◌∙◌, ◌≡◌, ◌⊎◌}
 use Rattle.wasi_world.specs.declared.ids.Ids.{Ids}
 use Rattle.wasi_tcp.specs.Listen.{IsListen, listen_left as left_of_listen}
 use Rattle.wasi_walks.proofs.walks.Moves.{Names, Own, NoStart, NoStartIn, NoStartStands, IsSettled, KeepsBinding, HasBinding, HasListen, GoesOn, begun_bind, closed_record, Held, BindsOn, Connects, Used, Here, put, Move, Changes, ClosesReader, Writes, IsGone, Reconnects, Opens, BeginsConnect, BeginsBind, BeginsWrite, Stands, StandsBlocking, CancelsBind, CancelsUdpBind, CancelsUdpConnect, BeginsListen, BeginsAccept, Unlistens, Forgets, Joins, JoinsFault, JoinsPlain, Made, StandsListen, faulted, joined_plain, joins_as, Unstands, Listens, Awaits, listen_after, accepting_now, beginning_listen, new_accept, joined, Found}
 use Rattle.wasi_walks.proofs.fits.Records.{FitListening, FitProgress, FitRecord, FitCall, FitUdp, FitUdpProgress, FitConnecting, UdpBindOn, UdpConnectOn, SendOn, ReceiveOn}
+use Rattle.wasi_walks.proofs.fits.Datagrams.{Datagrams}
+use Rattle.wasi_walks.proofs.fits.ClosedCalls.{closed_call, fewer_call}
+use Rattle.wasi_walks.proofs.owners.Records.{Owns}
 use Rattle.wasi_walks.proofs.fits.Polls.{Anything, bind_left, udp_bind_left, connect_left, listen_left, accept_left, AcceptLeaves}
-use Rattle.wasi_walks.proofs.walks.Law.{BeginsWrites, InCall, Law, Walks}
+use Rattle.wasi_walks.proofs.walks.Law.{BeginsWrites, InCall, Rests}
 use Rattle.wasi_walks.proofs.walks.OfState.{Becomes, Learnt, IsClosed, GivenUp, UdpLearnt, UdpIsClosed, UdpGivenUp, UdpBegun, Resolved, Created, CreatedWith, Writing, OfState, begins_state, creating, of_state}
 use Rattle.wasi_walks.proofs.Words.{new_socket}
 use Rattle.wasi_tcp.specs.Accept as accept
 use Rattle.wasi_tcp.specs.Listen as listen
 use Rattle.wasi_walks.specs.Waiting as binding
 use Rattle.wasi_records.specs.Records.{tcp2_at, tcp2_of, tcp2_put, tcp2_pushed, udp2_at, udp2_of, udp2_put, udp2_pushed}
+use Rattle.wasi_host.specs.SocketDatagrams.{is_udp_held}
 use Rattle.wasi_walks.proofs.GoneLists.{was_there}
 use Rattle.wasi_records.specs.declared.name_lookup.LookupOp.{LookupOp}
 use Rattle.wasi_records.specs.declared.udp.OpenUdp.{OpenUdp}
@@ -31,7 +35,7 @@ use Rattle.wasi_records.specs.declared.udp.UdpRecord.{UdpRecord}
 use Rattle.wasi_records.specs.declared.udp.UdpInProgress.{UdpInProgress}
 use Rattle.wasi_records.specs.Datagrams.{udp_connect_left, udp_reconnect_left, with_sending}
 use Rattle.wasi_records.specs.Receiving.{receive_left, with_receiving}
-use Rattle.wasi_records.specs.Udp.{udp_bind_progress, udp_create_left, with_udp_inner, with_udp_progress}
+use Rattle.wasi_records.specs.Udp.{udp_bind_progress, udp_create_left, with_udp_inner, with_udp_progress, without_udp_socket}
 use Rattle.wasi_udp.specs.Bind as udp
 use Rattle.wasi_udp.specs.Receive.{IsLeftOfReceive, receive_start, wanting}
 use Rattle.wasi_udp.specs.Send.{IsLeftOfSend, at_remote, send_start}
@@ -41,7 +45,7 @@ use Rattle.wasi_walks.proofs.fits.UdpPolls.{LeavesCreate, create_left, create_fi
 use Rattle.wasi_walks.proofs.fits.DatagramPolls.{LeavesConnect, datagram_left, received_left, udp_connect_leaves, wanted_left}
 use Rattle.wasi_walks.proofs.fits.TcpFits.{first_of, ended_fits, listened_fits, bound_fits, accepted_fits, joined_fits}
 use Rattle.wasi_walks.proofs.fits.UdpFits.{KeepsOpen, same_udp, same_open, no_open, stays_open, plain_open, plain_fits, inner_fits, bound_udp, connected_udp, reconnected_udp, begun_connect, begun_send, sends_on, sent_udp, begun_receive, receives_on, received_udp}
-use Rattle.wasi_walks.proofs.walks.Moves.{ToConnect, with_records, SameSockets, Finds, put_udp, FoundUdp, udp_begun, begun_udp_bind, begun_udp_connect, sending_now, receiving_now, part_of, UdpChanges, BeginsUdpBind, StandsUdpBind, StandsUdpCreate, BeginsUdpConnect, StandsConnect, StandsUdpConnect, StandsDropOutgoing, BeginsSend, BeginsReceive, UdpCreates, UdpBindsOn, UdpConnectsOn, UdpReconnectsOn, SendsOn, ReceivesOn, GivesBack, without_record}
+use Rattle.wasi_walks.proofs.walks.Moves.{ToConnect, with_records, SameSockets, Finds, put_udp, FoundUdp, udp_begun, begun_udp_bind, begun_udp_connect, sending_now, receiving_now, part_of, UdpChanges, BeginsUdpBind, StandsUdpBind, StandsUdpCreate, BeginsUdpConnect, StandsConnect, StandsUdpConnect, StandsDropOutgoing, BeginsSend, BeginsReceive, UdpCreates, UdpBindsOn, UdpConnectsOn, UdpReconnectsOn, SendsOn, ReceivesOn, GivesBack, without_record, GoesBack, WhenIdle, WhenClosed, WithHandle, Unheld, DropsUdp}
 use Rattle.wasi_records.specs.declared.records.Record.{Record}
 use Rattle.wasi_walks.proofs.Places.{push_found, push_new, push_still, push_was, put_found, put_stays, put_still, put_was, tcp_sort, udp_sort}
 
@@ -117,13 +121,17 @@ records_fit h records s i = record {
   stands = λ c e. call_kept h.machine.store.records records (λ k r e. s.tcp k ∙ e) (λ k u e. s.udp k ∙ e) c.call (i.stands c e);
 }
 
--- one is given back, and nothing is pending
-fewer_fit : (h : Here) (place : ℕ) → h.machine.store.standing ≡ None → Fit h → Fit (without_record h place)
+-- one is given back, of which nothing is pending
+fewer_fit : (h : Here) (place : ℕ) → GoesBack h place → Fit h → Fit (without_record h place)
 fewer_fit h place idle i = record {
   records = λ k r e. i.records k r (was_there tcp2_of refl h.machine.store.records place k r e);
   udps = λ k u e. i.udps k u (was_there udp2_of refl h.machine.store.records place k u e);
-  stands = λ c e. absurd (let none : None ≡ Some c = sym idle ∙ e in cc);
+  stands = by_reason idle;
 }
+  where
+    by_reason : GoesBack h place → (c : Standing) → h.machine.store.standing ≡ Some c → FitCall (without_record h place).machine.store.records c.call
+    by_reason (WhenIdle none) c e = absurd (let q : None ≡ Some c = sym none ∙ e in cc)
+    by_reason (WhenClosed side g) c e = fewer_call h.machine.store.records place side g c.call (i.stands c e)
 
 call_stands : (records : List Record) (call : StandingCall) (r : TcpRecord) → tcp2_at records (call_place call) ≡ Some r → GoesOn call r → FitCall records call
 call_stands records (StandingCall.Bind n face) r g k = record { was = r; at = g; goes = k }
@@ -186,6 +194,14 @@ module _ (h : Here) (place : ℕ) (u now : UdpRecord) (g : FoundUdp h place u) (
     udps = λ n x e. elim (put_found udp_sort h.machine.store.records place now n x e) [ inl p ↦ subst FitUdp p.1 f | inr p ↦ i.udps n x p ];
     stands = λ c e. udp_call_put c e c.call refl (i.stands c e);
   }
+
+-- a UDP socket is closed that nothing holds
+unheld_fit : (h : Here) (place : ℕ) (o : OpenUdp) → FoundUdp h place (UdpRecord.Open o) → is_udp_held h.machine.store place ≡ false → Datagrams h → Fit h → Fit (put_udp h place (UdpRecord.Closed o.inner.side))
+unheld_fit h place o g free d i = record {
+  records = λ n r e. i.records n r (put_was udp_sort tcp_sort (λ t. refl) h.machine.store.records place (UdpRecord.Closed o.inner.side) n r e);
+  udps = λ n x e. elim (put_found udp_sort h.machine.store.records place (UdpRecord.Closed o.inner.side) n x e) [ inl p ↦ subst FitUdp p.1 tt | inr p ↦ i.udps n x p ];
+  stands = λ c e. closed_call h place o g free c.call (d.stands c e) (i.stands c e);
+}
 
 -- one joins the records
 udp_call_push : (records : List Record) (now : UdpRecord) (call : StandingCall) → FitCall records call → FitCall (udp2_pushed records now) call
@@ -319,7 +335,7 @@ module _ (contexts : List WasiSocketsCtx) (line : ℕ) (origin : Step) where
       let now : OpenUdp = with_udp_progress o (UdpInProgress.Binding (begun_udp_bind (own_of line) o a)) in
       begun_udp_fit h place o now Used g (record { was = o; is = now; from = refl; to = refl; binds = λ op e. (begun_udp_bind (own_of line) o a, refl); connects = λ op e. (op, e) }) (record { bind = record { last = refl; left = udp.Unchecked a }; of_side = refl }, f.1, f.2, f.3) i
   moves_fit _ _ (StandsUdpBind h ids place face o op quiet at g e) i = stood_fit h ids (StandingCall.UdpBind place face) (record { was = o; at = g; op = op; goes = e }) i
-  moves_fit _ _ (StandsUdpCreate h ids place face create quiet m g) i = stood_fit h ids (StandingCall.UdpCreate place face) (record { was = create; at = g }) i
+  moves_fit _ _ (StandsUdpCreate h ids place face create quiet m g by) i = stood_fit h ids (StandingCall.UdpCreate place face) (record { was = create; at = g }) i
   moves_fit _ _ (BeginsUdpConnect h place o a bound at g to known none own) i =
       let f = i.udps place (UdpRecord.Open o) g in
       let op = begun_udp_connect (own_of line) o a bound in
@@ -344,6 +360,7 @@ module _ (contexts : List WasiSocketsCtx) (line : ℕ) (origin : Step) where
   moves_fit _ _ (TakesEnd h handle place r _ of g (OfSend c e free)) i = let f = i.records place r g in put_fit h place r _ g (inr (λ b. b, λ l. l)) (tt, f.1, not_binding r.in_progress e (λ side d. absurd (cc)) f.2 _) i
   moves_fit _ _ (AddsSlot h s) i = let k = records_fit h (slot_pushed h.machine.store.records s) (slot_push_same {new = λ op. ⊥} h.machine.store.records s) i in record { records = k.records; udps = k.udps; stands = k.stands }
   moves_fit _ _ (Finds h records s) i = records_fit h records s i
+  moves_fit _ _ (DropsUdp h place o idle m g) i = let k = put_udp_fit h place (UdpRecord.Open o) (UdpRecord.Open (without_udp_socket o)) g (inl (subst NoStartStands (sym idle) tt)) (i.udps place (UdpRecord.Open o) g) i in record { records = k.records; udps = k.udps; stands = k.stands }
   moves_fit _ _ (GivesBack h place idle left) i = fewer_fit h place idle i
   moves_fit _ _ _ i = record { records = i.records; udps = i.udps; stands = i.stands }
 
@@ -385,7 +402,7 @@ module _ (contexts : List WasiSocketsCtx) (line : ℕ) (origin : Step) where
   polls_fit es h _ _ (UdpConnectsOn place o op q g e) i =
       let f = i.udps place (UdpRecord.Open o) g in
       let its : UdpConnectOn o.inner.side op = subst (FitConnecting o.inner.side) e f.1 in
-      allows_weaker Anything (λ fs end. LeavesConnect end) (λ fs end. Fit (put_udp h place (UdpRecord.Open (udp_connect_left op o end)))) (λ fs end k. put_udp_fit h place (UdpRecord.Open o) _ g (inl q) (connected_udp o op end its k f) i) es (poll_asks op) (udp_connect_leaves op its.connect.left es)
+      allows_weaker Anything (λ fs end. LeavesConnect end) (λ fs end. Fit (put_udp h place (UdpRecord.Open (udp_connect_left op o end)))) (λ fs end k. put_udp_fit h place (UdpRecord.Open o) _ g (inl q.0) (connected_udp o op end its k f) i) es (poll_asks op) (udp_connect_leaves op its.connect.left es)
   polls_fit es h _ _ (UdpReconnectsOn place o op q g e) i =
       let f = i.udps place (UdpRecord.Open o) g in
       let its : UdpConnectOn o.inner.side op = subst (FitConnecting o.inner.side) e f.1 in
@@ -407,38 +424,34 @@ module _ (contexts : List WasiSocketsCtx) (line : ℕ) (origin : Step) where
   pub udp_inner_fit : (h : Here) (place : ℕ) (o : OpenUdp) (socket : UdpSocket) → FoundUdp h place (UdpRecord.Open o) → socket.side ≡ o.inner.side → Fit h → Fit (put_udp h place (UdpRecord.Open (with_udp_inner o socket)))
   udp_inner_fit h place o socket g e i = put_udp_fit h place (UdpRecord.Open o) _ g (inr (stays_open o (with_udp_inner o socket) refl refl)) (inner_fits o socket e (i.udps place (UdpRecord.Open o) g)) i
 
-  pub becomes_fit : (h now : Here) → Becomes contexts line origin h now → Fit h → Fit now
-  becomes_fit h _ (Learnt place r side told at g e) i =
+  pub becomes_fit : (h now : Here) → Becomes contexts line origin h now → Datagrams h → Fit h → Fit now
+  becomes_fit h _ (Learnt place r side told at g e) d i =
       let f = i.records place r g in
       put_fit h place r _ g (inr (λ b. b, λ l. l)) (subst HoldsConnect (sym (told_same r.inner (told_addr told))) f.0, f.1, same_progress r.in_progress (told_same r.inner (told_addr told)) f.2) i
-  becomes_fit h _ (IsClosed place r side q g e) i = put_fit h place r (closed_record r) g (inl q.0) (tt, tt, tt) i
-  becomes_fit h _ (GivenUp place r q goes g) i =
+  becomes_fit h _ (IsClosed place r side q g e) d i = put_fit h place r (closed_record r) g (inl q.0) (tt, tt, tt) i
+  becomes_fit h _ (GivenUp place r q goes g) d i =
       let f = i.records place r g in put_fit h place r _ g (inl q) (f.0, tt, f.2) i
-  becomes_fit h _ (UdpLearnt place o socket g e) i = udp_inner_fit h place o socket g e i
-  becomes_fit h _ (UdpIsClosed place o q g) i = put_udp_fit h place (UdpRecord.Open o) (UdpRecord.Closed o.inner.side) g (inl q.0) tt i
-  becomes_fit h _ (UdpGivenUp place create q g) i =
+  becomes_fit h _ (UdpLearnt place o socket g e) d i = udp_inner_fit h place o socket g e i
+  becomes_fit h _ (UdpIsClosed place o (WithHandle idle m) g) d i = put_udp_fit h place (UdpRecord.Open o) (UdpRecord.Closed o.inner.side) g (inl (subst NoStartStands (sym idle) tt)) tt i
+  becomes_fit h _ (UdpIsClosed place o (Unheld free) g) d i = unheld_fit h place o g free d i
+  becomes_fit h _ (UdpGivenUp place create q g) d i =
       put_udp_fit h place (UdpRecord.Creating create) (UdpRecord.Closed create.operation.who.side) g (inl q) tt i
-  becomes_fit h _ (UdpBegun face ctx family r c u m) i = begun_fits h (own_of line) ctx.name family r i
-  becomes_fit h _ (Resolved host records l s) i = records_fit h records s i
-  becomes_fit h _ (Created face ctx family c u m) i = created_fit h (own_of line) ctx family i
-  becomes_fit h _ (CreatedWith face ctx family c u m) i =
+  becomes_fit h _ (UdpBegun face ctx family r c u m) d i = begun_fits h (own_of line) ctx.name family r i
+  becomes_fit h _ (Resolved host records l s) d i = records_fit h records s i
+  becomes_fit h _ (Created face ctx family c u m) d i = created_fit h (own_of line) ctx family i
+  becomes_fit h _ (CreatedWith face ctx family c u m) d i =
       let j = created_fit h (own_of line) ctx family i in
       record { records = j.records; udps = j.udps; stands = j.stands }
-  becomes_fit h _ (Writing _ (InCall place n r s half permit bytes at g e w within used)) i =
+  becomes_fit h _ (Writing _ (InCall place n r s half permit bytes at g e w within used)) d i =
       write_fit h place r s _ Used g i
-  becomes_fit h _ _ i = record { records = i.records; udps = i.udps; stands = i.stands }
+  becomes_fit h _ _ d i = record { records = i.records; udps = i.udps; stands = i.stands }
 
-  abbrev pub fit_state : OfState contexts line origin (λ es h. ⊤)
-  fit_state = record { Holds = Fit; moves = λ es h now m b i. moves_fit h now m i; becomes = λ es h now k b i. becomes_fit h now k i; polls = λ es h op after k b i. polls_fit es h op after k i; turns = λ es h place r s g e b i. whatever (λ done. Fit (put h place (with_writer r s done.1))) (λ done. put_fit h place r _ g (inr (λ b. b, λ l. l)) (i.records place r g) i) es _ }
+  abbrev pub fit_state : OfState contexts line origin (λ es h. Owns h × Datagrams h)
+  fit_state = record { Holds = Fit; moves = λ es h now m b i. moves_fit h now m i; becomes = λ es h now k b i. becomes_fit h now k b.1 i; polls = λ es h op after k b i. polls_fit es h op after k i; turns = λ es h place r s g e b i. whatever (λ done. Fit (put h place (with_writer r s done.1))) (λ done. put_fit h place r _ g (inr (λ b. b, λ l. l)) (i.records place r g) i) es _ }
 
-  unfoldable pub fits : Law contexts line origin
+  unfoldable pub fits : Rests contexts line origin (λ es h. Owns h × Datagrams h)
   fits = of_state fit_state
 
   pub begins_fit : BeginsWrites fits
   unfolding fits
   begins_fit = begins_state fit_state
-
-  -- what it says of a tree
-  pub fits_along : {A : Type 0} {h : Here} {end : A → Here} {asks : Asks A} → Walks fits h end asks → (es : List Entry) → Fit h → Allows Anything (λ fs a. Fit (end a)) es asks
-  unfolding fits
-  fits_along w es i = w.along es i

@@ -47,7 +47,7 @@ fault_seam xs now p q e d = let at : length xs ≡ p = cc in same_record now q (
 pub same_face : (a b : Interface) (n p : ℕ) → Joined a n ≡ Joined b p → a ≡ b
 same_face a b n p e = cc
 
-abbrev SamePair : ℕ → ℕ → ℕ → ℕ → Type 0
+abbrev pub SamePair : ℕ → ℕ → ℕ → ℕ → Type 0
 SamePair a b c d = let x : Option (ℕ × ℕ) = Some (a, b) in let y : Option (ℕ × ℕ) = Some (c, d) in x ≡ y
 
 pair_of : (x y : ℕ × ℕ) → Some x ≡ Some y → x ≡ y

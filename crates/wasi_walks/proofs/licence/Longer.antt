@@ -5,11 +5,7 @@ use Rattle.wasi_walks.proofs.Words.{WasiSocketsCtx, [], ap, append-nil, append_a
 use Rattle.wasi_walks.proofs.Words.{zero, ℕ, ⊤, ◌++◌, ◌∙◌, ◌∷◌, ◌≡◌}
 use Rattle.wasi_walks.proofs.Lists.{get_front}
 use Rattle.wasi_walks.specs.Licence.{EachMayReply, MakesTcp}
-use Rattle.wasi_records.specs.Names.{own_of}
-use Rattle.wasi_host.specs.declared.beside.Beside.{Beside}
-use Rattle.wasi_host.specs.declared.beside.BesideCall.{BesideCall}
-use Rattle.wasi_host.specs.declared.beside.BesideCall.TheVariants.{Connect, Resolve}
-use Rattle.wasi_walks.proofs.licence.Besides.{BesidesAreFine, CallIsFine}
+use Rattle.wasi_walks.proofs.licence.Besides.{BesidesAreFine, besides_more}
 use Rattle.wasi_walks.proofs.licence.Replies.{replies_fewer, replies_longer}
 use Rattle.wasi_walks.proofs.licence.State.{WorksOn, RecordIsFine, UdpIsFine, StandingIsFine, StateIsFine}
 use Rattle.wasi_walks.proofs.licence.ListenAsks.{Allowed, BindAllowed, BothAllowed, BoundNow, Over, Untold, Whole, WholeUnbound, ListenLeft, IsFree, ListenIsFine}
@@ -21,7 +17,7 @@ module _ (steps more : List Step) where
   step_more zero s h = absurd (cc)
   step_more (suc n) s h = get_front steps more n s h
 
-  on : Goes steps (steps ++ more)
+  pub on : Goes steps (steps ++ more)
   on = record { at = step_more }
 
   -- == the calls
@@ -51,14 +47,6 @@ module _ (steps more : List Step) where
   may_more contexts before op _ h = reach_more before op _ h
 
   -- == the state
-  call_more : (contexts : List WasiSocketsCtx) (line : ℕ) (call : BesideCall) → CallIsFine contexts steps line call → CallIsFine contexts (steps ++ more) line call
-  call_more contexts line (Connect place) h = tt
-  call_more contexts line (Resolve host) h = began_more on (own_of line) _ h
-
-  besides_more : (contexts : List WasiSocketsCtx) (beside : List Beside) → BesidesAreFine contexts steps beside → BesidesAreFine contexts (steps ++ more) beside
-  besides_more contexts [] h = tt
-  besides_more contexts (b ∷ bs) h = (call_more contexts b.line b.call h.0, besides_more contexts bs h.1)
-
   pub state_more : (contexts : List WasiSocketsCtx) (es : List Entry) (m : Machine) → StateIsFine contexts steps es m → StateIsFine contexts (steps ++ more) es m
   state_more contexts es m h = record {
     count = h.count;
@@ -66,7 +54,7 @@ module _ (steps more : List Step) where
     records = λ place r e. subst (λ (fs : List Entry). RecordIsFine (steps ++ more) fs r) (append-nil es) (record_more on es [] r (h.records place r e));
     udp = λ place u e. subst (λ (fs : List Entry). UdpIsFine (steps ++ more) fs u) (append-nil es) (udp_more on es [] u (h.udp place u e));
     lookups = λ place op e. began_more on op.id _ (h.lookups place op e);
-    besides = besides_more contexts m.store.beside h.besides;
+    besides = subst (λ (fs : List Entry). BesidesAreFine contexts (steps ++ more) fs m.store.beside) (append-nil es) (besides_more contexts on es [] m.store.beside h.besides);
     standing = λ s e. subst (λ (fs : List Entry). StandingIsFine (steps ++ more) fs m.store.records s) (append-nil es) (standing_more on es [] m.store.records s (h.standing s e));
     accepts = h.accepts;
     one = h.one;
@@ -111,7 +99,7 @@ module _ (contexts : List WasiSocketsCtx) (steps : List Step) where
   pub licensed : (log : List Entry) → EachMayCome [] log → IsLicensed contexts steps log []
   licensed log h = record { each = λ before e after cut. may_at [] before e after (subst (EachMayCome []) cut h); replied = tt }
 
-  pub with_replies : (log : List Entry) (replies : List Reply) → EachMayReply log steps replies → IsLicensed contexts steps log [] → IsLicensed contexts steps log replies
+  pub with_replies : (log : List Entry) (replies : List Reply) → EachMayReply steps log [] 1 steps replies → IsLicensed contexts steps log [] → IsLicensed contexts steps log replies
   with_replies log replies may h = record { each = h.each; replied = may }
 
   -- one more that may come
@@ -137,11 +125,11 @@ module _ (contexts : List WasiSocketsCtx) (steps : List Step) where
 
   -- with the first of the replies
   pub fewer_replies : (log : List Entry) (replies more : List Reply) → IsLicensed contexts steps log (replies ++ more) → IsLicensed contexts steps log replies
-  fewer_replies log replies more h = record { each = h.each; replied = replies_fewer log steps replies more h.replied }
+  fewer_replies log replies more h = record { each = h.each; replied = replies_fewer steps log [] 1 steps replies more h.replied }
 
   -- by a longer script
   pub longer_script : (more : List Step) (log : List Entry) (replies : List Reply) → IsLicensed contexts steps log replies → IsLicensed contexts (steps ++ more) log replies
   longer_script more log replies h = record {
     each = λ before e after cut. may_more steps more contexts before e.op e.call (h.each before e after cut);
-    replied = replies_longer log steps more replies h.replied;
+    replied = replies_longer log steps more replies (on steps more) h.replied;
   }

@@ -60,11 +60,11 @@ module _ (contexts : List WasiSocketsCtx) (steps : List Step) (line : ℕ) (orig
         λ told.
             let fs = es ++ entry (own_of line) (Call.Lookup host) told ∷ [] in
             let j = asked_lookup es h (own_of line) host told i in
-            elsewhere fs h _ refl refl refl j (state_beside contexts steps fs h.machine _ (besides_begun contexts steps h.machine.store.beside (beside_as line (Resolve host)) (told_names told) may j.fine.besides) j.fine) j.names j.udp_names,
+            elsewhere fs h _ refl refl refl j (state_beside contexts steps fs h.machine _ (besides_begun contexts steps fs h.machine.store.beside (beside_as line (Resolve host)) (told_names told) may j.fine.besides) j.fine) j.names j.udp_names,
       )
 
   -- and it is asked about again
   pub looked_on_beside : (es : List Entry) (h : Here) (n : ℕ) (b : Beside) (host : List ℕ) → beside_of h.machine.store n ≡ Some b → b.call ≡ Resolve host → Licensed contexts steps line origin es h
       → MayAskSo contexts steps es (own_of n) (Call.Lookup host) × ((told : Told) → Licensed contexts steps line origin (es ++ entry (own_of n) (Call.Lookup host) told ∷ []) h)
   looked_on_beside es h n b host g e i =
-      (subst (CallIsFine contexts steps n) e (beside_fine contexts steps h.machine.store.beside n b g i.fine.besides), λ told. asked_lookup es h (own_of n) host told i)
+      (subst (CallIsFine contexts steps es n) e (beside_fine contexts steps es h.machine.store.beside n b g i.fine.besides), λ told. asked_lookup es h (own_of n) host told i)

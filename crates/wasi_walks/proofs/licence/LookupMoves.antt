@@ -1,21 +1,27 @@
 -- Where lookups change, the sockets among the records are the same, and the state still fits the log.
 use Rattle.wasi_walks.proofs.walks.Here.{end_place}
-use Rattle.wasi_walks.proofs.Words.{Entry, HandleTable, Kind, List, Machine, None, Option, Some, Step, TcpRecord, WasiSocketsCtx, ap, kind_at, refl, sym, ℕ, ◌∙◌, ◌≡◌}
+use Rattle.wasi_walks.proofs.Words.{Entry, HandleTable, Kind, List, Machine, None, OpId, Option, Some, Standing, StandingCall, Step, TcpRecord, WasiSocketsCtx, ap, call_place, kind_at, refl, sym, ℕ, ◌∙◌, ◌≡◌}
+use Rattle.std.specs.Prelude.{IsSome, is_some}
 use Rattle.wasi_walks.proofs.GoneLists.{stays_there, was_there}
 use Rattle.wasi_walks.proofs.owners.Owned.{NoneOf, Owned, named_by, none_named, tcp_names, udp_names}
 use Rattle.wasi_host.specs.GivingBack.{given_back}
 use Rattle.wasi_records.specs.Numbered.{record_gone}
-use Rattle.wasi_records.specs.Records.{lookup_of, tcp2_at, tcp2_of, udp2_of}
+use Rattle.wasi_records.specs.Records.{lookup_of, tcp2_at, tcp2_of, udp2_at, udp2_of}
+use Rattle.wasi_records.specs.declared.udp.UdpRecord.{UdpRecord}
+use Rattle.wasi_walks.proofs.fits.Datagrams.{CallHeld, Datagrams}
+use Rattle.wasi_walks.proofs.fits.Law.{Fit}
+use Rattle.wasi_walks.proofs.fits.Records.{FitCall}
 use Rattle.wasi_records.specs.declared.name_lookup.Lookup.{Lookup}
-use Rattle.wasi_walks.proofs.walks.Moves.{Found, Here, SameSockets, record_of, udp_record_of, with_records, without_record}
+use Rattle.wasi_walks.proofs.walks.Moves.{Found, GoesBack, Here, IsOfHandle, WhenClosed, WhenIdle, SameSockets, record_of, udp_record_of, with_records, without_record}
 use Rattle.wasi_walks.proofs.licence.Lookups.{LookupIsFine, lookups_same}
-use Rattle.wasi_walks.proofs.licence.State.{NamesEndIf, HandleIsFine, NamesIf, NamesUdpIf, StateIsFine}
+use Rattle.wasi_walks.proofs.licence.State.{CreateStands, LineNames, NamesEndIf, HandleIsFine, NamesIf, NamesUdpIf, OfTcp, OfUdp, StandingIsFine, StateIsFine}
 use Rattle.wasi_walks.proofs.licence.UdpFrames.{KeepsSides, handle_kept, standing_kept}
 use Rattle.wasi_walks.proofs.licence.Line.{Licensed}
 use Rattle.wasi_records.specs.declared.name_lookup.LookupOp.{LookupOp}
 use Rattle.wasi_records.specs.declared.records.Record.{Record}
 use Rattle.wasi_records.specs.declared.records.Record.TheVariants.{Gone}
 use Rattle.wasi_walks.proofs.Places.{there_put}
+use Rattle.wasi_walks.proofs.licence.UdpMoves.{not_both}
 
 -- each socket is still there
 sides_same : {new : LookupOp → Type 0} (old now : List Record) → SameSockets new old now → KeepsSides old now
@@ -81,9 +87,61 @@ module _ (es : List Entry) (t : HandleTable) (old : List Record) (place : ℕ) (
   handle_left : HandleIsFine es old handle kind → HandleIsFine es (record_gone old place) handle kind
   handle_left h = (tcp_left (record_of (Some kind)) refl h.0, udp_left (udp_record_of (Some kind)) refl h.1, h.2, h.3, end_left (end_place kind) h.4)
 
+-- == the pending call is of another record
+-- it is of the record at this place
+abbrev pub StandsAt : StandingCall → ℕ → Type 0
+StandsAt (StandingCall.Blocking call) place = ⊥
+StandsAt call place = call_place call ≡ place
+
+-- none is
+abbrev pub NoneStandsAt : Option Standing → ℕ → Type 0
+NoneStandsAt standing place = (c : Standing) → standing ≡ Some c → StandsAt c.call place → ⊥
+
+stands_at : (call : StandingCall) (place : ℕ) → IsOfHandle call → call_place call ≡ place → StandsAt call place
+stands_at (StandingCall.Blocking call) place o e = absurd o
+stands_at (StandingCall.UdpCreate p face) place o e = absurd o
+stands_at _ place o e = e
+
+-- nothing is pending, or the record is closed, as that of no pending call is
+closed_stands : (steps : List Step) (records : List Record) (place : ℕ) (side : OpId) (call : StandingCall) → udp2_at records place ≡ Some (UdpRecord.Closed side) → FitCall records call → CallHeld records call → CreateStands steps records call → StandsAt call place → ⊥
+closed_stands steps records place side (StandingCall.Bind p face) g f k c e = not_both records place f.was (UdpRecord.Closed side) (ap (tcp2_at records) (sym e) ∙ f.at) g
+closed_stands steps records place side (StandingCall.Listen p marks) g f k c e = not_both records place f.was (UdpRecord.Closed side) (ap (tcp2_at records) (sym e) ∙ f.at) g
+closed_stands steps records place side (StandingCall.DropOutput p) g f k c e = by_record (tcp2_at records p) refl c
+  where
+    by_record : (o : Option TcpRecord) → tcp2_at records p ≡ o → IsSome o → ⊥
+    by_record None q some = absurd (cc)
+    by_record (Some r) q some = not_both records place r (UdpRecord.Closed side) (ap (tcp2_at records) (sym e) ∙ q) g
+closed_stands steps records place side (StandingCall.UdpCreate p face) g f k c e = absurd (let q = sym (ap (udp2_at records) e ∙ g) ∙ f.at in cc)
+closed_stands steps records place side (StandingCall.UdpBind p face) g f k c e = absurd (let q = sym (ap (udp2_at records) e ∙ g) ∙ f.at in cc)
+closed_stands steps records place side (StandingCall.UdpConnect p handle) g f k c e = absurd (let q = sym (ap (udp2_at records) e ∙ g) ∙ f.at in cc)
+closed_stands steps records place side (StandingCall.UdpConnect3 p) g f k c e = absurd (let q = sym (ap (udp2_at records) e ∙ g) ∙ f.at in cc)
+closed_stands steps records place side (StandingCall.DropOutgoing p) g f k c e = absurd (let q = sym (ap (udp2_at records) e ∙ g) ∙ k.at in cc)
+closed_stands steps records place side (StandingCall.Blocking call) g f k c e = e
+
+pub another_stands : {contexts : List WasiSocketsCtx} {steps : List Step} {line : ℕ} {origin : Step} {es : List Entry} (h : Here) (place : ℕ) → GoesBack h place → Fit h → Datagrams h → Licensed contexts steps line origin es h → NoneStandsAt h.machine.store.standing place
+another_stands h place (WhenIdle idle) f d i c e at = absurd (let never : None ≡ Some c = sym idle ∙ e in cc)
+another_stands {steps = steps} h place (WhenClosed side g) f d i c e at = closed_stands steps h.machine.store.records place side c.call g (f.stands c e) (d.stands c e) (i.fine.standing c e).2 at
+
+module _ (es : List Entry) (steps : List Step) (old : List Record) (place : ℕ) where
+  line_left : (line p : ℕ) → (p ≡ place → ⊥) → LineNames steps es old line p → LineNames steps es (record_gone old place) line p
+  line_left line p other (OfTcp r e n) = OfTcp r (stays_there tcp2_of old place p r other e) n
+  line_left line p other (OfUdp u e n) = OfUdp u (stays_there udp2_of old place p u other e) n
+
+  create_left : (call : StandingCall) → (StandsAt call place → ⊥) → CreateStands steps old call → CreateStands steps (record_gone old place) call
+  create_left (StandingCall.UdpCreate p face) other h = record { found = h.found; at = stays_there udp2_of old place p h.found other h.at; made = h.made }
+  create_left (StandingCall.DropOutput p) other h = tcp_still (tcp2_at old p) refl h
+    where
+      tcp_still : (o : Option TcpRecord) → tcp2_at old p ≡ o → IsSome o → IsSome (tcp2_at (record_gone old place) p)
+      tcp_still None e some = absurd (cc)
+      tcp_still (Some r) e some = ap (λ (o : Option TcpRecord). is_some o) (stays_there tcp2_of old place p r other e)
+  create_left _ other h = tt
+
+  standing_left : (c : Standing) → (StandsAt c.call place → ⊥) → StandingIsFine steps es old c → StandingIsFine steps es (record_gone old place) c
+  standing_left c other h = (λ o. line_left c.ids.line (call_place c.call) (λ e. other (stands_at c.call place o e)) (h.0 o), h.1, create_left c.call other h.2)
+
 module _ {contexts : List WasiSocketsCtx} {steps : List Step} where
-  -- nothing is pending
-  state_fewer : (es : List Entry) (m : Machine) (place : ℕ) → m.store.standing ≡ None → NoneOf m.table place → Owned m.table m.store.records → StateIsFine contexts steps es m → StateIsFine contexts steps es (record m { store = given_back place m.store })
+  -- nothing of it is pending
+  state_fewer : (es : List Entry) (m : Machine) (place : ℕ) → NoneStandsAt m.store.standing place → NoneOf m.table place → Owned m.table m.store.records → StateIsFine contexts steps es m → StateIsFine contexts steps es (record m { store = given_back place m.store })
   state_fewer es m place idle none live h =
       let tcp : (k : ℕ) (r : TcpRecord) → tcp2_at (record_gone m.store.records place) k ≡ Some r → tcp2_at m.store.records k ≡ Some r = was_there tcp2_of refl m.store.records place in
       record {
@@ -93,12 +151,12 @@ module _ {contexts : List WasiSocketsCtx} {steps : List Step} where
         udp = λ k u e. h.udp k u (was_there udp2_of refl m.store.records place k u e);
         lookups = λ k op e. h.lookups k op (was_there lookup_of refl m.store.records place k (Lookup.InProgress op) e);
         besides = h.besides;
-        standing = λ c e. absurd (let never : None ≡ Some c = sym idle ∙ e in cc);
+        standing = λ c e. standing_left es steps m.store.records place c (idle c e) (h.standing c e);
         accepts = λ k r e. h.accepts k r (tcp k r e);
         one = λ i j r q x a b. h.one i j r q x (tcp i r a) (tcp j q b);
       }
 
-  pub fewer_fine : {line : ℕ} {origin : Step} (es : List Entry) (h : Here) (place : ℕ) → h.machine.store.standing ≡ None → NoneOf h.machine.table place → Owned h.machine.table h.machine.store.records → Licensed contexts steps line origin es h → Licensed contexts steps line origin es (without_record h place)
+  pub fewer_fine : {line : ℕ} {origin : Step} (es : List Entry) (h : Here) (place : ℕ) → NoneStandsAt h.machine.store.standing place → NoneOf h.machine.table place → Owned h.machine.table h.machine.store.records → Licensed contexts steps line origin es h → Licensed contexts steps line origin es (without_record h place)
   fewer_fine es h place idle none live i =
       let tcp : (k : ℕ) (r : TcpRecord) → Found (without_record h place) k r → Found h k r = was_there tcp2_of refl h.machine.store.records place in
       record {

@@ -1,11 +1,11 @@
 -- Each move keeps that the state fits the log.
 use Rattle.wasi_walks.proofs.licence.Ends.{adds_slot, reaches_end}
 use Rattle.wasi_records.specs.Ends.{ends_of}
-use Rattle.wasi_walks.proofs.walks.Moves.{AddsSlot, OfReceive, OfSend, ReachesEnd, TakesEnd, TakesHalf, with_receive, with_send}
+use Rattle.wasi_walks.proofs.walks.Moves.{AddsSlot, DropsUdp, put_udp, OfReceive, OfSend, ReachesEnd, TakesEnd, TakesHalf, with_receive, with_send}
 use Rattle.wasi_walks.proofs.walks.Moves.{Frees, Freed, IsUnheld, Joined, JoinsFault, JoinsPlain, P2, P3, RecallsListen, RemembersListen, StandsListen, ToListen, Unmade, faulted, joined_plain, joins_as, record_of, FoundUdp, Awaited, AwaitsCreate, Begun, CreateIsFor, Interface, MakesUdpFor, Recalled, Emptied, Empties, GivesBack, Numbers}
 use Rattle.wasi_walks.proofs.owners.Law.{left_none}
 use Rattle.wasi_walks.proofs.Words.{listen_first, listen_operation, IsBoundSide, kind_at, Accepting, Accepts, Bool, Connection, Done, End, Entry, Handed, InProgress, IpSocketAddress, IsMaker}
-use Rattle.wasi_walks.proofs.Words.{BeganBy, Job, List, Listener, MarksNoSocket, MayGoOut, None, Not, OpId, ReadState, Refused, Socket}
+use Rattle.wasi_walks.proofs.Words.{BeganBy, Job, List, Listener, MarksNoSocket, MayGoOut, None, Not, OpId, Operation, ReadState, Refused, Socket}
 use Rattle.wasi_walks.proofs.Words.{SocketAddressFamily, Some, StandingCall, Step, Streams, TcpSendStream, TcpRecord, TcpState, Waits, WasiSocketsCtx, WriteState}
 use Rattle.wasi_walks.proofs.Words.{accepted_socket, ap, call_place, closed_by, connect_first, connect_operation, false, gone, inl, inr}
 use Rattle.wasi_walks.proofs.Words.{new_job, new_streams, own_of, refl, side_in, side_of, standing_as, step_at, subst}
@@ -15,20 +15,20 @@ use Rattle.wasi_walks.proofs.licence.Wilds.{Wilds}
 use Rattle.wasi_walks.proofs.licence.ListenAsks.{IsFree, ListenLeft, Whole as WholeListen, WholeUnbound}
 use Rattle.wasi_walks.proofs.claims.Law.{Base, same_begun, fresh_to_come}
 use Rattle.wasi_walks.proofs.walks.Moves.{EndsConnect, Own, Past, ToConnect, ToStream, Used, CallsHandles, RecallsCall, ReachesHandle, StandsBlocking, CancelsBind, CancelsUdpBind, CancelsUdpConnect, GoesOn, RemembersStreams, RecallsConnect, RecallsStreams, BeginsUdpConnect, StandsConnect, StandsUdpConnect, StandsDropOutgoing, Counts, SpendsNames, BeginsSend, BeginsReceive, closed_record, Here, put, Found, WriterMoves, Collects, LastsAfter, Closes, Plain, Move, Reaches, ReachesUdp, Leaves, Spends, Changes, ClosesReader, Writes, IsGone, opened_by, Reconnects, Opens, BeginsConnect, BeginsBind, BeginsWrite, begun_bind, Stands, Resumes, Unstands, StandsBeside, EndsBeside, UdpChanges, BeginsUdpBind, StandsUdpBind, StandsUdpCreate, Finds, Lists, Takes, BeginsListen, BeginsAccept, Unlistens, Forgets, Watches, Joins, accepting_now, begun_listen, beginning_listen, new_accept, joined, part_of}
-use Rattle.std.specs.Prelude.{Option, length, ◌+◌}
+use Rattle.std.specs.Prelude.{Option, is_some, length, ◌+◌}
 use Rattle.wasi_walks.proofs.walks.Here.{IsToCome, next_shrinks, next_to_come, shrinks_to}
-use Rattle.wasi_walks.proofs.licence.State.{accept_name, ConnectIsFine, ConnectLeft, Unbound, Unchecked, ReadsOn, Whole, ToWrite, Names, BindIsFine, EndTold, ErrorTold, JobIsFine, WritesOn, StreamsAreFine, AcceptingIsFine, ListeningIsFine, SocketIsFine, RecordIsFine, IsHanded, Unarrived, AcceptingStands, ListeningStands, ListenerIsFine, MakesStreams, OfTcp, OfUdp, StreamsStand, CreateStands, name_in}
+use Rattle.wasi_walks.proofs.licence.State.{IsConnectStep, OpenIsFine, accept_name, ConnectIsFine, ConnectLeft, Unbound, Unchecked, ReadsOn, Whole, ToWrite, Names, BindIsFine, EndTold, ErrorTold, JobIsFine, WritesOn, StreamsAreFine, AcceptingIsFine, ListeningIsFine, SocketIsFine, RecordIsFine, IsHanded, Unarrived, AcceptingStands, ListeningStands, ListenerIsFine, MakesStreams, OfTcp, OfUdp, StreamsStand, CreateStands, name_in}
 use Rattle.wasi_walks.proofs.licence.Frames.{same_listening, listening_kept, listening_gone, Only, KeepsSide, record_kept}
-use Rattle.wasi_walks.proofs.licence.States.{state_taken, state_put, state_stands, state_unstands, state_beside, state_jobs, state_renewed, state_joined}
+use Rattle.wasi_walks.proofs.licence.States.{state_put_udp, state_taken, state_put, state_stands, state_unstands, state_beside, state_jobs, state_renewed, state_joined}
 use Rattle.wasi_walks.proofs.licence.WriteJobs.{shut_after}
-use Rattle.wasi_walks.proofs.licence.Line.{some_same, AcceptsFor, IsAccept, fault_seam, same_face, put_with, keeps_plain, seam, no_listen, part_names, ListenGoesOn, NotMarked, NamesMade, Licensed, MakingStands, KeepsListen, put_fine, owned, remade, spent, elsewhere}
-use Rattle.wasi_walks.proofs.licence.LookupMoves.{fewer_fine, records_fine}
+use Rattle.wasi_walks.proofs.licence.Line.{put_udp_fine, some_same, AcceptsFor, IsAccept, fault_seam, same_face, put_with, keeps_plain, seam, no_listen, part_names, ListenGoesOn, NotMarked, NamesMade, Licensed, MakingStands, KeepsListen, put_fine, owned, remade, spent, elsewhere}
+use Rattle.wasi_walks.proofs.licence.LookupMoves.{another_stands, fewer_fine, records_fine}
 use Rattle.wasi_walks.proofs.licence.UdpMoves.{begins_receive, begins_send, begins_udp_connect, recalls_streams, remembers_streams, reaches_udp, resumes, udp_changes, begins_udp_bind, cancels_udp_bind, cancels_udp_connect}
 use Rattle.wasi_walks.proofs.licence.StreamMoves.{calls_handles, is_side, reaches, reaches_handle, recalls_call, stands_blocking}
-use Rattle.wasi_records.specs.Records.{tcp2_put}
+use Rattle.wasi_records.specs.Records.{tcp2_at, tcp2_put}
 use Rattle.wasi_records.specs.declared.records.Record.{Record}
 use Rattle.wasi_records.specs.declared.udp.UdpRecord.{UdpRecord}
-use Rattle.wasi_records.specs.Udp.{udp_side}
+use Rattle.wasi_records.specs.Udp.{udp_side, without_udp_socket}
 use Rattle.wasi_udp.specs.Create.{Create}
 use Rattle.wasi_addr.specs.declared.code.ErrorCode.{ErrorCode}
 use Rattle.wasi_tcp.specs.Writer.{error_of_code}
@@ -179,13 +179,20 @@ module _ (contexts : List WasiSocketsCtx) (steps : List Step) (line : ℕ) (orig
       let same : k.found ≡ UdpRecord.Creating create = (let at = k.at in cc) in
       subst (λ (u : UdpRecord). BeganBy steps (udp_side u) (MakesUdpFor face)) same k.made
 
-  no_streams_stand : (r : TcpRecord) (records : List Record) (n : ℕ) (call : StandingCall) → GoesOn call r → StreamsStand steps n call × CreateStands steps records call
-  no_streams_stand r records n (StandingCall.UdpConnect place handle) k = absurd k
-  no_streams_stand r records n (StandingCall.UdpConnect3 place) k = absurd k
-  no_streams_stand r records n (StandingCall.UdpCreate place face) k = absurd k
-  no_streams_stand r records n (StandingCall.Listen place marks) k = absurd k
-  no_streams_stand r records n (StandingCall.Blocking call) k = absurd k
-  no_streams_stand r records n _ k = (tt, tt)
+  no_streams_stand : (r : TcpRecord) (records : List Record) (n : ℕ) (call : StandingCall) → tcp2_at records (call_place call) ≡ Some r → GoesOn call r → StreamsStand steps n call × CreateStands steps records call
+  no_streams_stand r records n (StandingCall.UdpConnect place handle) g k = absurd k
+  no_streams_stand r records n (StandingCall.UdpConnect3 place) g k = absurd k
+  no_streams_stand r records n (StandingCall.UdpCreate place face) g k = absurd k
+  no_streams_stand r records n (StandingCall.Listen place marks) g k = absurd k
+  no_streams_stand r records n (StandingCall.Blocking call) g k = absurd k
+  no_streams_stand r records n (StandingCall.DropOutput place) g k = (tt, ap (λ (o : Option TcpRecord). is_some o) g)
+  no_streams_stand r records n _ g k = (tt, tt)
+
+  -- the connect of a record is that of its line
+  connects_beside : (es : List Entry) (h : Here) (place : ℕ) (r : TcpRecord) (op : Operation) → Found h place r → r.inner.state ≡ TcpState.Connecting op → op.who.id ≡ own_of line → Licensed contexts steps line origin es h → BeganBy steps (own_of line) IsConnectStep
+  connects_beside es h place r op g s e i =
+      let f = (i.fine.records place r g).socket.connect op s in
+      subst (λ (x : OpId). BeganBy steps x IsConnectStep) e (record { origin = f.to.origin; at = f.to.at; holds = (f.addr, f.to.holds) })
 
   -- that of 0.3 has no streams, and that of a fault no network socket
   plain_record : (es : List Entry) (l : Listener) (new : OpId) (peer : IpSocketAddress) → IsMaker es l.maker l.family l.side → IsHanded es new l.side peer → RecordIsFine steps es (joined_plain l new peer)
@@ -388,16 +395,16 @@ module _ (contexts : List WasiSocketsCtx) (steps : List Step) (line : ℕ) (orig
       elsewhere es h _ refl refl refl i (state_stands contexts steps es h.machine (standing_as ids (StandingCall.Listen place marks)) (λ o. OfTcp r g (i.names place ids.line r at g), subst (MakingStands steps) made i.making, tt) i.fine) i.names i.udp_names
   moves_fine es _ _ (Frees h place made) b w i = remade es h (Freed place) tt tt i
   moves_fine es _ _ (IsUnheld h place r g free) b w i = remade es h (Freed place) tt tt i
-  moves_fine es _ _ (Stands h ids call r quiet at g k) b w i = elsewhere es h _ refl refl refl i (state_stands contexts steps es h.machine (standing_as ids call) (let none = no_streams_stand r h.machine.store.records ids.line call k in (λ o. OfTcp r g (i.names (call_place call) ids.line r at g), none.0, none.1)) i.fine) i.names i.udp_names
+  moves_fine es _ _ (Stands h ids call r quiet at g k) b w i = elsewhere es h _ refl refl refl i (state_stands contexts steps es h.machine (standing_as ids call) (let none = no_streams_stand r h.machine.store.records ids.line call g k in (λ o. OfTcp r g (i.names (call_place call) ids.line r at g), none.0, none.1)) i.fine) i.names i.udp_names
   moves_fine es _ _ (Resumes h s e o) b w i = resumes contexts steps line origin is_line es h s e o i
   moves_fine es _ _ (Unstands h over) b w i = elsewhere es h _ refl refl refl i (state_unstands contexts steps es h.machine i.fine) i.names i.udp_names
-  moves_fine es _ _ (StandsBeside h place r op at g s e) b w i = elsewhere es h _ refl refl refl i (state_beside contexts steps es h.machine _ (besides_push contexts steps h.machine.store.beside _ tt i.fine.besides) i.fine) i.names i.udp_names
-  moves_fine es _ _ (EndsBeside h n) b w i = elsewhere es h _ refl refl refl i (state_beside contexts steps es h.machine _ (besides_without contexts steps h.machine.store.beside n i.fine.besides) i.fine) i.names i.udp_names
+  moves_fine es _ _ (StandsBeside h place r op at g s e) b w i = elsewhere es h _ refl refl refl i (state_beside contexts steps es h.machine _ (besides_push contexts steps es h.machine.store.beside _ (connects_beside es h place r op g s e i) i.fine.besides) i.fine) i.names i.udp_names
+  moves_fine es _ _ (EndsBeside h n) b w i = elsewhere es h _ refl refl refl i (state_beside contexts steps es h.machine _ (besides_without contexts steps es h.machine.store.beside n i.fine.besides) i.fine) i.names i.udp_names
   moves_fine es _ _ (UdpChanges h place o now g p keeps) b w i = udp_changes contexts steps line origin is_line es h place o now g p i
   moves_fine es _ _ (BeginsUdpBind h place o a at g to u) b w i = begins_udp_bind contexts steps line origin is_line es h place o a at g to i
   moves_fine es _ _ (StandsUdpBind h ids place face o op quiet at g e) b w i =
       elsewhere es h _ refl refl refl i (state_stands contexts steps es h.machine (standing_as ids (StandingCall.UdpBind place face)) (λ c. OfUdp (UdpRecord.Open o) g (i.udp_names place ids.line (UdpRecord.Open o) at g), tt, tt) i.fine) i.names i.udp_names
-  moves_fine es _ _ (StandsUdpCreate h ids place face create quiet m g) b w i =
+  moves_fine es _ _ (StandsUdpCreate h ids place face create quiet m g its) b w i =
       let made : BeganBy steps create.operation.who.side (MakesUdpFor face) = subst (MakingStands steps) m i.making in
       elsewhere es h _ refl refl refl i (state_stands contexts steps es h.machine (standing_as ids (StandingCall.UdpCreate place face)) (λ c. absurd c, tt, record { found = UdpRecord.Creating create; at = g; made = made }) i.fine) i.names i.udp_names
   moves_fine es _ _ (RemembersStreams h c handle place remote is of o g none) b w i = remembers_streams contexts steps line origin is_line es h c handle place remote is i
@@ -431,7 +438,12 @@ module _ (contexts : List WasiSocketsCtx) (steps : List Step) (line : ℕ) (orig
   moves_fine es _ _ (Empties h handle kind q e none) b w i =
       let was : Here = record h { made = Emptied kind } in
       elsewhere es was _ refl refl refl (remade es h (Emptied kind) tt tt i) (state_taken contexts steps es h.machine handle i.fine) i.names i.udp_names
-  moves_fine es _ _ (GivesBack h place idle left) b w i = fewer_fine es h place idle (left_none h place left b.2) b.2.0 i
+  moves_fine es _ _ (DropsUdp h place o idle made g) b w i =
+      let x = i.fine.udp place (UdpRecord.Open o) g in
+      let f : OpenIsFine steps es (without_udp_socket o) = record { made = x.made; bound = x.bound; progress = x.progress; connecting = x.connecting; sending = x.sending; receiving = x.receiving } in
+      let now : Here = put_udp h place (UdpRecord.Open (without_udp_socket o)) in
+      elsewhere es now (record now { at = None }) refl refl refl (put_udp_fine es h place (UdpRecord.Open o) (UdpRecord.Open (without_udp_socket o)) g refl f i) (state_put_udp contexts steps es h.machine place (UdpRecord.Open o) (UdpRecord.Open (without_udp_socket o)) g refl f i.fine) (λ k n r a e. absurd (cc)) (λ k n u a e. absurd (cc))
+  moves_fine es _ _ (GivesBack h place idle left) b w i = fewer_fine es h place (another_stands h place idle b.0 b.3 i) (left_none h place left b.2) b.2.0 i
   moves_fine es _ _ (Numbers h) b w i = remade es h _ tt tt i
   moves_fine es _ _ (Lists h jobs keeps) b w i = elsewhere es h _ refl refl refl i (state_jobs contexts steps es h.machine jobs i.fine) i.names i.udp_names
   moves_fine es _ _ (Takes h handle q past none) b w i = elsewhere es h _ refl refl refl i (state_taken contexts steps es h.machine handle i.fine) i.names i.udp_names

@@ -1,125 +1,46 @@
--- Each ask of a run is licensed: the law that it is, on the base law; and between two lines the state fits the log, each line being
+-- Each ask of a run is licensed, and each reply: between two lines the state fits the log, each line being
 -- judged by the steps up to it.
-use Rattle.wasi_walks.proofs.licence.EndAsks.{result_marked, written_once}
-use Rattle.std.specs.Prelude.{take}
-use Rattle.wasi_walks.proofs.walks.Asked.{MarksResult, WritesOnce}
-use Rattle.wasi_walks.proofs.licence.Wilds.{WildIn, Wilds, moves_wild, put_wild, spent_wild}
-use Rattle.wasi_walks.proofs.licence.WildAsks.{wilds_asks}
-use Rattle.wasi_walks.proofs.licence.ListenMarks.{listener_marked, plain_marked}
-use Rattle.wasi_walks.proofs.walks.Layers.{both}
+use Rattle.wasi_walks.proofs.licence.Wilds.{WildIn, Wilds}
 use Rattle.wasi_walks.proofs.walks.Here.{older_unused}
 use Rattle.wasi_walks.proofs.Words.{Has, Told, ◌<◌}
-use Rattle.wasi_walks.proofs.walks.Asked.{MarksListener, MarksPlain, Asked, Questions, SetsBacklog, Learns, Closes, MarksOne, AsksCreate, MarksAccepted, Polls, Turns, GivesUp, UdpQuestions, UdpDisconnects, UdpLearns, UdpPeers, UdpCloses, UdpBegins, MarksUdp, MarksStream, MarksError, UdpGivesUp, Resolves, Looks}
-use Rattle.wasi_walks.proofs.walks.Asked.{ResolvesBeside, LooksBeside}
-use Rattle.wasi_walks.proofs.Words.{made_to, Allows, Asks, Begins, Call, Entry, Give, HasRun, IsLicensed, Left, List, Machine, MayAsk, Not, OpId, Operation, Reply}
+use Rattle.wasi_walks.proofs.Words.{Allows, Asks, Begins, Call, Entry, Give, HasRun, IsLicensed, Left, List, Machine, MayAsk, OpId, Operation, Reply}
 use Rattle.wasi_walks.proofs.Words.{Some, Step, TcpRecord, WasiSocketsCtx, [], add-one, allows_at, allows_if, allows_keep, allows_then}
-use Rattle.wasi_walks.proofs.Words.{allows_weaker, ap, append-nil, append_assoc, arith, entry, first_state, give_up_asks, inl, is_trap}
-use Rattle.wasi_walks.proofs.Words.{length, length-append, machine_asks, new_asks, own_of, refl, run, side_in, step_at, subst, sym}
-use Rattle.wasi_walks.proofs.Words.{with_listening, ℕ, ⊤, ◌++◌, ◌+◌, ◌∙◌, ◌∷◌, ◌≡◌}
+use Rattle.wasi_walks.proofs.Words.{allows_weaker, ap, append-nil, append_assoc, arith, entry, first_state, inl, is_trap}
+use Rattle.wasi_walks.proofs.Words.{length, length-append, machine_asks, own_of, refl, run, step_at, subst, sym}
+use Rattle.wasi_walks.proofs.Words.{ℕ, ◌++◌, ◌+◌, ◌∙◌, ◌∷◌, ◌≡◌}
 use Rattle.wasi_walks.proofs.licence.State.{StateIsFine}
 use Rattle.wasi_walks.proofs.licence.Fresh.{IsNew, next_is_new}
-use Rattle.wasi_walks.proofs.licence.Replies.{allows_both, replies_longer, replies_more, replies_push}
-use Rattle.wasi_walks.specs.Licence.{EachMayReply, MayReply}
+use Rattle.wasi_walks.proofs.licence.Replies.{AskNoMore, Replied, allows_both, allows_each, each_may, none_no_more, replied_by, replied_longer, replied_more, replied_push, serves_keeps}
+use Rattle.std.specs.Prelude.{Bool, IsSome, true, false, if◌then◌else◌}
+use Rattle.wasi_walks.proofs.Words.{None, Option, Standing, GuestCall, Streams, WriteState, inr, nat_lt, step_at}
+use Rattle.wasi_host.specs.declared.beside.Beside.{Beside}
+use Rattle.wasi_host.specs.Machine.{output_at}
+use Rattle.wasi_streams.specs.Streams.{zeros}
+use Rattle.wasi_walks.proofs.walks.Writes.{may as may_write, may_at, may_begin, may_in, may_of}
+use Rattle.wasi_walks.proofs.walks.States.{Starts}
+use Rattle.wasi_walks.proofs.Lists.{cut_of}
+use Rattle.wasi_walks.proofs.licence.Frames.{Goes, stay}
+use Rattle.wasi_walks.proofs.licence.Law.{begins_licence, licence_along}
+use Rattle.wasi_walks.proofs.licence.Longer.{on as goes_on}
+use Rattle.wasi_walks.proofs.licence.Prefixes.{GoesOnBy, last_push, last_traps, run_splits}
+use Rattle.wasi_walks.proofs.licence.Served.{Finally, Serves, asked_along, asks_by, begins_asked, first_asks, serves_line, serves_more}
+use Rattle.wasi_walks.proofs.received.Askers.{MayRecv}
+use Rattle.wasi_walks.proofs.received.Parted.{IsCounted}
+use Rattle.wasi_walks.specs.Licence.{EachMayReply, MayReply, serves}
 use Rattle.wasi_walks.proofs.fits.Polls.{Anything}
-use Rattle.wasi_walks.proofs.received.Replies.{Lates, lines_later, step_replies}
+use Rattle.wasi_walks.proofs.received.Replies.{Lates, lines_later}
 use Rattle.wasi_walks.proofs.received.State.{first_late}
 use Rattle.wasi_world.proofs.Allowed.{reached}
 use Rattle.wasi_walks.proofs.licence.Longer.{EachMayCome, licensed, with_replies, may_come, come_longer, may_more, state_more, listen_more, tcp_more}
 use Rattle.wasi_walks.proofs.Lists.{get_seam}
-use Rattle.wasi_walks.proofs.licence.Unbound.{MayAskSo}
 use Rattle.wasi_walks.proofs.licence.Judged.{allowed}
-use Rattle.wasi_walks.proofs.licence.Line.{ListenGoesOn, Licensed, put_fine}
+use Rattle.wasi_walks.proofs.licence.Line.{ListenGoesOn, Licensed}
 use Rattle.wasi_walks.proofs.walks.Steps.{may_while, machine_walks}
 use Rattle.wasi_walks.proofs.claims.Lines.{BaseBetween, first_base, base_starts, base_over}
-use Rattle.wasi_walks.proofs.claims.Law.{Base, begins_on_two, on_two, on_two_along}
 use Rattle.wasi_walks.proofs.remotes.State.{Keeps, first_keeps}
-use Rattle.wasi_walks.proofs.remotes.Law.{begins_kept, remotes}
 use Rattle.wasi_walks.proofs.walks.Here.{IsToCome}
-use Rattle.wasi_walks.proofs.walks.Moves.{tcp_kind, closed_record, Here, Names, OfSocket, Own, ToConnect, ToWrite, Unused, Used, put}
-use Rattle.wasi_walks.proofs.licence.Frames.{listening_gone}
-use Rattle.wasi_walks.proofs.walks.Law.{BeginsWrites, Law, Rests, Walks, begins_by}
-use Rattle.wasi_walks.proofs.licence.Moves.{begins_write, closed_fine, gone_maker, moves_fine}
-use Rattle.wasi_walks.proofs.licence.Asked.{spares, asked_fine, on_side, names_on_side, not_held, question_local, question_may, learned_fine, kept}
-use Rattle.wasi_walks.proofs.licence.Marks.{marked_fine, accepted_fine, CreatedIsFine, new_fine, joins}
-use Rattle.wasi_walks.proofs.licence.UdpMarks.{stream_marked, udp_asked, udp_learned, udp_disconnected, udp_peered, udp_closed, udp_creates, udp_marked}
-use Rattle.wasi_walks.proofs.licence.ErrorMarks.{error_marked}
-use Rattle.wasi_walks.proofs.licence.UdpGoesOn.{udp_given_up}
-use Rattle.wasi_walks.proofs.licence.LookupAsks.{looked_up, looked_on, looked_up_beside, looked_on_beside}
-use Rattle.wasi_walks.proofs.licence.GoesOn.{taken_out, turned_fine, given_up, polls_fine}
+use Rattle.wasi_walks.proofs.walks.Moves.{Names, Own, ToConnect, ToWrite, Unused, Used}
 use Rattle.wasi_records.specs.Records.{tcp2_at}
-
-module _ (contexts : List WasiSocketsCtx) (steps : List Step) (line : ℕ) (origin : Step) (is_line : step_at steps line ≡ Some origin) where
-  licences_asks : (es : List Entry) (h : Here) (A : Type 0) (tree : Asks A) (end : A → Here)
-      → Asked contexts line origin es h A tree end → Base contexts line origin h × Keeps es h.machine.store.records
-      → Licensed contexts steps line origin es h
-      → Allows (MayAskSo contexts steps) (λ fs x. (Licensed contexts steps line origin) fs (end x)) es tree
-  licences_asks es h _ _ _ (Questions place n r side c at g o q) b i =
-      let k = question_may contexts steps line origin is_line n es side c q.0 (names_on_side contexts steps line origin is_line es h place n r side at g o i) in
-      let s = on_side contexts steps line origin is_line es r side o (i.fine.records place r g) in
-      (k.0, λ told fits. asked_fine contexts steps line origin is_line es h (own_of n) c told k.1 (λ p z op d l e. not_held contexts steps line origin is_line h place r side g s b.0.1 p z op d l (question_local contexts steps line origin is_line n side op.who.side c q.0 e)) i)
-  licences_asks es h _ _ _ (SetsBacklog place r side backlog at g s is) b i =
-      let f = i.fine.records place r g in
-      ((inl (i.names place line r at g side (f.named side (ap side_in s))), record { origin = origin; at = is_line; holds = is }, f.socket.listens side s), λ told fits. asked_fine contexts steps line origin is_line es h (own_of line) (Call.SetBacklog side backlog) told tt (spares contexts steps line origin is_line h (Call.SetBacklog side backlog) tt) i)
-  licences_asks es h _ _ _ (Learns place r side at g e) b i = (inl (names_on_side contexts steps line origin is_line es h place line r side at g (OfSocket (ap side_in e)) i), λ told fits. learned_fine contexts steps line origin is_line es h place r side told g e fits b.0.1 i)
-  licences_asks es h _ _ _ (Closes place r side q g e) b i = (
-    tt,
-    λ told fits.
-        let fs = es ++ entry (own_of line) (Call.Close side) told ∷ [] in
-        put_fine fs h place r (closed_record r) g refl (listening_gone r.listening) (gone_maker contexts steps line origin is_line r (closed_record r).inner) (closed_fine contexts steps line origin is_line fs r) (asked_fine contexts steps line origin is_line es h (own_of line) (Call.Close side) told tt (spares contexts steps line origin is_line h (Call.Close side) tt) i),
-  )
-  licences_asks es h _ _ _ (MarksOne kind parent sock m) b i = marked_fine contexts steps line origin is_line es h kind parent sock m i
-  licences_asks es h _ _ _ (AsksCreate tells fails face ctx family c a o past) b i =
-      allows_then (MayAskSo contexts steps) (λ fs made. Licensed contexts steps line origin fs h × CreatedIsFine contexts steps line origin is_line ctx.name family fs made) (λ fs done. Licensed contexts steps line origin fs (record h { machine = done.1; own = Used })) es (new_asks (own_of line) ctx family) (made_to tells fails (tcp_kind face) h.machine (own_of line))
-      (kept contexts steps line origin is_line h (CreatedIsFine contexts steps line origin is_line ctx.name family) es (new_asks (own_of line) ctx family) i (new_fine contexts steps line origin is_line face es ctx family c)) (λ fs made k. joins contexts steps line origin is_line tells fails face fs h ctx family made c a o past k.1 b.0.1 k.0)
-  licences_asks es h _ _ _ (MarksAccepted c s place r is e o g) b i = accepted_fine contexts steps line origin is_line es h c s place r is e o g b.0.1 i
-  licences_asks es h _ _ _ (MarksPlain c s remaining place r is e o g) b i = plain_marked contexts steps line origin is_line es h c s remaining place r is e o g b.0.1 i
-  licences_asks es h _ _ _ (MarksListener n handle reached place r q m g has e) b i = listener_marked contexts steps line origin is_line es h n handle reached place m e i
-  licences_asks es h _ _ _ (MarksResult socket place slot r m made e g) b i = result_marked contexts steps line origin is_line es h socket place slot m e i
-  licences_asks es h _ _ _ (WritesOnce c handle place given end r s half permit is e f at g q w own) b i = written_once contexts steps line origin is_line es h place (take 4294967295 given) r s half permit at g q w i
-  licences_asks es h _ _ _ (Polls x0 x1 x2) b i = (polls_fine contexts steps line origin is_line) es h x0 x1 x2 b i
-  licences_asks es h _ _ _ (Turns place r s g e) b i = turned_fine contexts steps line origin is_line es h place r s g e i
-  licences_asks es h _ _ _ (GivesUp place r q goes g) b i =
-      allows_weaker (MayAskSo contexts steps) (λ fs done. Licensed contexts steps line origin fs h × ⊤) (λ fs done. Licensed contexts steps line origin fs (put h place (with_listening r Not))) (λ fs done k. taken_out contexts steps line origin is_line fs h place r g k.0) es (give_up_asks r.listening)
-      (kept contexts steps line origin is_line h (λ fs done. ⊤) es (give_up_asks r.listening) i (given_up contexts steps line origin is_line es r.side r.listening (i.fine.records place r g).listening))
-  licences_asks es h _ _ _ (UdpQuestions place n o c at g q) b i = (let a = udp_asked contexts steps line origin is_line es h place n o c at g q i in (a.0, λ told fits. a.1 told))
-  licences_asks es h _ _ _ (UdpDisconnects place o at g is) b i = (let k = udp_disconnected contexts steps line origin is_line es h place o at g is i in (k.0, λ told fits. k.1 told))
-  licences_asks es h _ _ _ (UdpLearns place part o at g) b i = udp_learned contexts steps line origin is_line es h place part o at g i
-  licences_asks es h _ _ _ (UdpPeers place o at g) b i = (let a = udp_peered contexts steps line origin is_line es h place o at g i in (a.0, λ told fits. a.1 told))
-  licences_asks es h _ _ _ (UdpCloses place o q g) b i = (tt, λ told fits. udp_closed contexts steps line origin is_line es h place o told g i)
-  licences_asks es h _ _ _ (UdpBegins face ctx family c may a o past) b i = udp_creates contexts steps line origin is_line face es h ctx family c may a past i
-  licences_asks es h _ _ _ (MarksUdp face place u g) b i = udp_marked contexts steps line origin is_line es h face place u g i
-  licences_asks es h _ _ _ (MarksStream place n handle reached kind m new e) b i = stream_marked contexts steps line origin is_line es h place n handle reached kind m e i
-  licences_asks es h _ _ _ (MarksError n handle place handles m k e f) b i = error_marked contexts steps line origin is_line es h n handle place handles m k e f i
-  licences_asks es h _ _ _ (UdpGivesUp place create q g) b i = udp_given_up contexts steps line origin is_line es h place create g i
-  licences_asks es h _ _ _ (Resolves host records l same) b i = (let a = looked_up contexts steps line origin is_line es h host l i in (a.0, λ told fits. a.1 told (records told) (same told)))
-  licences_asks es h _ _ _ (Looks place op g) b i = (let a = looked_on contexts steps line origin is_line es h place op g i in (a.0, λ told fits. a.1 told))
-  licences_asks es h _ _ _ (ResolvesBeside host l) b i = (let a = looked_up_beside contexts steps line origin is_line es h host l i in (a.0, λ told fits. a.1 told))
-  licences_asks es h _ _ _ (LooksBeside n call host g e) b i = (let a = looked_on_beside contexts steps line origin is_line es h n call host g e i in (a.0, λ told fits. a.1 told))
-
-  licences : Rests contexts line origin (λ es h. Base contexts line origin h × Keeps es h.machine.store.records)
-  licences = record {
-    P = MayAskSo contexts steps;
-    Inv = λ es h. Wilds line es h × Licensed contexts steps line origin es h;
-    moves = λ es h now m b i. (moves_wild origin es h now m i.0, moves_fine contexts steps line origin is_line es h now m b.0 i.0 i.1);
-    asks = λ es h A tree end q b i. both (MayAskSo contexts steps) Anything _ _ es tree (licences_asks es h A tree end q b i.1) (wilds_asks contexts steps line origin is_line es h A tree end q b i.1 i.0);
-  }
-
-  pub licence : Law contexts line origin
-  unfolding remotes
-  licence = on_two contexts line origin (remotes contexts line origin) licences
-
-  -- and so is each write that begins in a call of streams
-  pub begins_licence : BeginsWrites licence
-  unfolding licence licences remotes
-  begins_licence =
-      begins_on_two contexts line origin (remotes contexts line origin) licences (begins_kept contexts line origin)
-      (begins_by licences (λ es h place n r s half permit bytes at g e w within used b i. (spent_wild (put_wild h place r _ g (λ side d u. (d, u, refl)) i.0), begins_write contexts steps line origin is_line es h place n r s half permit bytes at g e w i.1)))
-
-  -- what it says of a tree
-  pub licence_along : {A : Type 0} {h : Here} {end : A → Here} {asks : Asks A} → Walks licence h end asks → (es : List Entry) → Base contexts line origin h → Keeps es h.machine.store.records → Wilds line es h × Licensed contexts steps line origin es h
-      → Allows (MayAskSo contexts steps) (λ fs a. (Base contexts line origin (end a) × Keeps fs (end a).machine.store.records) × (Wilds line fs (end a) × Licensed contexts steps line origin fs (end a))) es asks
-  unfolding licence licences remotes
-  licence_along w es b k i = on_two_along contexts line origin (remotes contexts line origin) licences w es b k i
 
 -- Between two lines.
 pub record Fine (contexts : List WasiSocketsCtx) (steps : List Step) (line : ℕ) (es : List Entry) (m : Machine) : Type 0 where
@@ -160,28 +81,23 @@ pub next_line : (steps : List Step) (s : Step) (line : ℕ) → line ≡ length 
 next_line steps s line e = let k = length-append steps (s ∷ []) in omega arith
 
 module _ (contexts : List WasiSocketsCtx) where
-  pub line_licensed : (steps : List Step) (line : ℕ) (s : Step) → step_at steps line ≡ Some s → (m : Machine) (es : List Entry) → EachMayCome contexts steps [] es → IsNew es m.store.records line → Fine contexts steps line es m
-      → Allows (MayAsk contexts steps) (λ fs done. Fine contexts steps (line + 1) fs done.1) es (machine_asks contexts m line s)
-  line_licensed steps line s l m es each n i =
-      let o = may_while m s m.store.standing in
-      allows_weaker (MayAsk contexts steps) _ (λ fs done. Fine contexts steps (line + 1) fs done.1)
-      (λ fs done k. record { base = base_over contexts line s done.1 k.0.0.0; keeps = k.0.0.1; late = k.1; fine = k.0.1.1.fine; listens = k.0.1.1.listens; wild = k.0.1.0.wild; asked = λ x op t e. (let old = k.0.1.0.older x op t e in omega (arith, old)) }) es (machine_asks contexts m line s)
-      (allows_both (MayAsk contexts steps) Anything _ (λ fs done. Lates fs done.1) es (machine_asks contexts m line s) (allowed contexts steps _ es (machine_asks contexts m line s) each (licence_along contexts steps line s l (machine_walks line s (begins_licence contexts steps line s l) m m.store.standing refl) es
-      (base_starts contexts line s m o i.base) i.keeps (
-        record { wild = i.wild; older = λ x op t e. older_unused line o x (i.asked x op t e) },
-        record {
-          fine = i.fine;
-          names = λ k j r a. absurd (cc);
-          udp_names = λ k j u a. absurd (cc);
-          listens = i.listens;
-          new = λ x t. (let s = of_line o x t in (n.handed x s, n.marked x s));
-          unmade = λ u is. n.made (own_of line) refl;
-          joined = λ face p e. absurd (cc);
-          faulted = λ p e. absurd (cc);
-          marked = λ a p e. absurd (cc);
-          making = tt;
-        },
-      ))) (lines_later contexts line s m es i.base i.keeps i.late))
+  -- what is known where a line starts
+  starts_licensed : (steps : List Step) (line : ℕ) (s : Step) (m : Machine) (es : List Entry) (o : Own) → IsNew es m.store.records line → Fine contexts steps line es m → Wilds line es (Starts m o) × Licensed contexts steps line s es (Starts m o)
+  starts_licensed steps line s m es o n i = (
+    record { wild = i.wild; older = λ x op t e. older_unused line o x (i.asked x op t e) },
+    record {
+      fine = i.fine;
+      names = λ k j r a. absurd (cc);
+      udp_names = λ k j u a. absurd (cc);
+      listens = i.listens;
+      new = λ x t. (let s = of_line o x t in (n.handed x s, n.marked x s));
+      unmade = λ u is. n.made (own_of line) refl;
+      joined = λ face p e. absurd (cc);
+      faulted = λ p e. absurd (cc);
+      marked = λ a p e. absurd (cc);
+      making = tt;
+    },
+  )
     where
       of_line : (own : Own) (x : OpId) → IsToCome line own x → x.step ≡ line
       of_line Unused x t = t.0
@@ -190,85 +106,188 @@ module _ (contexts : List WasiSocketsCtx) where
       of_line (ToWrite side bytes) x t = absurd t
       of_line (ToConnect place) x t = absurd t
 
-  -- and its reply hands out only what was allowed
-  line_replies : (steps : List Step) (line : ℕ) (s : Step) → step_at steps line ≡ Some s → (m : Machine) (es : List Entry) → EachMayCome contexts steps [] es → IsNew es m.store.records line → Fine contexts steps line es m
-      → Allows (MayAsk contexts steps) (λ fs done. Fine contexts steps (line + 1) fs done.1 × MayReply fs s done.0) es (machine_asks contexts m line s)
-  line_replies steps line s l m es each n i =
-      allows_both (MayAsk contexts steps) Anything (λ fs done. Fine contexts steps (line + 1) fs done.1) (λ fs done. MayReply fs s done.0) es (machine_asks contexts m line s)
-      (line_licensed steps line s l m es each n i) (step_replies contexts steps line s m es i.fine i.keeps i.late)
+  pub line_licensed : (steps : List Step) (line : ℕ) (s : Step) → step_at steps line ≡ Some s → (m : Machine) (es : List Entry) → EachMayCome contexts steps [] es → IsNew es m.store.records line → Fine contexts steps line es m
+      → Allows (MayAsk contexts steps) (λ fs done. Fine contexts steps (line + 1) fs done.1) es (machine_asks contexts m line s)
+  line_licensed steps line s l m es each n i =
+      let o = may_while m s m.store.standing in
+      allows_weaker (MayAsk contexts steps) _ (λ fs done. Fine contexts steps (line + 1) fs done.1)
+      (λ fs done k. record { base = base_over contexts line s done.1 k.0.0.0; keeps = k.0.0.1; late = k.1; fine = k.0.1.1.fine; listens = k.0.1.1.listens; wild = k.0.1.0.wild; asked = λ x op t e. (let old = k.0.1.0.older x op t e in omega (arith, old)) }) es (machine_asks contexts m line s)
+      (allows_both (MayAsk contexts steps) Anything _ (λ fs done. Lates fs done.1) es (machine_asks contexts m line s) (allowed contexts steps _ es (machine_asks contexts m line s) each (licence_along contexts steps line s l (machine_walks line s (begins_licence contexts steps line s l) m m.store.standing refl) es
+      (base_starts contexts line s m o i.base) i.keeps (starts_licensed steps line s m es (may_while m s m.store.standing) n i))) (lines_later contexts line s m es i.base i.keeps i.late))
 
-  -- what a run of these lines leaves: replies that it may have, and a state that is fine
-  abbrev pub Ends : List Step → List Entry → List Reply × Machine → Type 0
-  Ends all fs done = EachMayReply fs all done.0 × ((line : ℕ) × Fine contexts all line fs done.1)
+  -- == which lines were served
+  -- no entry asks for a datagram by the own operation of one of these lines
+  abbrev NoMore : List ℕ → List Entry → OpId → Call → Type 0
+  NoMore served es op c = (n : ℕ) → Has served n → (side : OpId) → op ≡ own_of n → c ≡ Call.Recv side → ⊥
+
+  no_more_one : (served : List ℕ) (es : List Entry) (op : OpId) (c : Call) (t : Told) → NoMore served es op c → AskNoMore served (entry op c t ∷ [])
+  no_more_one served es op c t k n h side told (inl e) = k n h side (ap (λ (x : Entry). x.op) e) (ap (λ (x : Entry). x.call) e)
+  no_more_one served es op c t k n h side told (inr i) = i
+
+  -- those that were served are over
+  none_served : (steps : List Step) (line : ℕ) (s : Step) (is_line : step_at steps line ≡ Some s) (m : Machine) (es : List Entry) (served : List ℕ) → Serves steps line es m served → (fs : List Entry) (op : OpId) (c : Call) → MayRecv contexts steps line s is_line m.store.beside fs op c → NoMore served fs op c
+  none_served steps line s is_line m es served k fs op c asked n h side own is =
+      elim (asks_by contexts steps line s is_line m.store.beside fs op c Told.Yes Told.Yes n side asked (inl (same_entry op (own_of n) c (Call.Recv side) own is))) [
+        | inl e ↦ (let p = (k.over n h).0 in omega (arith, p, e))
+        | inr p ↦ none_some (subst (λ (o : Option Beside). IsSome o) (k.over n h).1 p.1)
+      ]
+    where
+      none_some : IsSome (let o : Option Beside = None in o) → ⊥
+      none_some e = cc
+
+      same_entry : (a b : OpId) (x y : Call) → a ≡ b → x ≡ y → entry a x Told.Yes ≡ entry b y Told.Yes
+      same_entry a b x y e f = cc
+
+  -- a line may begin to write, and no part is named
+  counted_of : (o : Option TcpRecord) (bytes : List ℕ) → IsCounted (may_in o bytes)
+  counted_of None bytes = tt
+  counted_of (Some r) bytes = of_streams r.streams
+    where
+      of_writer : (w : WriteState) (bytes : List ℕ) → IsCounted (may_begin w bytes)
+      of_writer (WriteState.Ready half permit) [] = tt
+      of_writer (WriteState.Ready half permit) (b ∷ bytes) = by_size (nat_lt permit (length (b ∷ bytes)))
+        where
+          by_size : (over : Bool) → IsCounted (if over then Unused else ToWrite half.side (b ∷ bytes))
+          by_size true = tt
+          by_size false = tt
+      of_writer _ bytes = tt
+
+      of_streams : (s : Option Streams) → IsCounted (may_of s bytes)
+      of_streams None = tt
+      of_streams (Some s) = of_writer s.writer bytes
+
+  counted_at : (m : Machine) (bytes : List ℕ) (place : Option ℕ) → IsCounted (may_at m bytes place)
+  counted_at m bytes None = tt
+  counted_at m bytes (Some place) = counted_of (tcp2_at m.store.records place) bytes
+
+  counted : (m : Machine) (s : Step) → IsCounted (may_write m s)
+  counted m (Step.Call ctx (GuestCall.Write output bytes)) = counted_at m bytes (output_at m output)
+  counted m (Step.Call ctx (GuestCall.WriteZeroes output len)) = counted_at m (zeros len) (output_at m output)
+  counted m _ = tt
+
+  counted_while : (m : Machine) (s : Step) (standing : Option Standing) → IsCounted (may_while m s standing)
+  counted_while m s None = counted m s
+  counted_while m s (Some c) = tt
+
+  -- what a line leaves and replies, and who asks
+  abbrev After : List Step → ℕ → Step → List ℕ → List Entry → Reply × Machine → Type 0
+  After steps line s served fs done = Fine contexts steps (line + 1) fs done.1 × (MayReply steps fs served line s done.0 × Serves steps (line + 1) fs done.1 (serves steps line s done.0 served))
+
+  line_served : (steps : List Step) (line : ℕ) (s : Step) (l : step_at steps line ≡ Some s) (m : Machine) (es : List Entry) (served : List ℕ) → EachMayCome contexts steps [] es → IsNew es m.store.records line → Fine contexts steps line es m → Serves steps line es m served
+      → Allows (λ fs op c. MayAsk contexts steps fs op c × MayRecv contexts steps line s l m.store.beside fs op c) (After steps line s served) es (machine_asks contexts m line s)
+  line_served steps line s l m es served each n i k =
+      let o = may_while m s m.store.standing in
+      let R : List Entry → OpId → Call → Type 0 = MayRecv contexts steps line s l m.store.beside in
+      allows_weaker (λ fs op c. MayAsk contexts steps fs op c × R fs op c) (λ fs done. Fine contexts steps (line + 1) fs done.1 × Finally contexts steps line s l m es served i.fine k fs done) (After steps line s served)
+      (λ fs done q. (q.0, q.1 q.0.fine)) es (machine_asks contexts m line s)
+      (allows_each (MayAsk contexts steps) R (λ fs done. Fine contexts steps (line + 1) fs done.1) (Finally contexts steps line s l m es served i.fine k) es (machine_asks contexts m line s)
+      (line_licensed steps line s l m es each n i)
+      (serves_line contexts steps line m es served i.fine i.keeps i.late i.base.datagrams.besides k s l
+      (asked_along contexts steps line s l m.store.beside (machine_walks line s (begins_asked contexts steps line s l m.store.beside) m m.store.standing refl) es
+      (base_starts contexts line s m o i.base) i.keeps (starts_licensed steps line s m es o n i) (first_asks contexts steps line s l m es served o (counted_while m s m.store.standing) k))))
+
+  -- == the lines, one after another
+  -- What a run of these lines leaves: replies that it may have, and a state that is fine; where it didn't stop, the next line follows.
+  record Ends (all : List Step) (fs : List Entry) (done : List Reply × Machine) : Type 0 where
+    served : List ℕ
+    replied : Replied all fs [] 1 all done.0 served
+    line : ℕ
+    fine : Fine contexts all line fs done.1
+    each : EachMayCome contexts all [] fs
+    goes : last_traps done.0 ≡ false → (line ≡ length all + 1) × Serves all line fs done.1 served
+
+  -- each ask is licensed, and none is by one of these lines
+  abbrev Asks2 : List Step → List ℕ → List Entry → OpId → Call → Type 0
+  Asks2 all first fs op c = MayAsk contexts all fs op c × NoMore first fs op c
+
+  same_length : (replies : List Reply) (before : List Step) (r : Reply) (s : Step) → length replies ≡ length before → length (replies ++ r ∷ []) ≡ length (before ++ s ∷ [])
+  same_length replies before r s n = let p = length-append replies (r ∷ []) in let q = length-append before (s ∷ []) in omega (arith, n, p, q)
 
   -- each line is judged by the steps so far, and what these license the whole script does
-  lines : (all : List Step) (replies : List Reply) (m : Machine) (line : ℕ) (before rest : List Step) (es : List Entry) → all ≡ before ++ rest → line ≡ length before + 1 → EachMayCome contexts before [] es → length replies ≡ length before → EachMayReply es before replies → Fine contexts before line es m
-      → Allows (MayAsk contexts all) (Ends all) es (run contexts replies m line rest)
-  lines all replies m line before [] es a e c n r h = (
-    subst (λ (steps : List Step). EachMayReply es steps replies) (sym a) (replies_longer es before [] replies r),
-    (
-      line,
-      subst (λ (steps : List Step). Fine contexts steps line es m) (sym a)
-          (fine_more contexts before [] line es m h),
-    ),
-  )
-  lines all replies m line before (s ∷ rest) es a e c n r h =
+  lines : (all : List Step) (first : List ℕ) (replies : List Reply) (m : Machine) (line : ℕ) (before rest : List Step) (es : List Entry) (served : List ℕ) → all ≡ before ++ rest → line ≡ length before + 1 → ((x : ℕ) → Has first x → Has served x) → EachMayCome contexts before [] es → length replies ≡ length before
+      → Replied before es [] 1 before replies served → Fine contexts before line es m → Serves before line es m served → Allows (Asks2 all first) (Ends all) es (run contexts replies m line rest)
+  lines all first replies m line before [] es served a e f c n r h v =
+      subst (λ (steps : List Step). Ends steps es (replies, m)) (sym (a ∙ append-nil before)) (record { served = served; replied = r; line = line; fine = h; each = c; goes = λ q. (e, v) })
+  lines all first replies m line before (s ∷ rest) es served a e f c n r h v =
       let now = before ++ s ∷ [] in
+      let on : Goes before now = goes_on before (s ∷ []) in
       let b : all ≡ now ++ rest = a ∙ sym (append_assoc before (s ∷ []) rest) in
       let new : IsNew es m.store.records line = subst (IsNew es m.store.records) (sym e) (next_is_new contexts before es (licensed contexts before es c) m h.fine) in
-      let M : List Entry → Type 0 = λ fs. EachMayCome contexts now [] fs × EachMayReply fs before replies in
-      allows_then (MayAsk contexts all)
-      (λ fs done. M fs × (Fine contexts now (line + 1) fs done.1 × MayReply fs s done.0)) (Ends all) es
-      (machine_asks contexts m line s) _
-      (allows_keep (MayAsk contexts now) (MayAsk contexts all) M (λ fs done. Fine contexts now (line + 1) fs done.1 × MayReply fs s done.0)
-      (λ fs op c t fits k q. (may_come contexts now fs _ k.0 q, replies_more fs _ before replies k.1))
-      (λ fs op c q. subst (λ (steps : List Step). MayAsk contexts steps fs op c) (sym b) (may_more now rest contexts fs op c q)) es _ (come_longer contexts before (s ∷ []) [] es c, r)
-      (line_replies now line s (last_line before s line e) m es (come_longer contexts before (s ∷ []) [] es c) new (fine_more contexts before (s ∷ []) line es m h)))
+      let M : List Entry → Type 0 = λ fs. EachMayCome contexts now [] fs × Replied now fs [] 1 before replies served in
+      let l : step_at now line ≡ Some s = last_line before s line e in
+      let R : List Entry → OpId → Call → Type 0 = λ fs op c. MayAsk contexts now fs op c × MayRecv contexts now line s l m.store.beside fs op c in
+      let serving : Serves now line es m served = serves_more on line es m served v in
+      allows_then (Asks2 all first) (λ fs done. M fs × After now line s served fs done) (Ends all) es (machine_asks contexts m line s) _
+      (allows_keep R (Asks2 all first) M (After now line s served)
+      (λ fs op c t fits k q. (may_come contexts now fs _ k.0 q.0, replied_more (stay now) fs _ [] 1 before replies served (no_more_one served fs op c t (none_served now line s l m es served serving fs op c q.1)) k.1))
+      (λ fs op c q. (subst (λ (steps : List Step). MayAsk contexts steps fs op c) (sym b) (may_more now rest contexts fs op c q.0), λ x i. none_served now line s l m es served serving fs op c q.1 x (f x i)))
+      es _ (come_longer contexts before (s ∷ []) [] es c, replied_by on es [] 1 before replies served r)
+      (line_served now line s l m es served (come_longer contexts before (s ∷ []) [] es c) new (fine_more contexts before (s ∷ []) line es m h) serving))
       (λ fs done k.
-      let said : EachMayReply fs now (replies ++ done.0 ∷ []) = replies_push fs before replies s done.0 n k.0.1 k.1.1 in
-      allows_if (MayAsk contexts all) (Ends all) fs (is_trap done.0) _ _
-      (λ trap. (
-        subst (λ (steps : List Step). EachMayReply fs steps (replies ++ done.0 ∷ [])) (sym b)
-            (replies_longer fs now rest (replies ++ done.0 ∷ []) said),
-        (
-          line + 1,
-          subst (λ (steps : List Step). Fine contexts steps (line + 1) fs done.1) (sym b)
-              (fine_more contexts now rest (line + 1) fs done.1 k.1.0),
-        ),
-      ))
-      (λ on. lines all (replies ++ done.0 ∷ []) done.1 (line + 1) now rest fs b (next_line before s line e) k.0.0 (same_length replies before done.0 s n) said k.1.0))
-    where
-      same_length : (replies : List Reply) (before : List Step) (r : Reply) (s : Step) → length replies ≡ length before → length (replies ++ r ∷ []) ≡ length (before ++ s ∷ [])
-      same_length replies before r s n = let p = length-append replies (r ∷ []) in let q = length-append before (s ∷ []) in omega arith
+      let said : Replied now fs [] 1 now (replies ++ done.0 ∷ []) (serves now line s done.0 served) = replied_push now fs [] 1 line before replies s done.0 served n (omega (arith, e)) k.0.1 k.1.1.0 in
+      allows_if (Asks2 all first) (Ends all) fs (is_trap done.0) _ _
+      (λ trap. subst (λ (steps : List Step). Ends steps fs (replies ++ done.0 ∷ [], done.1)) (sym b) (record {
+        served = serves now line s done.0 served;
+        replied = replied_longer (now ++ rest) fs [] 1 now rest (replies ++ done.0 ∷ []) _ (replied_by (goes_on now rest) fs [] 1 now (replies ++ done.0 ∷ []) _ said);
+        line = line + 1;
+        fine = fine_more contexts now rest (line + 1) fs done.1 k.1.0;
+        each = come_longer contexts now rest [] fs k.0.0;
+        goes = λ q. absurd (let p : true ≡ false = sym trap ∙ sym (last_push replies done.0) ∙ q in cc);
+      }))
+      (λ more. lines all first (replies ++ done.0 ∷ []) done.1 (line + 1) now rest fs (serves now line s done.0 served) b (next_line before s line e) (λ x i. serves_keeps now line s done.0 served x (f x i)) k.0.0 (same_length replies before done.0 s n) said k.1.0 k.1.1.1))
 
   -- from the beginning
-  from_first : (steps : List Step) → Allows (MayAsk contexts steps) (Ends steps) []
-      (run contexts [] first_state 1 steps)
-  from_first steps = lines steps [] first_state 1 [] steps [] refl refl tt refl tt (first_fine contexts)
+  first_serves : Serves [] 1 [] first_state []
+  first_serves = record { parted = λ place u e. absurd (cc); quiet = λ s e. absurd (cc); below = λ n b e. absurd (cc); hands = λ n. tt; over = λ n h. absurd h }
+
+  from_first : (steps : List Step) → Allows (Asks2 steps []) (Ends steps) [] (run contexts [] first_state 1 steps)
+  from_first steps = lines steps [] [] first_state 1 [] steps [] [] refl refl (λ x i. i) tt refl refl (first_fine contexts) first_serves
 
   -- the state that a run leaves
-  pub runs_fine : (steps : List Step) (log : List Entry) (replies : List Reply) (m : Machine) → Left
-      (run contexts [] first_state 1 steps) log (Give (replies, m)) → (line : ℕ) × Fine contexts steps line log m
-  runs_fine steps log replies m w = (reached (MayAsk contexts steps) (Ends steps) []
-      (run contexts [] first_state 1 steps) log (Give (replies, m)) (from_first steps) w).1
+  pub runs_fine : (steps : List Step) (log : List Entry) (replies : List Reply) (m : Machine) → Left (run contexts [] first_state 1 steps) log (Give (replies, m)) → (line : ℕ) × Fine contexts steps line log m
+  runs_fine steps log replies m w =
+      let k : Ends steps log (replies, m) = reached (Asks2 steps []) (Ends steps) [] (run contexts [] first_state 1 steps) log (Give (replies, m)) (from_first steps) w in
+      (k.line, k.fine)
 
   -- at every point of the run, before a reply is given
   pub begun_licensed : (steps : List Step) (log : List Entry) (rest : Asks (List Reply × Machine)) → Left (run contexts [] first_state 1 steps) log rest → IsLicensed contexts steps log []
   begun_licensed steps log rest w = record {
     each = λ before e after cut.
-        allows_at (MayAsk contexts steps) (Ends steps) [] (run contexts [] first_state 1 steps) rest before e after
+        (allows_at (Asks2 steps []) (Ends steps) [] (run contexts [] first_state 1 steps) rest before e after
         (from_first steps)
-        (subst (λ (es : List Entry). Left (run contexts [] first_state 1 steps) es rest) cut w);
+        (subst (λ (es : List Entry). Left (run contexts [] first_state 1 steps) es rest) cut w)).0;
     replied = tt;
   }
+
+  -- what the lines after these asked is by none that they served
+  back_is_quiet : (h_steps done more : List Step) (replies : List Reply) (state : Machine) (front back : List Entry) (rest : Asks (List Reply × Machine)) → length replies ≡ length done → Left (run contexts [] first_state 1 done) front (Give (replies, state)) → Left (run contexts [] first_state 1 (done ++ more)) (front ++ back) rest
+      → (k : Ends done front (replies, state)) → AskNoMore k.served back
+  back_is_quiet all done more replies state front back rest n ran begun k =
+      elim (run_splits contexts done more [] first_state 1 front back replies state rest refl ran begun) [
+        | inl stops ↦ subst (λ (es : List Entry). AskNoMore k.served es) (sym stops) (none_no_more k.served)
+        | inr on ↦ by_going on.0 (k.goes on.1)
+      ]
+    where
+      by_going : GoesOnBy contexts replies state 1 done more back rest → (k.line ≡ length done + 1) × Serves done k.line front state k.served → AskNoMore k.served back
+      by_going g v x i side told h =
+          let cut = cut_of back _ h in
+          let line : g.now ≡ k.line = (let p = g.is in let q = v.0 in omega (arith, p, q)) in
+          let left : Left (run contexts replies state k.line more) back rest = subst (λ (y : ℕ). Left (run contexts replies state y more) back rest) line g.left in
+          (allows_at (Asks2 (done ++ more) k.served) (Ends (done ++ more)) front (run contexts replies state k.line more) rest cut.front (entry (own_of x) (Call.Recv side) told) cut.back
+          (lines (done ++ more) k.served replies state k.line done more front k.served refl v.0 (λ y j. j) k.each n k.replied k.fine v.1)
+          (subst (λ (es : List Entry). Left (run contexts replies state k.line more) es rest) cut.is left)).1 x i side refl refl
 
   -- and with the replies that were given by then
   pub runs_licensed : (steps : List Step) (log : List Entry) (replies : List Reply) → HasRun contexts steps log replies → IsLicensed contexts steps log replies
   runs_licensed steps log replies h =
-      let at_front : EachMayReply h.front h.done replies = (reached (MayAsk contexts h.done) (Ends h.done) []
-      (run contexts [] first_state 1 h.done) h.front (Give (replies, h.state)) (from_first h.done) h.ran).0 in
-      let in_log : EachMayReply log h.done replies = subst (λ (es : List Entry). EachMayReply es h.done replies) (sym h.cut) (replies_more h.front h.back h.done replies at_front) in
-      with_replies contexts steps log replies (subst (λ (steps : List Step). EachMayReply log steps replies) (sym h.first) (replies_longer log h.done h.more replies in_log)) (begun_licensed steps log h.rest h.begun)
+      let begun : Left (run contexts [] first_state 1 (h.done ++ h.more)) (h.front ++ h.back) h.rest =
+      subst (λ (es : List Entry). Left (run contexts [] first_state 1 (h.done ++ h.more)) es h.rest) h.cut (subst (λ (steps : List Step). Left (run contexts [] first_state 1 steps) log h.rest) h.first h.begun) in
+      let k : Ends h.done h.front (replies, h.state) = reached (Asks2 h.done []) (Ends h.done) [] (run contexts [] first_state 1 h.done) h.front (Give (replies, h.state)) (from_first h.done) h.ran in
+      let quiet : AskNoMore k.served h.back = back_is_quiet steps h.done h.more replies h.state h.front h.back h.rest h.answered h.ran begun k in
+      let whole : List Step = h.done ++ h.more in
+      let said : Replied whole (h.front ++ h.back) [] 1 h.done replies k.served = replied_more (goes_on h.done h.more) h.front h.back [] 1 h.done replies k.served quiet k.replied in
+      let in_log : EachMayReply whole (h.front ++ h.back) [] 1 whole replies = each_may whole (h.front ++ h.back) [] 1 whole replies k.served (replied_longer whole (h.front ++ h.back) [] 1 h.done h.more replies k.served said) in
+      with_replies contexts steps log replies (subst (λ (es : List Entry). EachMayReply steps es [] 1 steps replies) (sym h.cut) (subst (λ (all : List Step). EachMayReply all (h.front ++ h.back) [] 1 all replies) (sym h.first) in_log)) (begun_licensed steps log h.rest h.begun)
 
   -- a run of which each line was answered
   pub whole_licensed : (steps : List Step) (log : List Entry) (replies : List Reply) (m : Machine) → length replies ≡ length steps → Left (run contexts [] first_state 1 steps) log (Give (replies, m)) → IsLicensed contexts steps log replies

@@ -7,14 +7,17 @@ use Rattle.wasi_walks.proofs.Words.{SocketAddressFamily, Some, Standing, Step, S
 use Rattle.wasi_walks.proofs.Words.{WriteState, Yes, [], call_place, entry, kind_at, marks_in, own_of, side_of, true, wildcard, ℕ, ⊤, ◌++◌}
 use Rattle.wasi_walks.proofs.Words.{◌+◌, ◌∷◌, ◌≡◌}
 use Rattle.wasi_walks.proofs.walks.Moves.{Interface, ListensFor, MakesUdpFor, record_of, udp_record_of, sending_in, receiving_in, IsOfHandle, CallKind, IsCall, kind_of}
-use Rattle.wasi_walks.proofs.licence.Besides.{BesidesAreFine}
-use Rattle.wasi_walks.proofs.licence.Lookups.{LookupsAreFine, NamesNone}
+use Rattle.wasi_walks.proofs.licence.Lookups.{LookupIsFine, LookupsAreFine, NamesNone}
 use Rattle.wasi_host.specs.Blocking.{blocking_handles}
 use Rattle.wasi_host.specs.Kinds.{name_of}
 use Rattle.wasi_tcp.specs.declared.writer.WriteError.{WriteError}
 use Rattle.wasi_world.specs.Operation.{End, Refused}
-use Rattle.wasi_walks.specs.Licence.{handles_of, IsMarkedAs, WriteFailed, IsRemote, IsSendOf, IsStreamOf, IsUdpBindTo, IsUdpConnectTo, MakesTcp, MakesUdp, MaySendOut, Receives, WasDisconnected}
+use Rattle.wasi_walks.specs.Licence.{handles_of, IsReceive, IsMarkedAs, WriteFailed, IsRemote, IsSendOf, IsStreamOf, IsUdpBindTo, IsUdpConnectTo, MakesTcp, MakesUdp, MaySendOut, Receives, WasDisconnected}
 use Rattle.std.specs.Prelude.{Bool, IsSome, slice_get, ◌⊎◌}
+use Rattle.std.specs.List.{AllByRecursion}
+use Rattle.wasi_host.specs.declared.beside.Beside.{Beside}
+use Rattle.wasi_host.specs.declared.beside.BesideCall.{BesideCall}
+use Rattle.wasi_host.specs.declared.beside.BesideCall.TheVariants as beside
 use Rattle.wasi_walks.proofs.walks.Here.{end_place}
 use Rattle.wasi_world.specs.declared.datagram.OutgoingDatagram.{OutgoingDatagram}
 use Rattle.wasi_host.specs.declared.store.StandingCall.{StandingCall}
@@ -410,11 +413,29 @@ module _ (steps : List Step) where
 
   abbrev pub CreateStands : List Record → StandingCall → Type 0
   CreateStands records (StandingCall.UdpCreate place face) = IsMadeFor records place face
+  CreateStands records (StandingCall.DropOutput place) = IsSome (tcp2_at records place)
   CreateStands records _ = ⊤
 
-  -- a create that is pending names none, but its record is of its interface; and a call on handles says which
+  -- a create that is pending names none, but its record is of its interface; the drop of an output is of a TCP socket; and a call on
+  -- handles says which
   abbrev pub StandingIsFine : List Entry → List Record → Standing → Type 0
   StandingIsFine es records s = (IsOfHandle s.call → LineNames es records s.ids.line (call_place s.call)) × StreamsStand s.ids.line s.call × CreateStands records s.call
+
+-- == calls that stand beside others
+-- a connect
+abbrev pub IsConnectStep : Step → Type 0
+IsConnectStep s = (addr : IpSocketAddress) × IsConnectTo addr s
+
+-- the step of its line is such a call, and a datagram may be polled
+module _ (contexts : List WasiSocketsCtx) (steps : List Step) (es : List Entry) where
+  abbrev pub CallIsFine : ℕ → BesideCall → Type 0
+  CallIsFine line (beside.Connect place) = BeganBy steps (own_of line) IsConnectStep
+  CallIsFine line (beside.Resolve host) = LookupIsFine contexts steps (record { id = own_of line; host = host })
+  CallIsFine line (beside.Send place op) = (op.who.id ≡ own_of line) × SendIsFine steps es op
+  CallIsFine line (beside.Receive place op) = (op.who.id ≡ own_of line) × ReceiveIsFine steps es op × BeganBy steps (own_of line) IsReceive
+
+  abbrev pub BesidesAreFine : List Beside → Type 0
+  BesidesAreFine calls = AllByRecursion (λ b. CallIsFine b.line b.call) calls
 
 pub record StateIsFine (contexts : List WasiSocketsCtx) (steps : List Step) (es : List Entry) (m : Machine) : Type 0 where
   pub count : m.table.next ≡ marks_in es + 1
@@ -422,7 +443,7 @@ pub record StateIsFine (contexts : List WasiSocketsCtx) (steps : List Step) (es 
   pub records : (place : ℕ) (r : TcpRecord) → tcp2_at m.store.records place ≡ Some r → RecordIsFine steps es r
   pub udp : (place : ℕ) (u : UdpRecord) → udp2_at m.store.records place ≡ Some u → UdpIsFine steps es u
   pub lookups : LookupsAreFine contexts steps m.store.records
-  pub besides : BesidesAreFine contexts steps m.store.beside
+  pub besides : BesidesAreFine contexts steps es m.store.beside
   pub standing : (c : Standing) → m.store.standing ≡ Some c → StandingIsFine steps es m.store.records c
   pub accepts : (place : ℕ) (r : TcpRecord) → tcp2_at m.store.records place ≡ Some r → ListeningStands es r.listening
   pub one : OneHolds m.store.records

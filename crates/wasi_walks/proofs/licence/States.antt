@@ -13,7 +13,7 @@ use Rattle.wasi_jobs.specs.declared.job.HostJob.{HostJob}
 use Rattle.wasi_records.specs.declared.records.Record.TheVariants.{Tcp, Udp}
 use Rattle.wasi_records.specs.declared.udp.UdpRecord.{UdpRecord}
 use Rattle.wasi_walks.proofs.Lists.{has_last, marks_in-push, value_split}
-use Rattle.wasi_walks.proofs.licence.Besides.{BesidesAreFine}
+use Rattle.wasi_walks.proofs.licence.Besides.{BesidesAreFine, besides_more}
 use Rattle.wasi_walks.proofs.licence.Lookups.{lookups_put, lookups_push}
 use Rattle.wasi_walks.proofs.licence.State.{HandleIsFine, NamesItsOwn, ListeningStands, accept_name, SocketIsFine, RecordIsFine, UdpIsFine, StandingIsFine, StateIsFine}
 use Rattle.wasi_walks.proofs.licence.Frames.{Spared, stands_more, KeepsListening, Only, stands_put, one_put, stands_push, one_push, stay, record_more}
@@ -30,7 +30,7 @@ module _ (contexts : List WasiSocketsCtx) (steps : List Step) where
     records = λ place r e. record_more (stay steps) es _ r (h.records place r e);
     udp = λ place u e. udp_more (stay steps) es _ u (h.udp place u e);
     lookups = h.lookups;
-    besides = h.besides;
+    besides = besides_more contexts (stay steps) es _ m.store.beside h.besides;
     standing = λ s e. standing_more (stay steps) es _ m.store.records s (h.standing s e);
     accepts = λ place r e. stands_more es op c told r.listening (h.accepts place r e) (λ x n. q place r x e n);
     one = h.one;
@@ -53,7 +53,7 @@ module _ (contexts : List WasiSocketsCtx) (steps : List Step) where
     records = λ place r e. record_more (stay steps) es _ r (h.records place r e);
     udp = λ place u e. udp_more (stay steps) es _ u (h.udp place u e);
     lookups = h.lookups;
-    besides = h.besides;
+    besides = besides_more contexts (stay steps) es _ m.store.beside h.besides;
     standing = λ s e. standing_more (stay steps) es _ m.store.records s (h.standing s e);
     accepts = λ place r e. stands_more es op _ told r.listening (h.accepts place r e) (λ x n. q place r x e n);
     one = h.one;
@@ -174,7 +174,7 @@ module _ (contexts : List WasiSocketsCtx) (steps : List Step) where
   state_unstands es m h = record { count = h.count; handles = h.handles; records = h.records; udp = h.udp; lookups = h.lookups; besides = h.besides; standing = λ d e. absurd (cc); accepts = h.accepts; one = h.one }
 
   -- other calls stand beside others
-  pub state_beside : (es : List Entry) (m : Machine) (beside : List Beside) → BesidesAreFine contexts steps beside → StateIsFine contexts steps es m → StateIsFine contexts steps es (record m { store = record m.store { beside = beside } })
+  pub state_beside : (es : List Entry) (m : Machine) (beside : List Beside) → BesidesAreFine contexts steps es beside → StateIsFine contexts steps es m → StateIsFine contexts steps es (record m { store = record m.store { beside = beside } })
   state_beside es m beside f h = record { count = h.count; handles = h.handles; records = h.records; udp = h.udp; lookups = h.lookups; besides = f; standing = h.standing; accepts = h.accepts; one = h.one }
 
   -- which writes are in progress is nothing to it

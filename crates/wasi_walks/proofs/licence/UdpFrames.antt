@@ -133,6 +133,11 @@ module _ (es : List Entry) (old now : List Record) (k : KeepsSides old now) wher
 -- == the pending call
 create_kept : (steps : List Step) (old now : List Record) → KeepsSides old now → (call : StandingCall) → CreateStands steps old call → CreateStands steps now call
 create_kept steps old now k (StandingCall.UdpCreate place face) h = let m = k.udp place h.found h.at in record { found = m.found; at = m.at; made = subst (λ (s : OpId). BeganBy steps s (MakesUdpFor face)) (sym m.same) h.made }
+create_kept steps old now k (StandingCall.DropOutput place) h = tcp_still (tcp2_at old place) refl h
+  where
+    tcp_still : (o : Option TcpRecord) → tcp2_at old place ≡ o → IsSome o → IsSome (tcp2_at now place)
+    tcp_still None e some = absurd (cc)
+    tcp_still (Some r) e some = ap (λ (o : Option TcpRecord). is_some o) (k.tcp place r e).at
 create_kept steps old now k _ h = tt
 
 module _ {steps : List Step} (es : List Entry) (old now : List Record) (k : KeepsSides old now) where
@@ -156,6 +161,7 @@ module _ {steps now : List Step} (goes : Goes steps now) where
 
   create_more : (records : List Record) (call : StandingCall) → CreateStands steps records call → CreateStands now records call
   create_more records (StandingCall.UdpCreate place face) h = record { found = h.found; at = h.at; made = began_more goes (udp_side h.found) _ h.made }
+  create_more records (StandingCall.DropOutput place) h = h
   create_more records _ h = tt
 
   pub standing_more : (es fs : List Entry) (records : List Record) (s : Standing) → StandingIsFine steps es records s → StandingIsFine now (es ++ fs) records s

@@ -83,7 +83,7 @@ module _ (contexts : List WasiSocketsCtx) (steps : List Step) (line : ℕ) (orig
       (kept contexts steps line origin is_line h (λ fs ended. UdpBindIsFine steps fs (left_of op ended.1)) es (poll_asks op) i (fine_poll_udp_bind contexts steps op es f))
 
   -- what asks quietly, and somehow else
-  quietly : {A : Type 0} (N : Call → Type 0) (h : Here) (Q : List Entry → A → Type 0) (es : List Entry) (asks : Asks A) → Licensed contexts steps line origin es h → Allows (λ fs o c. MayQuietly contexts steps fs o c × N c) Q es asks → Allows (MayAskSo contexts steps) (λ fs a. Licensed contexts steps line origin fs h × Q fs a) es asks
+  pub quietly : {A : Type 0} (N : Call → Type 0) (h : Here) (Q : List Entry → A → Type 0) (es : List Entry) (asks : Asks A) → Licensed contexts steps line origin es h → Allows (λ fs o c. MayQuietly contexts steps fs o c × N c) Q es asks → Allows (MayAskSo contexts steps) (λ fs a. Licensed contexts steps line origin fs h × Q fs a) es asks
   quietly N h Q es asks i a =
       allows_keep (λ fs o c. MayQuietly contexts steps fs o c × N c) (MayAskSo contexts steps) (λ fs. Licensed contexts steps line origin fs h) Q
       (λ fs op c t fits k m. asked_fine contexts steps line origin is_line fs h op c t m.0.0.1 (spares contexts steps line origin is_line h c m.0.1) k) (λ fs op c m. m.0.0.0) es asks i a

@@ -130,10 +130,10 @@ module _ (contexts : List WasiSocketsCtx) (steps : List Step) (line : ℕ) (orig
   )
 
   -- == the end
-  pub udp_closed : (es : List Entry) (h : Here) (place : ℕ) (o : OpenUdp) (told : Told) → FoundUdp h place (UdpRecord.Open o) → Licensed contexts steps line origin es h → Licensed contexts steps line origin (es ++ entry (own_of line) (Call.Close o.inner.side) told ∷ []) (put_udp h place (UdpRecord.Closed o.inner.side))
-  udp_closed es h place o told g i =
-      let fs : List Entry = es ++ entry (own_of line) (Call.Close o.inner.side) told ∷ [] in
-      let j = asked_fine contexts steps line origin is_line es h (own_of line) (Call.Close o.inner.side) told tt (spares contexts steps line origin is_line h (Call.Close o.inner.side) tt) i in
+  pub udp_closed : (es : List Entry) (h : Here) (place n : ℕ) (o : OpenUdp) (told : Told) → FoundUdp h place (UdpRecord.Open o) → Licensed contexts steps line origin es h → Licensed contexts steps line origin (es ++ entry (own_of n) (Call.Close o.inner.side) told ∷ []) (put_udp h place (UdpRecord.Closed o.inner.side))
+  udp_closed es h place n o told g i =
+      let fs : List Entry = es ++ entry (own_of n) (Call.Close o.inner.side) told ∷ [] in
+      let j = asked_fine contexts steps line origin is_line es h (own_of n) (Call.Close o.inner.side) told tt (spares contexts steps line origin is_line h (Call.Close o.inner.side) tt) i in
       put_udp_fine fs h place (UdpRecord.Open o) (UdpRecord.Closed o.inner.side) g refl (record { maker = o.inner.maker; family = o.inner.family; made = (open_at_place contexts steps line origin is_line fs h place o g j).made }) j
 
   -- == a create

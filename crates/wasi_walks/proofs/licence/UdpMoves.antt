@@ -57,7 +57,7 @@ for_where d family (Some r) None e = inr (e, refl)
 for_where d family None (Some a) e = by_sendable d (is_sendable family a) (record { addr = a; kept = false }) (inl e)
 for_where d family (Some r) (Some a) e = by_sendable d (is_sendable family a && same_address a r) (record { addr = a; kept = true }) (inl e)
 
-goes_for : (d : OutgoingDatagram) (socket : Socket) → GoesFor d (send_to socket d.bytes d.remote_address)
+pub goes_for : (d : OutgoingDatagram) (socket : Socket) → GoesFor d (send_to socket d.bytes d.remote_address)
 goes_for d socket = by_size (nat_lt 65535 (length d.bytes))
   where
     by_size : (b : Bool) → GoesFor d (if b then Err DatagramTooLarge else where_to socket.family socket.remote d.remote_address)
@@ -176,7 +176,7 @@ module _ (contexts : List WasiSocketsCtx) (steps : List Step) (line : ℕ) (orig
       owned es _ (ToConnect place) (λ u. absurd (cc)) (λ x t. absurd t) (put_udp_fine es h place (UdpRecord.Open o) now g refl (record { made = f.made; bound = f.bound; progress = f.progress; connecting = begun; sending = f.sending; receiving = f.receiving }) i)
 
   -- where a datagram goes
-  first_left : (es : List Entry) (op side : OpId) (maker : ℕ) (family : SocketAddressFamily) (d : OutgoingDatagram) (to : Result Destination ErrorCode) (b : Bool) → GoesFor d to → (b ≡ true → IsBoundSide es side ⊎ WasDisconnected es side)
+  pub first_left : (es : List Entry) (op side : OpId) (maker : ℕ) (family : SocketAddressFamily) (d : OutgoingDatagram) (to : Result Destination ErrorCode) (b : Bool) → GoesFor d to → (b ≡ true → IsBoundSide es side ⊎ WasDisconnected es side)
       → SendLeft es op side maker family d (send_left family d.bytes (send_first to b))
   first_left es op side maker family d (Err c) b k out = SendRefused c
   first_left es op side maker family d (Ok to) true k out = SendUnchecked to.kept to.addr k (inl (out refl))
@@ -199,7 +199,7 @@ module _ (contexts : List WasiSocketsCtx) (steps : List Step) (line : ℕ) (orig
       } in
       owned es _ (Own.Names (n + 1)) (λ e. absurd (cc)) (next_shrinks line n h.own u) (put_udp_fine es h place (UdpRecord.Open o) (UdpRecord.Open (sending_now o out op)) g refl (record { made = f.made; bound = f.bound; progress = f.progress; connecting = f.connecting; sending = begun; receiving = f.receiving }) i)
 
-  received_first : (b : Bool) → IsLeftOfReceive (receive_left None (receive_first b))
+  pub received_first : (b : Bool) → IsLeftOfReceive (receive_left None (receive_first b))
   received_first true = IsLeftOfReceive.Unreceived None
   received_first false = IsLeftOfReceive.ToRefuse InvalidState
 

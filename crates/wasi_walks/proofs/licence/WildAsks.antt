@@ -13,8 +13,16 @@ use Rattle.wasi_tcp.specs.Connect.{IsConnect}
 use Rattle.wasi_tcp.specs.Listen.{IsListen}
 use Rattle.wasi_udp.specs.Bind as udp_bind
 use Rattle.wasi_udp.specs.Create.{create_cancel_asks, new_create, after_create as udp_after_create}
-use Rattle.wasi_udp.specs.Receive.{wanting}
-use Rattle.wasi_udp.specs.Send.{at_remote}
+use Rattle.wasi_udp.specs.Receive.{receive_start, wanting}
+use Rattle.wasi_udp.specs.Send.{at_remote, send_start}
+use Rattle.wasi_host.specs.declared.beside.Beside.{Beside}
+use Rattle.wasi_host.specs.declared.beside.BesideCall.{BesideCall}
+use Rattle.wasi_host.specs.declared.beside.BesideCall.TheVariants.{Send, Receive}
+use Rattle.wasi_records.specs.declared.udp.OpenUdp.{OpenUdp}
+use Rattle.wasi_walks.proofs.BesideLists.{found_has}
+use Rattle.wasi_walks.proofs.fits.Datagrams.{FitBeside}
+use Rattle.wasi_walks.proofs.fits.UdpFits.{begun_receive, begun_send}
+use Rattle.wasi_walks.proofs.walks.Moves.{PollsDatagram, PollsReceive, PollsSend, StartsDatagram, StartsReceive, StartsSend, datagram_begun, datagram_polled, with_beside}
 use Rattle.wasi_host.specs.Kinds.{udp_kind}
 use Rattle.wasi_host.specs.declared.kind.Kind.TheVariants.{Listen3, Result3, Tcp3}
 use Rattle.wasi_records.specs.Records.{tcp2_at}
@@ -219,6 +227,26 @@ module _ (contexts : List WasiSocketsCtx) (steps : List Step) (line : ℕ) (orig
   polls_wild es h _ _ (walk.SendsOn place o out op left g e f s) b w = let its : SendOn o.inner.side op = subst (FitSending o.inner.side) (ap sending_in e ∙ ap send_op f) (b.0.udps place (UdpRecord.Open o) g).2 in udp_poll es h place (at_remote o.inner.remote op) _ (send_plain ⊥ op.left its.send.left) w
   polls_wild es h _ _ (walk.ReceivesOn place o inc op g e f) b w = let its : ReceiveOn o.inner.side op = subst (FitReceiving o.inner.side) (ap receiving_in e ∙ ap receive_op f) (b.0.udps place (UdpRecord.Open o) g).3 in udp_poll es h place (wanting inc.remote op) _ (receive_plain ⊥ (wanting inc.remote op).left (wanted_left inc.remote op.left its.receive.left)) w
 
+  -- a datagram of 0.3
+  datagram_wild : (es : List Entry) (h : Here) (op : Operation) (calls : End × List Item → List Beside) → AllAskBut ⊥ op.left → Wilds line es h → Allows Anything (λ fs ended. Wilds line fs (with_beside h (calls ended))) es (poll_asks op)
+  datagram_wild es h op calls k w = allows_weaker Anything (λ fs ended. Wilds line fs h) (λ fs ended. Wilds line fs (with_beside h (calls ended))) (λ fs ended x. record { wild = x.wild; older = x.older }) es (poll_asks op) (poll_wild es h op k w)
+
+  begins_wild : (es : List Entry) (h : Here) (place : ℕ) (o : OpenUdp) (call : Operation → BesideCall) (op polled : Operation) → StartsDatagram line origin h.machine.table place o call op polled → Wilds line es h
+      → Allows Anything (λ fs ended. Wilds line fs (record (with_beside h (datagram_begun h.machine.store.beside line call op ended)) { own = Used })) es (poll_asks polled)
+  begins_wild es h place o call _ _ (StartsSend c s d bound is of known) w =
+      let op : Operation = send_start (own_of line) o.inner d.bytes d.remote_address bound in
+      allows_weaker Anything (λ fs ended. Wilds line fs h) _ (λ fs ended x. (let k = spent_wild x in record { wild = k.wild; older = k.older })) es (poll_asks (at_remote o.inner.remote op))
+      (poll_wild es h (at_remote o.inner.remote op) (send_plain ⊥ op.left (begun_send (own_of line) o.inner d.bytes d.remote_address bound).send.left) w)
+  begins_wild es h place o call _ _ (StartsReceive c s bound is of known) w =
+      let op : Operation = receive_start (own_of line) o.inner bound in
+      allows_weaker Anything (λ fs ended. Wilds line fs h) _ (λ fs ended x. (let k = spent_wild x in record { wild = k.wild; older = k.older })) es (poll_asks (wanting None op))
+      (poll_wild es h (wanting None op) (receive_plain ⊥ (wanting None op).left (wanted_left None op.left (begun_receive (own_of line) o.inner bound).receive.left)) w)
+
+  polled_wild : (es : List Entry) (h : Here) (n place : ℕ) (o : OpenUdp) (was : BesideCall) (call : Operation → BesideCall) (op polled : Operation) (k : ℕ) → PollsDatagram place o was call op polled → FitBeside h.machine.store.records k was → Wilds line es h
+      → Allows Anything (λ fs ended. Wilds line fs (with_beside h (datagram_polled h.machine.store.beside n call op ended))) es (poll_asks polled)
+  polled_wild es h n place o _ _ _ _ k (PollsSend op) f w = datagram_wild es h (at_remote o.inner.remote op) (datagram_polled h.machine.store.beside n (Send place) op) (send_plain ⊥ op.left f.1.left) w
+  polled_wild es h n place o _ _ _ _ k (PollsReceive op) f w = datagram_wild es h (wanting None op) (datagram_polled h.machine.store.beside n (Receive place) op) (receive_plain ⊥ (wanting None op).left (wanted_left None op.left f.1.left)) w
+
   -- == what a line asks
   pub wilds_asks : (es : List Entry) (h : Here) (A : Type 0) (tree : Asks A) (end : A → Here)
       → Asked contexts line origin es h A tree end → Base contexts line origin h × Keeps es h.machine.store.records → Licensed contexts steps line origin es h → Wilds line es h
@@ -237,6 +265,8 @@ module _ (contexts : List WasiSocketsCtx) (steps : List Step) (line : ℕ) (orig
   wilds_asks es h _ _ _ (asking.MarksResult socket place slot r m made e g) b i w = allows_weaker Anything (λ fs made. Wilds line fs h) _ (λ fs made k. record { wild = k.wild; older = k.older }) es _ (marks_wild es h (own_of line) (Result3 slot) (Some socket) _ w)
   wilds_asks es h _ _ _ (asking.WritesOnce c handle place given end r s half permit is e f at g q x own) b i w = write_wild es h half.side (take 4294967295 given) w
   wilds_asks es h _ _ _ (asking.Polls op after k) b i w = polls_wild es h op after k b.0 w
+  wilds_asks es h _ _ _ (asking.BeginsDatagram place o call op polled at g starts made own) b i w = begins_wild es h place o call op polled starts w
+  wilds_asks es h _ _ _ (asking.PollsBeside n c place o call op polled is at g polls) b i w = (let its = found_has h.machine.store.beside n c at in polled_wild es h n place o c.call call op polled c.line polls (b.0.3.besides c its.0) w)
   wilds_asks es h _ _ _ (asking.Turns place r s g e) b i w =
       let f = (i.fine.records place r g).streams s e in
       allows_weaker Anything (λ fs done. Wilds line fs h × WritesOn steps fs f.side done.1) (λ fs done. Wilds line fs (put h place (with_writer r s done.1))) (λ fs done k. put_wild h place r (with_writer r s done.1) g (same r) k.0) es (turn_asks s.writer)
@@ -248,7 +278,7 @@ module _ (contexts : List WasiSocketsCtx) (steps : List Step) (line : ℕ) (orig
   wilds_asks es h _ _ _ (asking.UdpDisconnects place o at g is) b i w = (tt, λ told f. put_udp_wild h place _ (quiet_wild es h (own_of line) _ told tt w))
   wilds_asks es h _ _ _ (asking.UdpLearns place part o at g) b i w = (tt, λ told f. put_udp_wild h place _ (udp_question_wild es h (part_of line part) place (UdpRecord.Open o) (Call.Local o.inner.side) told g (λ x e. local_side o.inner.side x e) b.0.1 w))
   wilds_asks es h _ _ _ (asking.UdpPeers place o at g) b i w = (tt, λ told f. put_udp_wild h place _ (quiet_wild es h (own_of line) _ told tt w))
-  wilds_asks es h _ _ _ (asking.UdpCloses place o q g) b i w = (tt, λ told f. put_udp_wild h place _ (quiet_wild es h (own_of line) _ told tt w))
+  wilds_asks es h _ _ _ (asking.UdpCloses place n o q g) b i w = (tt, λ told f. put_udp_wild h place _ (quiet_wild es h (own_of n) _ told tt w))
   wilds_asks es h _ _ _ (asking.UdpBegins face ctx family c may a o past) b i w = (tt, λ told f. begun_wild _ h ctx.name family (told_done told) (quiet_wild es h (own_of line) _ told tt w))
   wilds_asks es h _ _ _ (asking.MarksUdp face place u g) b i w = allows_weaker Anything (λ fs made. Wilds line fs h) _ (λ fs made k. record { wild = k.wild; older = k.older }) es _ (marks_wild es h (udp_side u) (udp_kind face place) None (Some (udp_side u)) w)
   wilds_asks es h _ _ _ (asking.MarksStream place n handle reached kind m new e) b i w = allows_weaker Anything (λ fs made. Wilds line fs h) _ (λ fs made k. record { wild = k.wild; older = k.older }) es _ (marks_wild es h (own_of n) kind (Some handle) _ w)

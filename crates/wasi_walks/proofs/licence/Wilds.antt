@@ -9,6 +9,7 @@ use Rattle.wasi_walks.proofs.Words.{refl, subst, sym, ℕ, ◌++◌, ◌∙◌, 
 use Rattle.wasi_records.specs.Records.{tcp2_at, tcp2_of, tcp2_pushed}
 use Rattle.wasi_records.specs.declared.name_lookup.LookupOp.{LookupOp}
 use Rattle.wasi_records.specs.declared.records.Record.{Record}
+use Rattle.wasi_records.specs.Udp.{without_udp_socket}
 use Rattle.wasi_records.specs.declared.udp.UdpRecord.{UdpRecord}
 use Rattle.wasi_walks.proofs.GoneLists.{was_there}
 use Rattle.wasi_walks.proofs.Lists.{has_split}
@@ -111,6 +112,7 @@ module _ {line : ℕ} where
   moves_wild origin es _ _ (walk.TakesEnd h handle place r _ of g (walk.OfSend c e free)) w = put_wild h place r _ g (λ side s b. absurd (cc)) w
   moves_wild origin es _ _ (walk.AddsSlot h s) w = let k = records_wild {new = λ op. ⊥} h (slot_pushed h.machine.store.records s) (slot_push_same h.machine.store.records s) w in record { wild = k.wild; older = k.older }
   moves_wild origin es _ _ (walk.Finds h records s) w = records_wild h records s w
+  moves_wild origin es _ _ (walk.DropsUdp h place o idle made g) w = (let k = put_udp_wild h place (UdpRecord.Open (without_udp_socket o)) w in record { wild = k.wild; older = k.older })
   moves_wild origin es _ _ (walk.GivesBack h place idle left) w = record { wild = λ k q g. w.wild k q (was_there tcp2_of refl h.machine.store.records place k q g); older = w.older }
   moves_wild origin es _ _ _ w = record { wild = w.wild; older = w.older }
 

@@ -12,23 +12,25 @@ use Rattle.wasi_host.specs.declared.kind.Kind.TheVariants.{Result3, Incoming, Li
 use Rattle.wasi_host.specs.declared.kind.PlainInput.TheVariants as plain_input
 use Rattle.wasi_host.specs.declared.kind.PlainOutput.TheVariants as plain_output
 use Rattle.wasi_records.specs.declared.records.Record.{Record}
+use Rattle.wasi_records.specs.declared.udp.OpenUdp.{OpenUdp}
 use Rattle.wasi_records.specs.declared.udp.UdpRecord.{UdpRecord}
+use Rattle.wasi_records.specs.Datagrams.{udp_connect_left, udp_reconnect_left}
 use Rattle.wasi_tcp.specs.declared.listener.Accepting.TheVariants as accepting
 use Rattle.wasi_walks.proofs.Lists.{get_seam}
 use Rattle.wasi_walks.proofs.Slots.{one_of}
 use Rattle.wasi_walks.proofs.fits.Law.{whatever}
 use Rattle.wasi_walks.proofs.walks.Law.{BeginsWrites, InCall, Law}
-use Rattle.wasi_walks.proofs.walks.OfState.{OfResult, Becomes, Learnt, IsClosed, GivenUp, UdpLearnt, UdpIsClosed, UdpGivenUp, UdpBegun, Resolved, StandsOn, HasHandle, NoRoom, Created, CreatedWith, Writing, Handles, OfLine, OfListener, OfPlain, OfAccepted, OfCreated, OfStream, OfError, HasNoRoom, OfState, begins_state, of_state}
+use Rattle.wasi_walks.proofs.walks.OfState.{OfResult, Becomes, Learnt, IsClosed, GivenUp, UdpLearnt, UdpIsClosed, UdpGivenUp, UdpBegun, Resolved, StandsOn, DatagramBegan, DatagramPolled, HasHandle, NoRoom, Created, CreatedWith, Writing, Handles, OfLine, OfListener, OfPlain, OfAccepted, OfCreated, OfStream, OfError, HasNoRoom, OfState, begins_state, of_state}
 use Rattle.wasi_walks.proofs.Words.{Done, Refused, Waits, new_socket}
 use Rattle.wasi_walks.proofs.walks.Moves as walk
-use Rattle.wasi_walks.proofs.walks.Moves.{ToResult, TakesHalf, Interface, IsUdpDropped, P2, P3, tcp_kind, ToListen, ListenerGoes, udp_socket_of, Emptied, Faulted, Freed, Found, FoundUdp, Held, Here, IsLeft, IsMadeUnder, IsNumbered, IsOpenUdp, Joined, Made, MakesPlain, Marked, Marks, Move, Numbered, Past, GoesOn, Plain, SameSockets, ToSend, accepting_now, faulted, joined, joined_plain, joins_as, made_so, one_stream, put, put_udp, udp_begun, with_records, without_record}
+use Rattle.wasi_walks.proofs.walks.Moves.{ToResult, TakesHalf, Interface, P2, P3, tcp_kind, ToListen, ListenerGoes, Emptied, Faulted, Freed, Found, FoundUdp, Held, Here, IsLeft, IsMadeUnder, IsNumbered, IsOpenUdp, Joined, Made, MakesPlain, Marked, Marks, Move, Numbered, Past, GoesOn, Plain, SameSockets, ToSend, accepting_now, faulted, joined, joined_plain, joins_as, made_so, one_stream, put, put_udp, udp_begun, with_records, without_record}
 use Rattle.std.specs.Prelude.{IsSome, is_some}
 use Rattle.wasi_walks.specs.Answered.{streams_in}
 use Rattle.wasi_records.specs.Records.{open_of, tcp2_of}
-use Rattle.wasi_walks.proofs.owners.Names.{Names, listens_in, socket_in, unheld_none, unless_dropped}
+use Rattle.wasi_walks.proofs.owners.Names.{Names, held_udp, listens_in, socket_in, unheld_none, unless_dropped}
 use Rattle.wasi_walks.proofs.Places.{slot_sort, push_finds, tcp_sort}
 use Rattle.wasi_walks.proofs.owners.Owned.{NoneOf, OneOwner, parent_of, HasStreams, IsNew, MadeSo, Owned, emptied_made, made_owned, numbered_still, one_still, other_still, taken_owned, HasSocket, StandsSo, none_of, listener_of, quiet_so, stands_still}
-pub use Rattle.wasi_walks.proofs.owners.Records.{Owns, StaysFor, begun_owns, gained, given_back_owns, left_made, left_none, no_udp_socket, no_udp_streams, none_at_end, none_open, none_set, past_end, push_made, push_owned, put_dropped, put_gone, put_live, put_none, put_open, put_owns, put_unlistened, same_owns, stay, udp_dropped, udp_ends, udp_owner, without_listener}
+pub use Rattle.wasi_walks.proofs.owners.Records.{Owns, StaysFor, udp_released, begun_owns, gained, given_back_owns, left_made, left_none, no_udp_socket, no_udp_streams, none_at_end, none_open, none_set, past_end, push_made, push_owned, put_dropped, put_gone, put_live, put_none, put_open, put_owns, put_unlistened, same_owns, stay, udp_dropped, without_listener}
 use Rattle.wasi_walks.proofs.owners.NewHandles.{IsOther, other_fits, no_record, end_other, pollable_fits, no_pollable, owner_fits, stream_fits, listener_fits, one_of_handle, owner_there, two_fits, two_own_none, plain_fits, plain_still, is_udp, created_stays, listened_streams, listener_lost, stands_so, taken_keeps, plain_owns}
 
 module _ (h : Here) (place : ℕ) (r : TcpRecord) (l : Listener) (g : Found h place r) (new : TcpRecord) where
@@ -75,6 +77,17 @@ plain_role (Step.Call c GuestCall.Sink) (PlainOutput plain_output.Sink) place ma
 plain_role (Step.Call c GuestCall.ClosedOut) (PlainOutput plain_output.Closed) place makes l = absurd (cc)
 plain_role _ _ place makes l = absurd makes
 
+-- a connect leaves its socket's handle
+connected_held : (op : Operation) (o : OpenUdp) (end : End × List Item) → (udp_connect_left op o end).dropped ≡ o.dropped
+connected_held op o (Waits, items) = refl
+connected_held op o (Done given, items) = refl
+connected_held op o (Refused c given, items) = refl
+
+reconnected_held : (op : Operation) (o : OpenUdp) (end : End × List Item) → (udp_reconnect_left op o end).dropped ≡ o.dropped
+reconnected_held op o (Waits, items) = refl
+reconnected_held op o (Done given, items) = refl
+reconnected_held op o (Refused c given, items) = refl
+
 module _ (contexts : List WasiSocketsCtx) (line : ℕ) (origin : Step) where
   pub moves_owns : (h now : Here) → Move line origin h now → Owns h → Owns now
   moves_owns _ _ (walk.Changes h place r now g p) i = plain_owns h place r now g p i
@@ -99,17 +112,17 @@ module _ (contexts : List WasiSocketsCtx) (line : ℕ) (origin : Step) where
       joins_owns h place r l g (faulted l c) (Faulted (length (idled h place r l g (faulted l c)))) (λ none. (none, subst (Names (Tcp3 place)) (sym (get_seam (idled h place r l g (faulted l c)) (Record.Tcp (faulted l c)))) refl)) i
   moves_owns _ _ (walk.Leaves h) i = (i.0, tt, i.2)
   moves_owns _ _ (walk.Watches h own) i = (i.0, tt, i.2)
-  moves_owns _ _ (walk.RemembersStreams h c handle place remote is of o g none) i = (i.0, tt, i.2)
-  moves_owns _ _ (walk.RecallsStreams h ids place handle e own) i = (i.0, tt, i.2)
+  moves_owns _ _ (walk.RemembersStreams h c handle place remote is of o g none) i = (i.0, is_udp (kind_at h.machine.table handle) place of, i.2)
+  moves_owns _ _ (walk.RecallsStreams h ids place handle e own) i = (i.0, subst (StandsSo h.machine.table) e i.2, i.2)
   moves_owns _ _ (walk.CallsHandles h kind calls q) i = (i.0, tt, i.2)
   moves_owns _ _ (walk.RecallsCall h ids call e) i = (i.0, tt, i.2)
-  moves_owns _ _ (walk.UdpChanges h place o now g p keeps) i = put_open h place o g now i
-  moves_owns _ _ (walk.BeginsUdpBind h place o a at g to own) i = put_open h place o g _ i
-  moves_owns _ _ (walk.BeginsUdpConnect h place o a bound at g to known none own) i = put_open h place o g _ i
-  moves_owns _ _ (walk.BeginsSend h place n o out d bound at g e item known own) i = put_open h place o g _ i
-  moves_owns _ _ (walk.BeginsReceive h place n o inc bound at g e is own) i = put_open h place o g _ i
-  moves_owns _ _ (walk.CancelsUdpBind h place o op q g e) i = put_open h place o g _ i
-  moves_owns _ _ (walk.CancelsUdpConnect h place o q g) i = put_open h place o g _ i
+  moves_owns _ _ (walk.UdpChanges h place o now g p keeps) i = put_open h place o g now p.dropped i
+  moves_owns _ _ (walk.BeginsUdpBind h place o a at g to own) i = put_open h place o g _ refl i
+  moves_owns _ _ (walk.BeginsUdpConnect h place o a bound at g to known none own) i = put_open h place o g _ refl i
+  moves_owns _ _ (walk.BeginsSend h place n o out d bound at g e item known own) i = put_open h place o g _ refl i
+  moves_owns _ _ (walk.BeginsReceive h place n o inc bound at g e is own) i = put_open h place o g _ refl i
+  moves_owns _ _ (walk.CancelsUdpBind h place o op q g e) i = put_open h place o g _ refl i
+  moves_owns _ _ (walk.CancelsUdpConnect h place o q g) i = put_open h place o g _ refl i
   moves_owns _ _ (walk.TakesEnd h handle place r now e g takes) i = put_owns h place r g now (taken_keeps r now takes) i
   moves_owns _ _ (walk.AddsSlot h s) i =
       let k = same_owns h (slot_pushed h.machine.store.records s) (slot_push_same {new = λ op. ⊥} h.machine.store.records s) i in
@@ -130,11 +143,12 @@ module _ (contexts : List WasiSocketsCtx) (line : ℕ) (origin : Step) where
   moves_owns _ _ (walk.Stands h ids call r q at g goes) i = (i.0, i.1, stands_so h.machine.table call r goes)
   moves_owns _ _ (walk.Unstands h over) i = (i.0, i.1, tt)
   moves_owns _ _ (walk.StandsUdpBind h ids place face o op q at g e) i = (i.0, i.1, tt)
-  moves_owns _ _ (walk.StandsUdpCreate h ids place face create q made g) i = (i.0, i.1, tt)
-  moves_owns _ _ (walk.StandsUdpConnect h ids place handle o op q at made g e) i = (i.0, i.1, tt)
+  moves_owns _ _ (walk.StandsUdpCreate h ids place face create q made g its) i = (i.0, i.1, tt)
+  moves_owns _ _ (walk.StandsUdpConnect h ids place handle o op q at made g e) i = (i.0, i.1, subst (MadeSo h.machine.table h.machine.store.records) made i.1)
   moves_owns _ _ (walk.StandsConnect h ids place o op q at made g e) i = (i.0, i.1, tt)
   moves_owns _ _ (walk.StandsDropOutgoing h ids place o q at g e) i = (i.0, i.1, tt)
   moves_owns _ _ (walk.StandsBlocking h ids call handles made e) i = (i.0, i.1, tt)
+  moves_owns _ _ (walk.DropsUdp h place o idle made g) i = put_none h place (UdpRecord.Open o) g _ (udp_dropped h place made i) i
   moves_owns _ _ (walk.GivesBack h place idle left) i = given_back_owns h place left i
   moves_owns _ _ _ i = i
 
@@ -165,7 +179,7 @@ module _ (contexts : List WasiSocketsCtx) (line : ℕ) (origin : Step) where
   first_fits P3 t records place none stays = owner_fits t records (Tcp3 place) place None refl (λ w e. absurd (cc)) none stays
 
   -- and so is a UDP socket
-  created_fits : (face : Interface) (t : HandleTable) (records : List Record) (place : ℕ) → NoneOf t place → IsSome (open_of (udp2_of (slice_get records place)))
+  created_fits : (face : Interface) (t : HandleTable) (records : List Record) (place : ℕ) → NoneOf t place → IsSome (held_udp (open_of (udp2_of (slice_get records place))))
       → IsNew t records (udp_kind face place) None
   created_fits P2 t records place none stays = owner_fits t records (Udp2 place) place None refl (λ w e. absurd (cc)) none stays
   created_fits P3 t records place none stays = owner_fits t records (Udp3 place) place None refl (λ w e. absurd (cc)) none stays
@@ -292,16 +306,17 @@ module _ (contexts : List WasiSocketsCtx) (line : ℕ) (origin : Step) where
   becomes_owns h _ (Learnt place r side told at g e) i = put_owns h place r g _ (refl, λ s. s, λ l. l) i
   becomes_owns h _ (IsClosed place r side q g e) i = put_gone h place _ q.1 i
   becomes_owns h _ (GivenUp place r q goes g) i = given_up_owns h place r goes g i
-  becomes_owns h _ (UdpLearnt place o socket g e) i = put_open h place o g _ i
+  becomes_owns h _ (UdpLearnt place o socket g e) i = put_open h place o g _ refl i
   becomes_owns h _ (UdpIsClosed place o q g) i =
-      put_none h place (UdpRecord.Open o) g (UdpRecord.Closed o.inner.side)
-      (udp_dropped h.machine.table h.machine.store.records h.made place q.1 i.1) i
+      put_none h place (UdpRecord.Open o) g (UdpRecord.Closed o.inner.side) (udp_released h place o g q i) i
   becomes_owns h _ (UdpGivenUp place create q g) i =
       put_none h place (UdpRecord.Creating create) g (UdpRecord.Closed create.operation.who.side)
       (none_open h place (UdpRecord.Creating create) g refl i) i
   becomes_owns h _ (UdpBegun face ctx family r c u m) i = begun_owns h (udp_after_create (own_of line) ctx.name family r) i
   becomes_owns h _ (Resolved host records l same) i = same_owns h records same i
-  becomes_owns h _ (StandsOn beside) i = i
+  becomes_owns h _ (StandsOn host told) i = i
+  becomes_owns h _ (DatagramBegan place o call op polled ended at g starts made own left) i = i
+  becomes_owns h _ (DatagramPolled n b place o call op polled ended is at g polls left) i = i
   becomes_owns h _ (HasHandle kind parent made k) i =
       let x = handles_owns h kind parent made k i in
       (made_owned h.machine.table h.machine.store.records kind parent x.new i.0, x.so, handles_stand h kind parent made k i)
@@ -328,11 +343,11 @@ module _ (contexts : List WasiSocketsCtx) (line : ℕ) (origin : Step) where
   polls_owns h _ _ (walk.Listens place r op q g e c) end i = put_owns h place r g _ (listened_dropped op r end, listened_streams op r end, gained r.listening (Begins op) e refl _) i
   polls_owns h _ _ (walk.Awaits place r l op g e a) end i = put_owns h place r g _ (refl, λ s. s, λ l. refl) i
   polls_owns h _ _ (walk.UdpCreates place create q g) end i = put_none h place (UdpRecord.Creating create) g _ (none_open h place (UdpRecord.Creating create) g refl i) i
-  polls_owns h _ _ (walk.UdpBindsOn place o op q g e) end i = put_open h place o g _ i
-  polls_owns h _ _ (walk.UdpConnectsOn place o op q g e) end i = put_open h place o g _ i
-  polls_owns h _ _ (walk.UdpReconnectsOn place o op q g e) end i = put_open h place o g _ i
-  polls_owns h _ _ (walk.SendsOn place o out op left g e s settles) end i = put_open h place o g _ i
-  polls_owns h _ _ (walk.ReceivesOn place o inc op g e s) end i = put_open h place o g _ i
+  polls_owns h _ _ (walk.UdpBindsOn place o op q g e) end i = put_open h place o g _ refl i
+  polls_owns h _ _ (walk.UdpConnectsOn place o op q g e) end i = put_open h place o g _ (connected_held op o end) i
+  polls_owns h _ _ (walk.UdpReconnectsOn place o op q g e) end i = put_open h place o g _ (reconnected_held op o end) i
+  polls_owns h _ _ (walk.SendsOn place o out op left g e s settles) end i = put_open h place o g _ refl i
+  polls_owns h _ _ (walk.ReceivesOn place o inc op g e s) end i = put_open h place o g _ refl i
 
   abbrev pub owns_state : OfState contexts line origin (λ es h. ⊤)
   owns_state = record {

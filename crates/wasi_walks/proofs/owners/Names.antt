@@ -32,7 +32,16 @@ abbrev pub listens_in : Option TcpRecord → Bool
 listens_in None = false
 listens_in (Some r) = has_listener r.listening
 
--- A TCP socket's handle wasn't dropped; an input and an output of a connection are of a socket that has its streams, a listener is of
+-- the same of a UDP socket
+abbrev pub unless_gone : OpenUdp → Bool → Option OpenUdp
+unless_gone o true = None
+unless_gone o false = Some o
+
+abbrev pub held_udp : Option OpenUdp → Option OpenUdp
+held_udp None = None
+held_udp (Some o) = unless_gone o o.dropped
+
+-- A socket's handle wasn't dropped; an input and an output of a connection are of a socket that has its streams, a listener is of
 -- one that listens, and what is of a UDP socket is of an open one.
 abbrev pub Names : Kind → Option Record → Type 0
 Names (Tcp2 place) o = IsSome (socket_in (tcp2_of o))
@@ -40,10 +49,10 @@ Names (Tcp3 place) o = IsSome (socket_in (tcp2_of o))
 Names (Input place) o = IsSome (streams_in (socket_in (tcp2_of o)))
 Names (Output place) o = IsSome (streams_in (socket_in (tcp2_of o)))
 Names (Listen3 place) o = listens_in (tcp2_of o) ≡ true
-Names (Udp2 place) o = IsSome (open_of (udp2_of o))
-Names (Udp3 place) o = IsSome (open_of (udp2_of o))
-Names (Incoming place) o = IsSome (open_of (udp2_of o))
-Names (Outgoing place) o = IsSome (open_of (udp2_of o))
+Names (Udp2 place) o = IsSome (held_udp (open_of (udp2_of o)))
+Names (Udp3 place) o = IsSome (held_udp (open_of (udp2_of o)))
+Names (Incoming place) o = IsSome (held_udp (open_of (udp2_of o)))
+Names (Outgoing place) o = IsSome (held_udp (open_of (udp2_of o)))
 Names (Lookup place) o = IsSome (lookup_of o)
 Names (Result3 place) o = IsSome (slot_of o)
 Names (PlainInput (plain_input.Pipe place)) o = IsSome (input_pipe_of o)
@@ -91,18 +100,22 @@ tcp_names (PlainOutput plain_output.Sink) r now keeps s = s
 tcp_names (PlainOutput plain_output.Closed) r now keeps s = s
 tcp_names _ r now keeps s = s
 
-open_names : (kind : Kind) (o now : OpenUdp) → Names kind (Some (Record.Udp (UdpRecord.Open o)))
+udp_still : (o now : OpenUdp) (was is : Bool) → is ≡ was → IsSome (unless_gone o was) → IsSome (unless_gone now is)
+udp_still o now true is e s = absurd (cc)
+udp_still o now false is e s = subst (λ (b : Bool). IsSome (unless_gone now b)) (sym e) refl
+
+open_names : (kind : Kind) (o now : OpenUdp) → now.dropped ≡ o.dropped → Names kind (Some (Record.Udp (UdpRecord.Open o)))
     → Names kind (Some (Record.Udp (UdpRecord.Open now)))
-open_names (Udp2 place) o now s = refl
-open_names (Udp3 place) o now s = refl
-open_names (Incoming place) o now s = refl
-open_names (Outgoing place) o now s = refl
-open_names (PlainInput (plain_input.Pipe place)) o now s = s
-open_names (PlainInput plain_input.Closed) o now s = s
-open_names (PlainOutput (plain_output.Pipe place)) o now s = s
-open_names (PlainOutput plain_output.Sink) o now s = s
-open_names (PlainOutput plain_output.Closed) o now s = s
-open_names _ o now s = s
+open_names (Udp2 place) o now e s = udp_still o now o.dropped now.dropped e s
+open_names (Udp3 place) o now e s = udp_still o now o.dropped now.dropped e s
+open_names (Incoming place) o now e s = udp_still o now o.dropped now.dropped e s
+open_names (Outgoing place) o now e s = udp_still o now o.dropped now.dropped e s
+open_names (PlainInput (plain_input.Pipe place)) o now e s = s
+open_names (PlainInput plain_input.Closed) o now e s = s
+open_names (PlainOutput (plain_output.Pipe place)) o now e s = s
+open_names (PlainOutput plain_output.Sink) o now e s = s
+open_names (PlainOutput plain_output.Closed) o now e s = s
+open_names _ o now e s = s
 
 -- where it keeps what this handle needs of it
 pub names_set : (xs : List Record) (i : ℕ) (now : Record) (k : ℕ) (kind : Kind)
@@ -121,11 +134,11 @@ names_tcp xs i r now g keeps k kind s =
     (subst (Names kind) (tcp_sort.it _ r g) was)) s
 
 pub names_open : (xs : List Record) (i : ℕ) (o now : OpenUdp) → udp2_of (slice_get xs i) ≡ Some (UdpRecord.Open o)
-    → (k : ℕ) (kind : Kind) → Names kind (slice_get xs k)
+    → now.dropped ≡ o.dropped → (k : ℕ) (kind : Kind) → Names kind (slice_get xs k)
     → Names kind (slice_get (slice_set xs i (Record.Udp (UdpRecord.Open now))) k)
-names_open xs i o now g k kind s =
+names_open xs i o now g e k kind s =
     names_set xs i (Record.Udp (UdpRecord.Open now)) k kind
-    (λ same was. open_names kind o now (subst (Names kind) (udp_sort.it _ (UdpRecord.Open o) g) was)) s
+    (λ same was. open_names kind o now e (subst (Names kind) (udp_sort.it _ (UdpRecord.Open o) g) was)) s
 
 -- == nothing is of a record that isn't there
 pub names_none : (kind : Kind) (place : ℕ) → IsOf kind place → Names kind None → ⊥
@@ -164,10 +177,10 @@ names_same old now k (Tcp3 p) same s = subst (λ (o : Option TcpRecord). IsSome 
 names_same old now k (Input p) same s = subst (λ (o : Option TcpRecord). IsSome (streams_in (socket_in o))) (sym (same.tcp k)) s
 names_same old now k (Output p) same s = subst (λ (o : Option TcpRecord). IsSome (streams_in (socket_in o))) (sym (same.tcp k)) s
 names_same old now k (Listen3 p) same s = subst (λ (o : Option TcpRecord). listens_in o ≡ true) (sym (same.tcp k)) s
-names_same old now k (Udp2 p) same s = subst (λ (o : Option UdpRecord). IsSome (open_of o)) (sym (same.udp k)) s
-names_same old now k (Udp3 p) same s = subst (λ (o : Option UdpRecord). IsSome (open_of o)) (sym (same.udp k)) s
-names_same old now k (Incoming p) same s = subst (λ (o : Option UdpRecord). IsSome (open_of o)) (sym (same.udp k)) s
-names_same old now k (Outgoing p) same s = subst (λ (o : Option UdpRecord). IsSome (open_of o)) (sym (same.udp k)) s
+names_same old now k (Udp2 p) same s = subst (λ (o : Option UdpRecord). IsSome (held_udp (open_of o))) (sym (same.udp k)) s
+names_same old now k (Udp3 p) same s = subst (λ (o : Option UdpRecord). IsSome (held_udp (open_of o))) (sym (same.udp k)) s
+names_same old now k (Incoming p) same s = subst (λ (o : Option UdpRecord). IsSome (held_udp (open_of o))) (sym (same.udp k)) s
+names_same old now k (Outgoing p) same s = subst (λ (o : Option UdpRecord). IsSome (held_udp (open_of o))) (sym (same.udp k)) s
 names_same old now k (Lookup p) same s = same.stays k s
 names_same old now k (Result3 p) same s = same.slots k s
 names_same old now k (PlainInput (plain_input.Pipe p)) same s = same.inputs k s
@@ -180,10 +193,10 @@ names_same old now k _ same s = tt
 -- a UDP socket that isn't open is as nothing, and so is what is given back
 pub as_none : (kind : Kind) (u : UdpRecord) → open_of (Some u) ≡ None → Names kind (Some (Record.Udp u))
     → Names kind None
-as_none (Udp2 p) u e n = subst IsSome e n
-as_none (Udp3 p) u e n = subst IsSome e n
-as_none (Incoming p) u e n = subst IsSome e n
-as_none (Outgoing p) u e n = subst IsSome e n
+as_none (Udp2 p) u e n = subst (λ (o : Option OpenUdp). IsSome (held_udp o)) e n
+as_none (Udp3 p) u e n = subst (λ (o : Option OpenUdp). IsSome (held_udp o)) e n
+as_none (Incoming p) u e n = subst (λ (o : Option OpenUdp). IsSome (held_udp o)) e n
+as_none (Outgoing p) u e n = subst (λ (o : Option OpenUdp). IsSome (held_udp o)) e n
 as_none (PlainInput (plain_input.Pipe p)) u e n = n
 as_none (PlainInput plain_input.Closed) u e n = n
 as_none (PlainOutput (plain_output.Pipe p)) u e n = n
@@ -250,3 +263,25 @@ unheld_none kind place r free e s = by_kind kind e s
     by_kind _ (inl e) s = absurd (cc)
     by_kind _ (inr (inl e)) s = absurd (cc)
     by_kind _ (inr (inr e)) s = absurd (cc)
+
+-- nor is anything of a UDP socket that its handle doesn't hold
+gone_udp : (o : OpenUdp) → o.dropped ≡ true → IsSome (unless_gone o o.dropped) → ⊥
+gone_udp o e s = absurd (let p : IsSome (unless_gone o true) = subst (λ (b : Bool). IsSome (unless_gone o b)) e s in cc)
+
+pub dropped_none : (kind : Kind) (place : ℕ) (o : OpenUdp) → o.dropped ≡ true → IsOf kind place → Names kind (Some (Record.Udp (UdpRecord.Open o))) → ⊥
+dropped_none (Udp2 p) place o d e s = gone_udp o d s
+dropped_none (Udp3 p) place o d e s = gone_udp o d s
+dropped_none (Incoming p) place o d e s = gone_udp o d s
+dropped_none (Outgoing p) place o d e s = gone_udp o d s
+dropped_none (Tcp2 p) place o d e s = absurd (cc)
+dropped_none (Tcp3 p) place o d e s = absurd (cc)
+dropped_none (Input p) place o d e s = absurd (cc)
+dropped_none (Output p) place o d e s = absurd (cc)
+dropped_none (Listen3 p) place o d e s = absurd (cc)
+dropped_none (Lookup p) place o d e s = absurd (cc)
+dropped_none (Result3 p) place o d e s = absurd (cc)
+dropped_none (PlainInput (plain_input.Pipe p)) place o d e s = absurd (cc)
+dropped_none (PlainOutput (plain_output.Pipe p)) place o d e s = absurd (cc)
+dropped_none _ place o d (inl e) s = absurd (cc)
+dropped_none _ place o d (inr (inl e)) s = absurd (cc)
+dropped_none _ place o d (inr (inr e)) s = absurd (cc)

@@ -12,11 +12,11 @@ use Rattle.wasi_records.specs.declared.udp.UdpRecord.{UdpRecord}
 use Rattle.wasi_walks.proofs.Slots.{SlotOf, slot_of}
 use Rattle.wasi_walks.proofs.Words.{Done, Refused, Waits}
 use Rattle.wasi_walks.proofs.walks.Moves as walk
-use Rattle.wasi_walks.proofs.walks.Moves.{ToResult, TakesHalf, Interface, IsUdpDropped, P2, P3, tcp_kind, ToListen, ListenerGoes, udp_socket_of, Emptied, Faulted, Freed, Found, FoundUdp, Held, Here, IsLeft, IsMadeUnder, IsNumbered, IsOpenUdp, Joined, Made, MakesPlain, Marked, Marks, Move, Numbered, Past, GoesOn, Plain, SameSockets, ToSend, accepting_now, faulted, joined, joined_plain, joins_as, made_so, one_stream, put, put_udp, udp_begun, with_records, without_record}
-use Rattle.std.specs.Prelude.{IsSome, is_some}
+use Rattle.wasi_walks.proofs.walks.Moves.{ToResult, TakesHalf, Interface, P2, P3, tcp_kind, ToListen, ListenerGoes, Emptied, Faulted, Freed, Found, FoundUdp, Held, Here, IsLeft, IsMadeUnder, IsNumbered, IsOpenUdp, Joined, Made, MakesPlain, Marked, Marks, Move, Numbered, Past, GoesOn, Plain, SameSockets, ToSend, accepting_now, faulted, joined, joined_plain, joins_as, made_so, one_stream, put, put_udp, udp_begun, with_records, without_record}
+use Rattle.std.specs.Prelude.{Bool, IsSome, is_some}
 use Rattle.wasi_records.specs.Holding.{has_listener}
 use Rattle.wasi_records.specs.Records.{open_of}
-use Rattle.wasi_walks.proofs.owners.Names.{KeepsHeld, Names, listens_in}
+use Rattle.wasi_walks.proofs.owners.Names.{KeepsHeld, Names, held_udp, listens_in, unless_gone}
 use Rattle.wasi_walks.proofs.owners.Owned.{Above, IsOf, NoneOf, OneOwner, one_way, owner_of, stream_place, IsNew, MadeSo, Owned, numbered_still, other_still, NoListenerOf, CallSo, one_role, no_stream_listens, listener_of}
 use Rattle.wasi_walks.proofs.owners.Records.{Owns, put_dropped, put_owns}
 
@@ -158,8 +158,8 @@ pub is_udp : (k : Option Kind) (place : ℕ) → udp_of k ≡ Some place → k �
 is_udp (Some (Udp2 n)) place e = let p : n ≡ place = cc in ap (λ (x : ℕ). Some (Udp2 x)) p
 is_udp _ place e = absurd (cc)
 
-pub created_stays : (o : Option Record) (u : UdpRecord) → udp2_of o ≡ Some u → IsOpenUdp u → IsSome (open_of (udp2_of o))
-created_stays o (UdpRecord.Open x) g opens = ap (λ (y : Option UdpRecord). is_some (open_of y)) g
+pub created_stays : (o : Option Record) (u : UdpRecord) → udp2_of o ≡ Some u → IsOpenUdp u → IsSome (held_udp (open_of (udp2_of o)))
+created_stays o (UdpRecord.Open x) g opens = subst (λ (y : Option UdpRecord). IsSome (held_udp (open_of y))) (sym g) (ap (λ (b : Bool). is_some (unless_gone x b)) opens)
 created_stays o (UdpRecord.Creating x) g opens = absurd opens
 created_stays o (UdpRecord.Closed x) g opens = absurd opens
 
@@ -177,6 +177,7 @@ listener_lost _ place r was e none l s = absurd (cc)
 -- what a call that stands says of handles: no listen stands so
 pub stands_so : (t : HandleTable) (call : StandingCall) (r : TcpRecord) → GoesOn call r → CallSo t call
 stands_so t (StandingCall.Listen place marks) r goes = absurd goes
+stands_so t (StandingCall.UdpConnect place handle) r goes = absurd goes
 stands_so t _ r goes = tt
 
 -- a half is taken: the streams are there

@@ -11,7 +11,7 @@ use Rattle.wasi_records.specs.declared.records.Record.{Record}
 use Rattle.wasi_walks.specs.Licence.{Has}
 use Rattle.wasi_walks.proofs.Lists.{has_front, value_front}
 use Rattle.wasi_walks.proofs.Slots.{SlotOf, has_still, has_without, is_another, new_slot, no_child, one_of, slot_of, value_of}
-use Rattle.wasi_walks.proofs.walks.Moves.{Awaited, Emptied, Faulted, Freed, IsMadeUnder, IsRecord, Joined, Made, Marked, NoStartIn, NoStartStands, Numbered, P2, P3, ToListen, ToResult, record_of, tcp_place, udp_place, udp_record_of}
+use Rattle.wasi_walks.proofs.walks.Moves.{Awaited, Emptied, Faulted, Freed, IsMadeUnder, IsRecord, Joined, Made, Marked, NoStartIn, NoStartStands, Numbered, P2, P3, ToListen, ToResult, ToStream, record_of, tcp_place, udp_place, udp_record_of}
 use Rattle.std.specs.Prelude.{IsSome}
 use Rattle.wasi_records.specs.Records.{tcp2_at}
 use Rattle.wasi_walks.specs.Answered.{streams_in}
@@ -84,11 +84,13 @@ MadeSo t records (Freed place) = NoneOf t place
 MadeSo t records (Awaited face side place) = NoneOf t place
 MadeSo t records (ToResult slot) = NoneOf t slot × HasSlot records slot
 MadeSo t records (Numbered place next) = (next ≤ t.next) × (t.next ≡ next → NoneOf t place)
+MadeSo t records (ToStream n handle place) = kind_at t handle ≡ Some (Udp2 place)
 MadeSo t records _ = ⊤
 
--- where a listen is pending, its listener has no handle yet, and that of its socket is live
+-- where a listen is pending, its listener has no handle yet, and that of its socket is live; and so is that of a socket which makes streams
 abbrev pub CallSo : HandleTable → StandingCall → Type 0
 CallSo t (StandingCall.Listen place marks) = NoListenerOf t place × IsMadeUnder t marks place
+CallSo t (StandingCall.UdpConnect place handle) = kind_at t handle ≡ Some (Udp2 place)
 CallSo t _ = ⊤
 
 abbrev pub StandsSo : HandleTable → Option Standing → Type 0
@@ -101,6 +103,7 @@ quiet_so t (Some s) q = by_call s.call q
   where
     by_call : (call : StandingCall) → NoStartIn call → CallSo t call
     by_call (StandingCall.Listen place marks) q = absurd q
+    by_call (StandingCall.UdpConnect place handle) q = absurd q
     by_call _ q = tt
 
 -- streams that were there are, and so are sockets and slots
@@ -117,6 +120,7 @@ made_stays t old now s w v (Freed place) k = k
 made_stays t old now s w v (Awaited face side place) k = k
 made_stays t old now s w v (ToResult slot) k = (k.0, v slot k.1)
 made_stays t old now s w v (Numbered place next) k = k
+made_stays t old now s w v (ToStream n handle place) k = k
 made_stays t old now s w v _ k = tt
 
 -- nothing is live in the first state
@@ -242,6 +246,7 @@ module _ (t : HandleTable) (records : List Record) (kind : Kind) (parent : Optio
 
   call_still : ((place : ℕ) → listener_of kind ≡ Some place → ⊥) → (call : StandingCall) → CallSo t call → CallSo after call
   call_still other (StandingCall.Listen place marks) k = (no_listener_still place (other place) k.0, under_still marks place k.1)
+  call_still other (StandingCall.UdpConnect place handle) k = value_front t.live new handle (Udp2 place) k
   call_still other _ k = tt
 
   pub stands_still : ((place : ℕ) → listener_of kind ≡ Some place → ⊥) → (standing : Option Standing) → StandsSo t standing → StandsSo after standing
@@ -265,6 +270,7 @@ module _ (t : HandleTable) (records : List Record) (kind : Kind) (parent : Optio
   other_still (Awaited face side place) other k = none_still place (other place) k
   other_still (ToResult slot) other k = (none_still slot (other slot) k.0, k.1)
   other_still (Numbered place next) other k = numbered_still place next k
+  other_still (ToStream n handle place) other k = value_front t.live new handle (Udp2 place) k
   other_still _ other k = tt
 
 -- == a handle is taken out

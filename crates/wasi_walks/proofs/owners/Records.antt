@@ -9,11 +9,12 @@ use Rattle.wasi_records.specs.declared.records.Record.{Record}
 use Rattle.wasi_records.specs.declared.udp.OpenUdp.{OpenUdp}
 use Rattle.wasi_records.specs.declared.udp.UdpRecord.{UdpRecord}
 use Rattle.wasi_walks.proofs.walks.Moves as walk
-use Rattle.wasi_walks.proofs.walks.Moves.{Interface, IsUdpDropped, P2, P3, tcp_kind, ToListen, ListenerGoes, udp_socket_of, Emptied, Faulted, Freed, Found, FoundUdp, Held, Here, IsLeft, IsMadeUnder, IsNumbered, IsOpenUdp, Joined, Made, MakesPlain, Marked, Marks, Move, Numbered, Past, GoesOn, Plain, SameSockets, ToSend, accepting_now, faulted, joined, joined_plain, joins_as, made_so, one_stream, put, put_udp, udp_begun, with_records, without_record}
-use Rattle.std.specs.Prelude.{IsSome}
+use Rattle.wasi_walks.proofs.walks.Moves.{Interface, P2, P3, ReleasesUdp, tcp_kind, ToListen, ListenerGoes, Emptied, Faulted, Freed, Found, FoundUdp, Held, Here, IsLeft, IsMadeUnder, IsNumbered, IsOpenUdp, Joined, Made, MakesPlain, Marked, Marks, Move, Numbered, Past, GoesOn, Plain, SameSockets, ToSend, accepting_now, faulted, joined, joined_plain, joins_as, made_so, one_stream, put, put_udp, udp_begun, with_records, without_record}
+use Rattle.std.specs.Prelude.{IsSome, Option, not, ◌||◌}
+use Rattle.wasi_host.specs.SocketDatagrams.{has_datagram, held_by, is_udp_held}
 use Rattle.wasi_records.specs.Holding.{has_listener}
 use Rattle.wasi_records.specs.Records.{open_of}
-use Rattle.wasi_walks.proofs.owners.Names.{KeepsHeld, Names, as_none, socket_names, names_none, names_open, names_push, names_same, names_set, names_tcp}
+use Rattle.wasi_walks.proofs.owners.Names.{KeepsHeld, Names, as_none, dropped_none, socket_names, names_none, names_open, names_push, names_same, names_set, names_tcp}
 use Rattle.wasi_walks.proofs.Places.{tcp_sort, udp_sort}
 use Rattle.wasi_walks.proofs.owners.Owned.{HasSlot, IsOf, NoneOf, owner_of, HasStreams, made_stays, MadeSo, Owned, owned_still, NoListenerOf, HasSocket, StandsSo, none_of, one_role, no_stream_listens, listener_of, ends_listener}
 
@@ -88,9 +89,9 @@ put_dropped h place r g now listens made i =
     by_role so a l (inr (inl e)) s = absurd (so.0 place refl a l (inr e))
     by_role so a l (inr (inr e)) s = its_listener a.value e s
 
-pub put_open : (h : Here) (place : ℕ) (o : OpenUdp) → FoundUdp h place (UdpRecord.Open o) → (now : OpenUdp) → Owns h
+pub put_open : (h : Here) (place : ℕ) (o : OpenUdp) → FoundUdp h place (UdpRecord.Open o) → (now : OpenUdp) → now.dropped ≡ o.dropped → Owns h
     → Owns (put_udp h place (UdpRecord.Open now))
-put_open h place o g now i = stay h _ (λ k kind e n. names_open h.machine.store.records place o now g k kind n) i
+put_open h place o g now d i = stay h _ (λ k kind e n. names_open h.machine.store.records place o now g d k kind n) i
 
 -- one of which nothing is live is replaced
 pub none_set : (h : Here) (place : ℕ) (now : Record) → NoneOf h.machine.table place
@@ -124,21 +125,27 @@ put_none h place u g now none i = (
   i.2,
 )
 
--- a UDP socket of either interface owns its record
-pub udp_owner : (kind : Kind) (place : ℕ) → udp_socket_of kind ≡ Some place → owner_of kind ≡ Some place
-udp_owner (Udp2 p) place e = e
-udp_owner (Udp3 p) place e = e
-udp_owner _ place e = absurd (cc)
+-- one whose handle was dropped, or which that doesn't hold any more
+udp_emptied : (h : Here) (place : ℕ) (kind : Kind) → owner_of kind ≡ Some place → ends_listener kind ≡ Some place → h.made ≡ Emptied kind → Owns h → NoneOf h.machine.table place
+udp_emptied h place kind owns ends made i =
+    let so : MadeSo h.machine.table h.machine.store.records (Emptied kind) = subst (MadeSo h.machine.table h.machine.store.records) made i.1 in
+    none_of h.machine.table place (so.0 place owns) (so.1 place ends)
 
-pub udp_ends : (kind : Kind) (place : ℕ) → udp_socket_of kind ≡ Some place → ends_listener kind ≡ Some place
-udp_ends (Udp2 p) place e = e
-udp_ends (Udp3 p) place e = e
-udp_ends _ place e = absurd (cc)
+pub udp_dropped : (h : Here) (place : ℕ) → h.made ≡ Emptied (Udp3 place) → Owns h → NoneOf h.machine.table place
+udp_dropped h place made i = udp_emptied h place (Udp3 place) refl refl made i
 
-pub udp_dropped : (t : HandleTable) (records : List Record) (made : Made) (place : ℕ) → IsUdpDropped made place → MadeSo t records made → NoneOf t place
-udp_dropped t records made place q k =
-    let so : MadeSo t records (Emptied q.kind) = subst (MadeSo t records) q.made k in
-    none_of t place (so.0 place (udp_owner q.kind place q.socket)) (so.1 place (udp_ends q.kind place q.socket))
+unheld : (o : OpenUdp) (dropped datagrams : Bool) → not dropped || datagrams ≡ false → dropped ≡ true
+unheld o true datagrams e = refl
+unheld o false datagrams e = absurd (cc)
+
+unheld_udp : (h : Here) (place : ℕ) (o : OpenUdp) → FoundUdp h place (UdpRecord.Open o) → is_udp_held h.machine.store place ≡ false → Owns h → NoneOf h.machine.table place
+unheld_udp h place o g free i a l e =
+    let its : held_by h.machine.store.beside place (Some o) ≡ false = subst (λ (u : Option UdpRecord). held_by h.machine.store.beside place (open_of u) ≡ false) g free in
+    dropped_none a.value place o (unheld o o.dropped (has_datagram h.machine.store.beside place) its) e (subst (Names a.value) (udp_sort.it _ (UdpRecord.Open o) g) (i.0.there a place l e))
+
+pub udp_released : (h : Here) (place : ℕ) (o : OpenUdp) → FoundUdp h place (UdpRecord.Open o) → ReleasesUdp h place → Owns h → NoneOf h.machine.table place
+udp_released h place o g (walk.WithHandle idle made) i = udp_emptied h place (Udp2 place) refl refl made i
+udp_released h place o g (walk.Unheld free) i = unheld_udp h place o g free i
 
 -- a TCP socket that nothing holds
 pub put_gone : (h : Here) (place : ℕ) (now : Record) → h.made ≡ Freed place → Owns h

@@ -129,6 +129,7 @@ module _ (contexts : List WasiSocketsCtx) (line : ℕ) (origin : Step) where
   moves_wanted _ _ (walk.TakesEnd h handle place r now of g takes) i = put_tcp _ place now i
   moves_wanted _ _ (walk.AddsSlot h s) i = same_wanted {new = λ op. ⊥} h.machine.store.records _ (slot_push_same h.machine.store.records s) i
   moves_wanted _ _ (walk.Finds h records s) i = same_wanted h.machine.store.records records s i
+  moves_wanted _ _ (walk.DropsUdp h place o idle made g) i = put_udps _ place (UdpRecord.Open _) (i place (UdpRecord.Open o) g) i
   moves_wanted _ _ (walk.GivesBack h place idle left) i = λ k u e. i k u (was_there udp2_of refl h.machine.store.records place k u e)
   moves_wanted _ _ _ i = i
 

@@ -1,11 +1,11 @@
 -- The law that what the incoming stream of a network socket holds was received from a place of the log on.
-use Rattle.std.specs.Prelude.{take}
+use Rattle.std.specs.Prelude.{is_some, take}
 use Rattle.wasi_tcp.specs.Halves.{write_asks}
 use Rattle.wasi_walks.proofs.PipeLists.{slot_push_same}
 use Rattle.wasi_walks.proofs.walks.Asked.{MarksResult, WritesOnce}
 use Rattle.wasi_host.specs.declared.kind.Kind.TheVariants.{Result3}
 use Rattle.wasi_walks.proofs.walks.Asked.{Asked, Questions, SetsBacklog, Learns, Closes, MarksOne, AsksCreate, MarksAccepted, MarksListener, MarksPlain, Polls, Turns, GivesUp, UdpQuestions, UdpDisconnects, UdpLearns, UdpPeers, UdpCloses, UdpBegins, MarksUdp, MarksStream, MarksError, UdpGivesUp, Resolves, Looks}
-use Rattle.wasi_walks.proofs.walks.Asked.{ResolvesBeside, LooksBeside}
+use Rattle.wasi_walks.proofs.walks.Asked.{BeginsDatagram, PollsBeside, ResolvesBeside, LooksBeside}
 use Rattle.wasi_walks.proofs.Words.{bind, made_to, create_to, Stop, refl, Option, HoldsAccept, HoldsConnect, IsAcceptOn, Job, HandleTable, Kind, Streams, WriteState, allows_keep, arith, inl, inr, ⊤, ◌⊎◌, ◌≤◌, Allows, Asks, Call, Done, End, Entry, Err, ErrorCode, ErrorValue, IsDoneOrCode, Item, List, Machine}
 use Rattle.wasi_walks.proofs.Words.{None, Not, Ok, OpId, Operation, Refused, Result, Socket, SocketAddressFamily, Some, Step, Tcp2, TcpRecord, Told, Waits}
 use Rattle.wasi_walks.proofs.Words.{WasiSocketsCtx, [], allows_then, allows_weaker, ap, bind_progress, connect_ended, accept_ended, entry, give_up_asks, length, make_asks}
@@ -14,11 +14,16 @@ use Rattle.wasi_walks.proofs.Words.{with_inner, with_listening, with_progress, w
 use Rattle.wasi_udp.specs.Create.{Create, create_cancel_asks, new_create, after_create as udp_after_create}
 use Rattle.wasi_udp.specs.Connect.{with_given}
 use Rattle.wasi_udp.specs.Receive.{receive_first, receive_left as left_of_receive, wanting}
-use Rattle.wasi_udp.specs.Send.{at_remote}
+use Rattle.wasi_udp.specs.Send.{IsLeftOfSend, at_remote}
+use Rattle.std.proofs.lemmas.Bool.{eq-eqb}
+use Rattle.wasi_host.specs.declared.beside.Beside.{Beside}
+use Rattle.wasi_host.specs.declared.beside.BesideCall.{BesideCall}
+use Rattle.wasi_host.specs.Beside.{beside_of}
+use Rattle.wasi_host.specs.SocketDatagrams.{is_datagram_of}
 use Rattle.wasi_records.specs.Datagrams.{udp_connect_left, udp_reconnect_left, with_sending}
 use Rattle.wasi_records.specs.Receiving.{receive_left, with_receiving}
 use Rattle.wasi_host.specs.Kinds.{udp_kind}
-use Rattle.wasi_records.specs.Records.{tcp2_put, udp2_put}
+use Rattle.wasi_records.specs.Records.{open_of, tcp2_put, udp2_at, udp2_put}
 use Rattle.wasi_records.specs.Udp.{udp_side, udp_bind_progress, udp_create_left, with_udp_progress}
 use Rattle.wasi_records.specs.declared.datagrams.Incoming.{Incoming}
 use Rattle.wasi_records.specs.declared.datagrams.Receiving.{Receiving}
@@ -29,7 +34,11 @@ use Rattle.wasi_world.specs.Operation.{Given, Remote}
 use Rattle.wasi_walks.proofs.claims.Law.{begins_on_two, Named, Base, on_two, on_two_along}
 use Rattle.wasi_walks.proofs.fits.Polls.{Anything}
 use Rattle.wasi_walks.proofs.fits.Records.{FitProgress, FitListening, FitUdpProgress, FitConnecting, FitSending, UdpBindOn, UdpConnectOn, SendOn, FitReceiving, ReceiveOn}
-use Rattle.wasi_walks.proofs.fits.UdpFits.{learnt_side}
+use Rattle.wasi_walks.proofs.Gives.{gives_any}
+use Rattle.wasi_walks.proofs.fits.Besides.{found_beside}
+use Rattle.wasi_walks.proofs.fits.DatagramFacts.{datagram_streamless, handle_streamless}
+use Rattle.wasi_walks.proofs.fits.Datagrams.{FitBeside}
+use Rattle.wasi_walks.proofs.fits.UdpFits.{begun_send, learnt_side}
 use Rattle.wasi_walks.proofs.walks.Law.{BeginsWrites, Law, Rests, Walks, begins_by}
 use Rattle.wasi_walks.proofs.walks.Moves as walk
 use Rattle.wasi_host.specs.declared.kind.Kind.TheVariants.{Listen3, Tcp3}
@@ -40,7 +49,7 @@ use Rattle.wasi_walks.proofs.received.Late.{NoRecvOf, OnlyOf, long_more, only_ot
 use Rattle.wasi_tcp.specs.Connect as connect
 use Rattle.wasi_tcp.specs.Listen.{IsListen}
 use Rattle.wasi_walks.proofs.received.Polls.{AreSilent, Elsewhere, NoName, silent_poll}
-use Rattle.wasi_walks.proofs.received.Silent.{WritesApart, accept_silent, bind_silent, cancelled_silent, connect_silent, given_up_silent, listen_silent, made_silent, new_silent, send_silent, turn_silent, udp_bind_silent, udp_connect_silent}
+use Rattle.wasi_walks.proofs.received.Silent.{WritesApart, accept_silent, apart_silent, bind_silent, cancelled_silent, connect_silent, given_up_silent, listen_silent, made_silent, new_silent, send_silent, turn_silent, udp_bind_silent, udp_connect_silent}
 use Rattle.wasi_walks.proofs.received.State.{IsHeld, Late, OneEach, UdpLate, late_along, one_late, plain_late, put_later, push_tcp, push_udps, put_tcp, put_udps, same_late, same_or_not, fewer_late}
 
 -- a receive that begins has nothing in hand
@@ -108,6 +117,39 @@ module _ (side : OpId) (from : ℕ) where
   reconnected_late fs o op (Waits, items) k = k
   reconnected_late fs o op (Done given, items) k = given_late fs o given k
   reconnected_late fs o op (Refused c given, items) k = given_late fs o given k
+
+  -- nothing is to be known of a socket without streams, which alone is on the network socket
+  none_comes : (es : List Entry) (inc : Option Incoming) → (is_some inc ≡ true → ⊥) → IncomingLate from es side inc
+  none_comes es None none = tt
+  none_comes es (Some inc) none = absurd (none refl)
+
+  streamless_late : {A : Type 0} (h : Here) (place : ℕ) (o : OpenUdp) → FoundUdp h place (UdpRecord.Open o) → (is_some o.incoming ≡ true → ⊥) → OneEach h.machine.store.records → o.inner.side ≡ side → (es : List Entry) (asks : Asks A) → It es h.machine.store.records
+      → Allows Anything (λ fs a. It fs h.machine.store.records) es asks
+  streamless_late h place o g none one is es asks i =
+      allows_weaker Anything (λ fs a. It fs h.machine.store.records × ⊤) (λ fs a. It fs h.machine.store.records) (λ fs a k. k.0) es asks
+      (allows_keep Anything Anything (λ fs. It fs h.machine.store.records) (λ fs a. ⊤) (λ fs own c told f m n. longer fs own c told m) (λ fs own c n. tt) es asks i (gives_any (λ fs a. ⊤) (λ fs a. tt) es asks))
+    where
+      its : (fs : List Entry) (p : ℕ) (u : UdpRecord) → FoundUdp h p u → UdpLate side from fs u
+      its fs p (UdpRecord.Open x) e = λ q. (
+          let same : p ≡ place = one p place x o e g (q ∙ sym is) in
+          let both : Some x ≡ Some o = ap open_of (sym e ∙ (ap (udp2_at h.machine.store.records) same ∙ g)) in
+          let it : x ≡ o = cc in
+          none_comes fs x.incoming (subst (λ (y : OpenUdp). is_some y.incoming ≡ true → ⊥) (sym it) none))
+      its fs p (UdpRecord.Creating create) e = tt
+      its fs p (UdpRecord.Closed y) e = tt
+
+      longer : (fs : List Entry) (own : OpId) (c : Call) (told : Told) → It fs h.machine.store.records → It (fs ++ entry own c told ∷ []) h.machine.store.records
+      longer fs own c told m = record { long = long_more from fs _ m.long; udps = its _ }
+
+  -- a datagram of 0.3 is polled: one that is sent asks for none, and a receive is on a socket without streams
+  datagram_late : (es : List Entry) (h : Here) (place : ℕ) (o : OpenUdp) (polled : Operation) → FoundUdp h place (UdpRecord.Open o) → (is_some o.incoming ≡ true → ⊥) → OneEach h.machine.store.records → IsLeftOfSend polled.left ⊎ (polled.who.side ≡ o.inner.side) → It es h.machine.store.records
+      → Allows Anything (λ fs ended. It fs h.machine.store.records) es (poll_asks polled)
+  datagram_late es h place o polled g none one (inl send) i = along h.machine.store.records es (poll_asks polled) i (silent_poll side (IsHeld side h.machine.store.records) NoName polled es (send_silent side (IsHeld side h.machine.store.records) NoName polled.who polled.left send))
+  datagram_late es h place o polled g none one (inr of_side) i = by_side (same_or_not o.inner.side side)
+    where
+      by_side : (o.inner.side ≡ side) ⊎ (o.inner.side ≡ side → ⊥) → Allows Anything (λ fs ended. It fs h.machine.store.records) es (poll_asks polled)
+      by_side (inl is) = streamless_late h place o g none one is es (poll_asks polled) i
+      by_side (inr not) = along h.machine.store.records es (poll_asks polled) i (silent_poll side (IsHeld side h.machine.store.records) NoName polled es (apart_silent side (IsHeld side h.machine.store.records) NoName polled.who (λ held. (λ e. not (sym of_side ∙ e), λ n. n)) polled.left))
 
   -- a receive is polled
   polled_receive : (Exact : Type 0) (at : ℕ) (es : List Entry) (h : Here) (place : ℕ) (o : OpenUdp) (inc : Incoming) (op : Operation) → FoundUdp h place (UdpRecord.Open o) → o.incoming ≡ Some inc → inc.receiving ≡ Receiving.InProgress op → ReceiveOn o.inner.side op → Keeps es h.machine.store.records → at ≤ length es
@@ -187,6 +229,7 @@ module _ (side : OpId) (from : ℕ) where
     moves_late es _ _ (walk.TakesEnd h handle place r now of g takes) i = put_tcp side from es _ place now i
     moves_late es _ _ (walk.AddsSlot h s) i = same_late side {new = λ op. ⊥} from es h.machine.store.records _ (slot_push_same h.machine.store.records s) i
     moves_late es _ _ (walk.Finds h records s) i = same_late side from es h.machine.store.records records s i
+    moves_late es _ _ (walk.DropsUdp h place o idle made g) i = put_udps side from es _ place (UdpRecord.Open _) (i.udps place (UdpRecord.Open o) g) i
     moves_late es _ _ (walk.GivesBack h place idle left) i = fewer_late side from es h.machine.store.records place i
     moves_late es _ _ _ i = i
 
@@ -215,6 +258,26 @@ module _ (side : OpId) (from : ℕ) where
         let its : ReceiveOn o.inner.side op = subst (FitReceiving o.inner.side) (ap receiving_in e ∙ ap receive_op f) (b.0.udps place (UdpRecord.Open o) g).3 in
         receives_late es h place o inc op g e f its keeps (λ x k p q a c z. b.1.udps.one q.inner.side x k (UdpRecord.Open p) (UdpRecord.Open q) a c z refl) i (same_or_not o.inner.side side)
 
+    -- a datagram of 0.3, whose socket has no streams
+    one_each : (h : Here) → Base contexts line origin h → OneEach h.machine.store.records
+    one_each h b x k p q a c z = b.1.udps.one q.inner.side x k (UdpRecord.Open p) (UdpRecord.Open q) a c z refl
+
+    begins_late : (es : List Entry) (h : Here) (place : ℕ) (o : OpenUdp) (call : Operation → BesideCall) (op polled : Operation) → walk.StartsDatagram line origin h.machine.table place o call op polled → FoundUdp h place (UdpRecord.Open o) → Base contexts line origin h → It es h.machine.store.records
+        → Allows Anything (λ fs ended. It fs h.machine.store.records) es (poll_asks polled)
+    begins_late es h place o _ _ _ (walk.StartsSend c s d bound is at known) g b i = datagram_late es h place o _ g (handle_streamless h b.3 place o g s at) (one_each h b) (inl (begun_send (own_of line) o.inner d.bytes d.remote_address bound).send.left) i
+    begins_late es h place o _ _ _ (walk.StartsReceive c s bound is at known) g b i = datagram_late es h place o _ g (handle_streamless h b.3 place o g s at) (one_each h b) (inr refl) i
+
+    beside_late : (es : List Entry) (h : Here) (n : ℕ) (c : Beside) (place : ℕ) (o : OpenUdp) → beside_of h.machine.store n ≡ Some c → FoundUdp h place (UdpRecord.Open o) → Base contexts line origin h → (was : BesideCall) → c.call ≡ was
+        → (call : Operation → BesideCall) (op polled : Operation) → walk.PollsDatagram place o was call op polled → It es h.machine.store.records → Allows Anything (λ fs ended. It fs h.machine.store.records) es (poll_asks polled)
+    beside_late es h n c place o at g b _ e _ _ _ (walk.PollsSend op) i =
+        let f = subst (FitBeside h.machine.store.records c.line) e (b.3.besides c (found_beside h.machine.store.beside n c at).0) in
+        datagram_late es h place o _ g (datagram_streamless h b.3 place o g n c at (ap (is_datagram_of place) e ∙ eq-eqb place place refl)) (one_each h b) (inl f.1.left) i
+    beside_late es h n c place o at g b _ e _ _ _ (walk.PollsReceive op) i =
+        let f = subst (FitBeside h.machine.store.records c.line) e (b.3.besides c (found_beside h.machine.store.beside n c at).0) in
+        let same : Some f.0.was ≡ Some o = ap open_of (sym f.0.at ∙ g) in
+        let its : f.0.was.inner.side ≡ o.inner.side = (let q : f.0.was ≡ o = cc in ap (λ (y : OpenUdp). y.inner.side) q) in
+        datagram_late es h place o _ g (datagram_streamless h b.3 place o g n c at (ap (is_datagram_of place) e ∙ eq-eqb place place refl)) (one_each h b) (inr (f.0.of_side ∙ its)) i
+
     -- a write that is offered once asks for no datagram
     write_late : (es : List Entry) (records : List Record) (op x : OpId) (bytes : List ℕ) → It es records → Allows Anything (λ fs told. It fs records) es (write_asks op x bytes)
     unfolding bind
@@ -237,13 +300,15 @@ module _ (side : OpId) (from : ℕ) where
     lates_asks es h _ _ _ (MarksResult socket place slot r m made e g) b i = marks_late _ es h.machine.table (own_of line) (Result3 slot) (Some socket) _ i
     lates_asks es h _ _ _ (WritesOnce c handle place given end r s half permit is e f at g q w own) b i = write_late es h.machine.store.records (own_of line) half.side (take 4294967295 given) i
     lates_asks es h _ _ _ (Polls op after k) b i = polls_late es h op after k b.0 b.1 i
+    lates_asks es h _ _ _ (BeginsDatagram place o call op polled at g starts made own) b i = begins_late es h place o call op polled starts g b.0 i
+    lates_asks es h _ _ _ (PollsBeside n c place o call op polled is at g polls) b i = beside_late es h n c place o at g b.0 c.call refl call op polled polls i
     lates_asks es h _ _ _ (Turns place r s g e) b i = allows_weaker Anything (λ fs done. It fs h.machine.store.records) (λ fs done. It fs (tcp2_put h.machine.store.records place (with_writer r s done.1))) (λ fs done k. put_tcp side from fs _ place _ k) es (turn_asks s.writer) (along _ es (turn_asks s.writer) i (turn_silent side (IsHeld side h.machine.store.records) NoName es s.writer (writer_apart line es h place r s g e b.0.1 b.1)))
     lates_asks es h _ _ _ (GivesUp place r q goes g) b i = allows_weaker Anything (λ fs done. It fs h.machine.store.records) (λ fs done. It fs (tcp2_put h.machine.store.records place (with_listening r Not))) (λ fs done k. put_tcp side from fs _ place _ k) es (give_up_asks r.listening) (along _ es (give_up_asks r.listening) i (given_up_silent side (IsHeld side h.machine.store.records) NoName es r.listening))
     lates_asks es h _ _ _ (UdpQuestions place n o c at g q) b i = (tt, λ told f. one_late side from es (own_of n) c told _ (λ y. udp_question_quiet line origin n o.inner.side c q) i)
     lates_asks es h _ _ _ (UdpLearns place part o at g) b i = (tt, λ told f. (let k = one_late side from es (part_of line part) (Call.Local o.inner.side) told _ (λ y. tt) i in put_udps side from _ _ place (UdpRecord.Open _) (λ q. k.udps place (UdpRecord.Open o) g (sym (learnt_side o.inner (told_addr told)) ∙ q)) k))
     lates_asks es h _ _ _ (UdpDisconnects place o at g is) b i = (tt, λ told f. (let k = one_late side from es (own_of line) (Call.UdpDisconnect o.inner.side) told _ (λ y. tt) i in put_udps side from _ _ place (UdpRecord.Open _) (k.udps place (UdpRecord.Open o) g) k))
     lates_asks es h _ _ _ (UdpPeers place o at g) b i = (tt, λ told f. (let k = one_late side from es (own_of line) (Call.Peer o.inner.side) told _ (λ y. tt) i in put_udps side from _ _ place (UdpRecord.Open _) (k.udps place (UdpRecord.Open o) g) k))
-    lates_asks es h _ _ _ (UdpCloses place o q g) b i = (tt, λ told f. put_udps side from _ _ place (UdpRecord.Closed o.inner.side) tt (one_late side from es (own_of line) (Call.Close o.inner.side) told _ (λ y. tt) i))
+    lates_asks es h _ _ _ (UdpCloses place n o q g) b i = (tt, λ told f. put_udps side from _ _ place (UdpRecord.Closed o.inner.side) tt (one_late side from es (own_of n) (Call.Close o.inner.side) told _ (λ y. tt) i))
     lates_asks es h _ _ _ (UdpBegins face ctx family c may a o m) b i = (tt, λ told f. begun_late es h (own_of line) ctx.name family told f i)
     lates_asks es h _ _ _ (MarksUdp face place u g) b i = marks_late _ es h.machine.table (udp_side u) (udp_kind face place) None (Some (udp_side u)) i
     lates_asks es h _ _ _ (MarksStream place n handle reached kind m new e) b i = marks_late _ es h.machine.table (own_of n) kind (Some handle) _ i

@@ -1,5 +1,5 @@
 -- The reply to each step hands out only what was received on its network socket and allowed, in order.
-use Rattle.wasi_walks.proofs.Words.{⊤, Allows, Entry, Err, IsSide, List, Machine, None, Ok, OpId, Option, Result, Some, Standing, GuestCall, Step, Stop, Trap}
+use Rattle.wasi_walks.proofs.Words.{BeganBy, Reply, own_of, step_at, subst, sym, ⊤, Allows, Entry, Err, IsSide, List, Machine, None, Ok, OpId, Option, Result, Some, Standing, GuestCall, Step, Stop, Trap}
 use Rattle.wasi_walks.proofs.Words.{WasiSocketsCtx, allows_then, asks_while, first_ids, kind_at, machine_asks, refl, ℕ, ◌≡◌}
 use Rattle.wasi_world.specs.declared.datagram.IncomingDatagram.{IncomingDatagram}
 use Rattle.wasi_host.specs.DatagramCalls.{receive_datagrams_at}
@@ -12,7 +12,8 @@ use Rattle.wasi_records.specs.declared.udp.UdpRecord.{UdpRecord}
 use Rattle.wasi_p2.specs.Udp.{receive_datagrams_on}
 use Rattle.wasi_machine.specs.Machine.{reply_of}
 use Rattle.wasi_steps.specs.Reply.{datagram_values}
-use Rattle.wasi_walks.specs.Licence.{MayReply}
+use Rattle.wasi_steps.specs.declared.reply.Field.{Field}
+use Rattle.wasi_walks.specs.Licence.{HandsAs, IsReceive, MayReply}
 use Rattle.wasi_walks.proofs.Gives.{gives_all, gives_any}
 use Rattle.wasi_walks.proofs.claims.Lines.{BaseBetween}
 use Rattle.wasi_walks.proofs.fits.Polls.{Anything}
@@ -34,10 +35,10 @@ pub lines_later : (contexts : List WasiSocketsCtx) (line : ℕ) (s : Step) (m : 
 lines_later contexts line s m es b k late = gives_all (λ side fs done. Late side 0 fs done.1.store.records) es (machine_asks contexts m line s) (λ side. line_later side 0 contexts line s m es b k (late side))
 
 -- == a receive
-module _ (ctx handle most : ℕ) where
+module _ (steps : List Step) (served : List ℕ) (at ctx handle most : ℕ) where
   -- the reply that says this of a receive may be given
   abbrev Says : List Entry → Result (List IncomingDatagram) Stop → Type 0
-  Says es r = MayReply es (Step.Call ctx (GuestCall.UdpReceive handle most)) (reply_of datagram_values r)
+  Says es r = MayReply steps es served at (Step.Call ctx (GuestCall.UdpReceive handle most)) (reply_of datagram_values r)
 
   says : (es : List Entry) (side : OpId) (upto : ℕ) (r : Result (List IncomingDatagram) Stop) → IsSide es handle side → GivesUpto ⊤ side 0 es upto r → Says es r
   says es side upto (Ok ds) i g = record { side = side; of_handle = i; datagrams = ds; values = refl; upto = upto; order = g tt }
@@ -63,14 +64,33 @@ module _ (ctx handle most : ℕ) where
         (socket_says place (open_at m.store.records place) refl (n place refl)) (λ fs done k. k)
 
     -- a call that is made; while another is pending it is busy
-    receive_says : (contexts : List WasiSocketsCtx) (standing : Option Standing) → ((place : ℕ) → incoming_at m handle ≡ Some place → NamesUdp es m.store.records handle place) → Allows Anything (λ fs done. MayReply fs (Step.Call ctx (GuestCall.UdpReceive handle most)) done.0) es (asks_while contexts m line (Step.Call ctx (GuestCall.UdpReceive handle most)) standing)
+    receive_says : (contexts : List WasiSocketsCtx) (standing : Option Standing) → ((place : ℕ) → incoming_at m handle ≡ Some place → NamesUdp es m.store.records handle place) → Allows Anything (λ fs done. MayReply steps fs served at (Step.Call ctx (GuestCall.UdpReceive handle most)) done.0) es (asks_while contexts m line (Step.Call ctx (GuestCall.UdpReceive handle most)) standing)
     receive_says contexts (Some c) n = tt
     receive_says contexts None n =
-        allows_then Anything (λ fs done. Says fs done.0) (λ fs done. MayReply fs (Step.Call ctx (GuestCall.UdpReceive handle most)) done.0) es (receive_datagrams_on m (first_ids line) most (incoming_at m handle)) _
+        allows_then Anything (λ fs done. Says fs done.0) (λ fs done. MayReply steps fs served at (Step.Call ctx (GuestCall.UdpReceive handle most)) done.0) es (receive_datagrams_on m (first_ids line) most (incoming_at m handle)) _
         (handle_says (incoming_at m handle) n) (λ fs done k. k)
 
--- the reply to a step may be given
-pub step_replies : (contexts : List WasiSocketsCtx) (steps : List Step) (line : ℕ) (s : Step) (m : Machine) (es : List Entry) → StateIsFine contexts steps es m → Keeps es m.store.records → Lates es m → Allows Anything (λ fs done. MayReply fs s done.0) es (machine_asks contexts m line s)
-step_replies contexts steps line (Step.Call ctx (GuestCall.UdpReceive handle most)) m es f k late =
-    receive_says ctx handle most line m es k late contexts m.store.standing (λ place e. names_udp es m.store.records handle place (kind_at m.table handle) (incoming_record (kind_at m.table handle) place e) (f.handles handle))
-step_replies contexts steps line s m es f k late = gives_any (λ fs done. MayReply fs s done.0) (λ fs done. tt) es (machine_asks contexts m line s)
+-- a line that replies to no receive of 0.3
+abbrev pub IsQuietAt : List Step → Step → Type 0
+IsQuietAt steps s = (IsReceive s → ⊥) × ((n : ℕ) → s ≡ Step.Poll n → BeganBy steps (own_of n) (λ (t : Step). IsReceive t → ⊥))
+
+quiet_as : (steps : List Step) (es : List Entry) (served : List ℕ) (n : ℕ) (fields : List Field) → BeganBy steps (own_of n) (λ (t : Step). IsReceive t → ⊥) → HandsAs steps es served n (step_at steps n) fields
+quiet_as steps es served n fields k = subst (λ (o : Option Step). HandsAs steps es served n o fields) (sym k.at) (so k.origin k.holds)
+  where
+    so : (s : Step) → (IsReceive s → ⊥) → HandsAs steps es served n (Some s) fields
+    so (Step.Call ctx (GuestCall.P3UdpReceive socket)) none = absurd (none tt)
+    so _ none = tt
+
+quiet_may : (steps : List Step) (es : List Entry) (served : List ℕ) (line n : ℕ) (r : Reply) → BeganBy steps (own_of n) (λ (t : Step). IsReceive t → ⊥) → MayReply steps es served line (Step.Poll n) r
+quiet_may steps es served line n (Reply.Ok fields) k = quiet_as steps es served n fields k
+quiet_may steps es served line n _ k = tt
+
+-- the reply to a step may be given, where it is none to a receive of 0.3
+pub step_replies : (contexts : List WasiSocketsCtx) (steps : List Step) (served : List ℕ) (line : ℕ) (s : Step) (m : Machine) (es : List Entry) → IsQuietAt steps s → StateIsFine contexts steps es m → Keeps es m.store.records → Lates es m
+    → Allows Anything (λ fs done. MayReply steps fs served line s done.0) es (machine_asks contexts m line s)
+step_replies contexts steps served line (Step.Call ctx (GuestCall.UdpReceive handle most)) m es q f k late =
+    receive_says steps served line ctx handle most line m es k late contexts m.store.standing (λ place e. names_udp es m.store.records handle place (kind_at m.table handle) (incoming_record (kind_at m.table handle) place e) (f.handles handle))
+step_replies contexts steps served line (Step.Call ctx (GuestCall.P3UdpReceive socket)) m es q f k late = absurd (q.0 tt)
+step_replies contexts steps served line (Step.Poll n) m es q f k late =
+    gives_any (λ fs done. MayReply steps fs served line (Step.Poll n) done.0) (λ fs done. quiet_may steps fs served line n done.0 (q.1 n refl)) es (machine_asks contexts m line (Step.Poll n))
+step_replies contexts steps served line s m es q f k late = gives_any (λ fs done. MayReply steps fs served line s done.0) (λ fs done. tt) es (machine_asks contexts m line s)

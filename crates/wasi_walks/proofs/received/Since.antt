@@ -2,7 +2,8 @@
 use Rattle.wasi_walks.proofs.walks.Asked.{MarksResult, WritesOnce}
 use Rattle.wasi_host.specs.declared.kind.Kind.TheVariants.{Result3}
 use Rattle.wasi_walks.proofs.walks.Asked.{Asked, Questions, SetsBacklog, Learns, Closes, MarksOne, AsksCreate, MarksAccepted, MarksListener, MarksPlain, Polls, Turns, GivesUp, UdpQuestions, UdpDisconnects, UdpLearns, UdpPeers, UdpCloses, UdpBegins, MarksUdp, MarksStream, MarksError, UdpGivesUp, Resolves, Looks}
-use Rattle.wasi_walks.proofs.walks.Asked.{ResolvesBeside, LooksBeside}
+use Rattle.wasi_walks.proofs.walks.Asked.{BeginsDatagram, PollsBeside, ResolvesBeside, LooksBeside}
+use Rattle.wasi_walks.proofs.walks.Moves.{datagram_begun, datagram_polled, with_beside}
 use Rattle.wasi_walks.proofs.Words.{made_to, Allows, Asks, Call, Entry, Err, ErrorCode, ErrorValue, Full, HandleTable, Kind, List, None, Not, Ok, OpId, Option, Result, Socket, Some, Step, Stop, Tcp2, Told, Trap, WasiSocketsCtx, []}
 use Rattle.wasi_walks.proofs.Words.{allows_if, allows_keep, allows_then, allows_weaker, ap, arith, bind, entry, give_up_asks, inl, inr, is_full, kind_at, length, length-append, make_asks, name_of, new_asks, new_record, own_of, poll_asks}
 use Rattle.wasi_walks.proofs.Words.{refl, side_of, subst, sym, told_done, turn_asks, with_handle, with_listening, with_writer, ℕ, ◌++◌, ◌∷◌, ◌≡◌, ◌⊎◌}
@@ -164,13 +165,17 @@ module _ (side : OpId) (from : ℕ) where
     sinces_asks es h _ _ _ (MarksResult socket place slot r m made e g) b i = marks_so es h (own_of line) (Result3 slot) (Some socket) _ (λ made. Past) tt tt tt i
     sinces_asks es h _ _ _ (WritesOnce c handle place given end r s half permit is e f at g q w own) b i = kept h (λ told. record h { own = Used }) es _ i (λ done. i.1) (λ fs done k. k) ((lates side i.0.start contexts line origin).asks es h _ _ _ (WritesOnce c handle place given end r s half permit is e f at g q w own) b i.0.late)
     sinces_asks es h _ _ _ (Polls op after k) b i = kept h after es (poll_asks op) i (λ end. polled_same (λ t made standing. AreUnder t made standing) h op after k end i.1) (λ fs end. polled_same (λ t made standing. AreEarly side i.0.start fs t) h op after k end) ((lates side i.0.start contexts line origin).asks es h _ _ _ (Polls op after k) b i.0.late)
+    sinces_asks es h _ _ _ (BeginsDatagram place o call op polled at g starts made own) b i =
+        kept h (λ ended. record (with_beside h (datagram_begun h.machine.store.beside line call op ended)) { own = Used }) es (poll_asks polled) i (λ done. i.1) (λ fs done k. k) ((lates side i.0.start contexts line origin).asks es h _ _ _ (BeginsDatagram place o call op polled at g starts made own) b i.0.late)
+    sinces_asks es h _ _ _ (PollsBeside n c place o call op polled is at g polls) b i =
+        kept h (λ ended. with_beside h (datagram_polled h.machine.store.beside n call op ended)) es (poll_asks polled) i (λ done. i.1) (λ fs done k. k) ((lates side i.0.start contexts line origin).asks es h _ _ _ (PollsBeside n c place o call op polled is at g polls) b i.0.late)
     sinces_asks es h _ _ _ (Turns place r s g e) b i = kept h (λ done. put h place (with_writer r s done.1)) es (turn_asks s.writer) i (λ done. i.1) (λ fs done k. k) ((lates side i.0.start contexts line origin).asks es h _ _ _ (Turns place r s g e) b i.0.late)
     sinces_asks es h _ _ _ (GivesUp place r q goes g) b i = kept h (λ done. put h place (with_listening r Not)) es (give_up_asks r.listening) i (λ done. i.1) (λ fs done k. k) ((lates side i.0.start contexts line origin).asks es h _ _ _ (GivesUp place r q goes g) b i.0.late)
     sinces_asks es h _ _ _ (UdpQuestions place n o c at g q) b i = (tt, λ told f. (longer es _ _ _ _ i.0 (((lates side i.0.start contexts line origin).asks es h _ _ _ (UdpQuestions place n o c at g q) b i.0.late).1 told f), i.1))
     sinces_asks es h _ _ _ (UdpLearns place part o at g) b i = (tt, λ told f. (longer es _ _ _ _ i.0 (((lates side i.0.start contexts line origin).asks es h _ _ _ (UdpLearns place part o at g) b i.0.late).1 told f), i.1))
     sinces_asks es h _ _ _ (UdpDisconnects place o at g is) b i = (tt, λ told f. (longer es _ _ _ _ i.0 (((lates side i.0.start contexts line origin).asks es h _ _ _ (UdpDisconnects place o at g is) b i.0.late).1 told f), i.1))
     sinces_asks es h _ _ _ (UdpPeers place o at g) b i = (tt, λ told f. (longer es _ _ _ _ i.0 (((lates side i.0.start contexts line origin).asks es h _ _ _ (UdpPeers place o at g) b i.0.late).1 told f), i.1))
-    sinces_asks es h _ _ _ (UdpCloses place o q g) b i = (tt, λ told f. (longer es _ _ _ _ i.0 (((lates side i.0.start contexts line origin).asks es h _ _ _ (UdpCloses place o q g) b i.0.late).1 told f), i.1))
+    sinces_asks es h _ _ _ (UdpCloses place n o q g) b i = (tt, λ told f. (longer es _ _ _ _ i.0 (((lates side i.0.start contexts line origin).asks es h _ _ _ (UdpCloses place n o q g) b i.0.late).1 told f), i.1))
     sinces_asks es h _ _ _ (UdpBegins face ctx family c may a o m) b i = (
       tt,
       λ told f.

@@ -83,14 +83,14 @@ udp_bind_silent _ (udp_bind.Checked a) = (tt, tt)
 udp_bind_silent _ udp_bind.Ended = tt
 
 -- a receive
-receive_silent : (items : List Item) → receive.IsLeftOfReceive items → AreSilent items
+pub receive_silent : (items : List Item) → receive.IsLeftOfReceive items → AreSilent items
 receive_silent _ (receive.ToRefuse c) = (tt, tt)
 receive_silent _ (receive.Unreceived only) = (tt, tt)
 receive_silent _ (receive.Received only bytes peer) = (tt, tt)
 receive_silent _ receive.Ended = tt
 
 -- a datagram
-send_silent : (items : List Item) → send.IsLeftOfSend items → AreSilent items
+pub send_silent : (items : List Item) → send.IsLeftOfSend items → AreSilent items
 send_silent _ (send.ToRefuse c) = (tt, tt)
 send_silent _ (send.Unbound family kept a bytes) = (tt, (tt, (tt, tt)))
 send_silent _ (send.Unchecked kept a bytes) = (tt, (tt, tt))
@@ -113,6 +113,9 @@ polled_so Q es h place u op now g f a i =
     (λ fs ended k. put_udps fs h.machine.store.records place (now ended) (f fs ended (k.0.udps place u g) k.1) k.0) es (poll_asks op) (kept h.machine.store.records Q es (poll_asks op) i a)
 
 -- and whatever it ends with
+pub polled_alone : (es : List Entry) (h : Here) (op : Operation) → AreSilent op.left → Keeps es h.machine.store.records → Allows Anything (λ fs ended. Keeps fs h.machine.store.records) es (poll_asks op)
+polled_alone es h op s i = allows_weaker Anything (λ fs ended. Keeps fs h.machine.store.records × AreSilent ended.1) (λ fs ended. Keeps fs h.machine.store.records) (λ fs ended k. k.0) es (poll_asks op) (kept h.machine.store.records (λ fs ended. AreSilent ended.1) es (poll_asks op) i (silent_poll op es s))
+
 polled_udp : (es : List Entry) (h : Here) (place : ℕ) (u : UdpRecord) (op : Operation) (now : End × List Item → UdpRecord) → FoundUdp h place u → ((fs : List Entry) (ended : End × List Item) → UdpKeeps fs u → UdpKeeps fs (now ended)) → AreSilent op.left → Keeps es h.machine.store.records
     → Allows Anything (λ fs ended. Keeps fs (udp2_put h.machine.store.records place (now ended))) es (poll_asks op)
 polled_udp es h place u op now g f s i = polled_so (λ fs ended. AreSilent ended.1) es h place u op now g (λ fs ended k q. f fs ended k) (silent_poll op es s) i

@@ -8,8 +8,17 @@ use Rattle.wasi_host.specs.declared.kind.Kind.TheVariants.{Result3}
 use Rattle.wasi_walks.proofs.remotes.State.{StreamsBy}
 use Rattle.wasi_walks.proofs.walks.Law.{BeginsWrites, Rests, begins_by}
 use Rattle.wasi_walks.proofs.walks.Asked.{Asked, Questions, SetsBacklog, Learns, Closes, MarksOne, AsksCreate, MarksAccepted, MarksListener, MarksPlain, Polls, Turns, GivesUp, UdpQuestions, UdpDisconnects, UdpLearns, UdpPeers, UdpCloses, UdpBegins, MarksUdp, MarksStream, MarksError, UdpGivesUp, Resolves, Looks}
-use Rattle.wasi_walks.proofs.walks.Asked.{ResolvesBeside, LooksBeside}
-use Rattle.wasi_walks.proofs.Words.{made_to, create_to, Stop, Asks}
+use Rattle.wasi_walks.proofs.walks.Asked.{BeginsDatagram, PollsBeside, ResolvesBeside, LooksBeside}
+use Rattle.wasi_udp.specs.Receive.{receive_start, wanting}
+use Rattle.wasi_udp.specs.Send.{at_remote, send_start}
+use Rattle.wasi_host.specs.declared.beside.BesideCall.{BesideCall}
+use Rattle.wasi_walks.proofs.BesideLists.{found_has}
+use Rattle.wasi_walks.proofs.fits.DatagramPolls.{wanted_left}
+use Rattle.wasi_walks.proofs.fits.Datagrams.{FitBeside}
+use Rattle.wasi_walks.proofs.fits.UdpFits.{begun_receive, begun_send}
+use Rattle.wasi_walks.proofs.remotes.Held.{polled_alone, receive_silent, send_silent}
+use Rattle.wasi_walks.proofs.walks.Moves.{PollsDatagram, PollsReceive, PollsSend, StartsDatagram, StartsReceive, StartsSend}
+use Rattle.wasi_walks.proofs.Words.{made_to, create_to, Stop, Asks, Operation}
 use Rattle.wasi_walks.proofs.Words.{Accepting, Accepts, Allows, Begins, Bool, Call, Done, End, Entry, Err, ErrorCode, Give, HandleTable}
 use Rattle.wasi_walks.proofs.Words.{ErrorValue, IpSocketAddress, IsDoneOrCode, Job, Kind, List, Listening, Machine, None, Not, Ok, OpId, Option}
 use Rattle.wasi_walks.proofs.Words.{ReadState, Refused, Result, Socket, SocketAddressFamily, Some, Step, Streams, Tcp2, TcpRecord, TcpSendStream, Told, Unclosed}
@@ -262,8 +271,25 @@ module _ (contexts : List WasiSocketsCtx) (line : ℕ) (origin : Step) where
       put_tcp es _ place (walk.with_send r c) (with_these (walk.with_send r c) _ refl ((ends_by r (i.tcps place r g)).0, its)) i
   moves_keep es _ _ (walk.AddsSlot h s) b i = records_keep {new = λ op. ⊥} es h.machine.store.records _ (slot_push_same h.machine.store.records s) i
   moves_keep es _ _ (walk.Finds h records s) b i = records_keep es h.machine.store.records records s i
+  moves_keep es _ _ (walk.DropsUdp h place o idle made g) b i = let k = i.udps place (UdpRecord.Open o) g in put_udps
+      es _ place (UdpRecord.Open _)
+      (record { created = k.created; remote = k.remote; told = k.told; connects = k.connects; receiver = k.receiver }) i
   moves_keep es _ _ (walk.GivesBack h place idle left) b i = fewer_keep es h.machine.store.records place i
   moves_keep es _ _ _ b i = i
+
+  -- a datagram of 0.3
+  begins_keep : (es : List Entry) (h : Here) (place : ℕ) (o : OpenUdp) (call : Operation → BesideCall) (op polled : Operation) → StartsDatagram line origin h.machine.table place o call op polled → Keeps es h.machine.store.records → Allows Anything (λ fs ended. Keeps fs h.machine.store.records) es (poll_asks polled)
+  begins_keep es h place o call _ _ (StartsSend c s d bound is of known) i =
+      let op : Operation = send_start (own_of line) o.inner d.bytes d.remote_address bound in
+      polled_alone es h (at_remote o.inner.remote op) (send_silent op.left (begun_send (own_of line) o.inner d.bytes d.remote_address bound).send.left) i
+  begins_keep es h place o call _ _ (StartsReceive c s bound is of known) i =
+      let op : Operation = receive_start (own_of line) o.inner bound in
+      polled_alone es h (wanting None op) (receive_silent (wanting None op).left (wanted_left None op.left (begun_receive (own_of line) o.inner bound).receive.left)) i
+
+  polls_beside : (es : List Entry) (h : Here) (place : ℕ) (o : OpenUdp) (was : BesideCall) (call : Operation → BesideCall) (op polled : Operation) (n : ℕ) → PollsDatagram place o was call op polled → FitBeside h.machine.store.records n was → Keeps es h.machine.store.records
+      → Allows Anything (λ fs ended. Keeps fs h.machine.store.records) es (poll_asks polled)
+  polls_beside es h place o _ _ _ _ n (PollsSend op) f i = polled_alone es h (at_remote o.inner.remote op) (send_silent op.left f.1.left) i
+  polls_beside es h place o _ _ _ _ n (PollsReceive op) f i = polled_alone es h (wanting None op) (receive_silent (wanting None op).left (wanted_left None op.left f.1.left)) i
 
   -- the law: the calls may be any
   pub remotes_asks : (es : List Entry) (h : Here) (A : Type 0) (tree : Asks A) (end : A → Here)
@@ -282,6 +308,8 @@ module _ (contexts : List WasiSocketsCtx) (line : ℕ) (origin : Step) where
   remotes_asks es h _ _ _ (MarksResult socket place slot r m made e g) b i = marks_keep es _ h.machine.table (own_of line) (Result3 slot) (Some socket) _ i
   remotes_asks es h _ _ _ (WritesOnce c handle place given end r s half permit is e f at g q w own) b i = write_once es h.machine.store.records (own_of line) half.side (take 4294967295 given) i
   remotes_asks es h _ _ _ (Polls op after k) b i = polls_keep contexts line origin es h op after k b i
+  remotes_asks es h _ _ _ (BeginsDatagram place o call op polled at g starts made own) b i = begins_keep es h place o call op polled starts i
+  remotes_asks es h _ _ _ (PollsBeside n c place o call op polled is at g polls) b i = polls_beside es h place o c.call call op polled c.line polls (b.3.besides c (found_has h.machine.store.beside n c at).0) i
   remotes_asks es h _ _ _ (Turns place r s g e) b i = turned_keeps es h place r s g e i
   remotes_asks es h _ _ _ (GivesUp place r q goes g) b i =
       allows_weaker Anything (λ fs done. Keeps fs h.machine.store.records × ⊤) (λ fs done. Keeps fs (tcp2_put h.machine.store.records place (with_listening r Not)))
@@ -290,7 +318,7 @@ module _ (contexts : List WasiSocketsCtx) (line : ℕ) (origin : Step) where
   remotes_asks es h _ _ _ (UdpLearns place part o at g) b i = (tt, λ told f. (let k = asked es h.machine.store.records (part_of line part) (Call.Local o.inner.side) told (quiet _ _ tt) i in put_udps _ _ place (UdpRecord.Open _) (learnt_keeps _ o (told_addr told) (k.udps place (UdpRecord.Open o) g)) k))
   remotes_asks es h _ _ _ (UdpDisconnects place o at g is) b i = (tt, λ told f. (let k = asked es h.machine.store.records (own_of line) (Call.UdpDisconnect o.inner.side) told (quiet _ _ tt) i in put_udps _ _ place (UdpRecord.Open _) (bound_keeps _ o (k.udps place (UdpRecord.Open o) g)) k))
   remotes_asks es h _ _ _ (UdpPeers place o at g) b i = (tt, λ told f. peer_keeps line es h place o (own_of line) told g b.1 i)
-  remotes_asks es h _ _ _ (UdpCloses place o q g) b i = (tt, λ told f. put_udps _ _ place (UdpRecord.Closed o.inner.side) tt (asked es _ (own_of line) _ told (quiet _ _ tt) i))
+  remotes_asks es h _ _ _ (UdpCloses place n o q g) b i = (tt, λ told f. put_udps _ _ place (UdpRecord.Closed o.inner.side) tt (asked es _ (own_of n) _ told (quiet _ _ tt) i))
   remotes_asks es h _ _ _ (UdpBegins face ctx family c may a o m) b i = (tt, λ told f. begun_keeps es h (own_of line) ctx.name family told f i)
   remotes_asks es h _ _ _ (MarksUdp face place u g) b i = marks_keep es _ h.machine.table (udp_side u) (udp_kind face place) None (Some (udp_side u)) i
   remotes_asks es h _ _ _ (MarksStream place n handle reached kind m new e) b i = marks_keep es _ h.machine.table (own_of n) kind (Some handle) _ i

@@ -11,10 +11,11 @@ use Rattle.wasi_host.specs.declared.kind.ConnectionEnd.{ConnectionEnd}
 use Rattle.wasi_world.specs.Asks.{one}
 use Rattle.wasi_walks.proofs.walks.Moves.{Interface, P2, P3, tcp_kind, Calls, Creates, CreatesUdp, Found, FoundUdp, HasNewStream, Held, Here, IsCreated, IsKnown, IsOn, IsQuestionOf}
 use Rattle.wasi_world.specs.Typed.{told_names}
-use Rattle.wasi_walks.proofs.walks.Moves.{Faulted, IsUdpQuestionOf, Joined, ListenerGoes, LooksUp, Marks, MarksNext, NoStart, OfStreams, Past, Releases, ReleasesUdp}
+use Rattle.wasi_walks.proofs.walks.Moves.{StartsDatagram, PollsDatagram, datagram_begun, datagram_polled, Faulted, IsUdpQuestionOf, Joined, ListenerGoes, LooksUp, Marks, MarksNext, NoStart, OfStreams, Past, Releases, ReleasesUdp}
 use Rattle.wasi_walks.proofs.walks.Moves.{SameSockets, ToListen, ToResult, MakesEnds, ToSend, Unused, Used, closed_record, made_so, part_of, put, put_udp, record_of, udp_begun, with_beside, with_records}
 use Rattle.wasi_walks.proofs.walks.Failures.{Fails}
 use Rattle.wasi_host.specs.declared.beside.Beside.{Beside}
+use Rattle.wasi_host.specs.declared.beside.BesideCall.{BesideCall}
 use Rattle.wasi_host.specs.declared.beside.BesideCall.TheVariants.{Resolve}
 use Rattle.wasi_host.specs.Beside.{beside_as, beside_of}
 use Rattle.wasi_host.specs.Resolves.{begun_lookup}
@@ -61,8 +62,8 @@ pub data Asked (contexts : List WasiSocketsCtx) (line : ℕ) (origin : Step) (es
   UdpPeers : (place : ℕ) (o : OpenUdp) → h.at ≡ Some (place, line) → FoundUdp h place (UdpRecord.Open o)
       → Asked contexts line origin es h Told (one (own_of line) (Call.Peer o.inner.side))
       (λ told. put_udp h place (UdpRecord.Open (with_udp_inner o (after_peer o.inner (told_addr told)))))
-  UdpCloses : (place : ℕ) (o : OpenUdp) → ReleasesUdp h place → FoundUdp h place (UdpRecord.Open o)
-      → Asked contexts line origin es h Told (one (own_of line) (Call.Close o.inner.side))
+  UdpCloses : (place n : ℕ) (o : OpenUdp) → ReleasesUdp h place → FoundUdp h place (UdpRecord.Open o)
+      → Asked contexts line origin es h Told (one (own_of n) (Call.Close o.inner.side))
       (λ told. put_udp h place (UdpRecord.Closed o.inner.side))
   UdpBegins : (face : Interface) (ctx : WasiSocketsCtx) (family : SocketAddressFamily) → CreatesUdp contexts ctx family face origin
       → ctx.udp ≡ true → h.at ≡ None → h.own ≡ Unused → h.made ≡ Past
@@ -140,6 +141,16 @@ pub data Asked (contexts : List WasiSocketsCtx) (line : ℕ) (origin : Step) (es
       (λ done. record h { machine = done.1; own = Used })
   Polls : (op : Operation) (after : End × List Item → Here) → Held h op after
       → Asked contexts line origin es h (End × List Item) (poll_asks op) after
+  -- a datagram of 0.3 begins, and is polled
+  BeginsDatagram : (place : ℕ) (o : OpenUdp) (call : Operation → BesideCall) (op polled : Operation) → h.at ≡ Some (place, line)
+      → FoundUdp h place (UdpRecord.Open o) → StartsDatagram line origin h.machine.table place o call op polled → h.made ≡ Past → h.own ≡ Unused
+      → Asked contexts line origin es h (End × List Item) (poll_asks polled)
+      (λ ended. record (with_beside h (datagram_begun h.machine.store.beside line call op ended)) { own = Used })
+  -- and is polled again by its number, where it stands
+  PollsBeside : (n : ℕ) (b : Beside) (place : ℕ) (o : OpenUdp) (call : Operation → BesideCall) (op polled : Operation) → origin ≡ Step.Poll n
+      → beside_of h.machine.store n ≡ Some b → FoundUdp h place (UdpRecord.Open o) → PollsDatagram place o b.call call op polled
+      → Asked contexts line origin es h (End × List Item) (poll_asks polled)
+      (λ ended. with_beside h (datagram_polled h.machine.store.beside n call op ended))
   Turns : (place : ℕ) (r : TcpRecord) (s : Streams) → Found h place r → r.streams ≡ Some s
       → Asked contexts line origin es h (Unit {0} × WriteState) (turn_asks s.writer)
       (λ done. put h place (with_writer r s done.1))

@@ -113,7 +113,7 @@ module _ {contexts : List WasiSocketsCtx} {line : ℕ} {origin : Step} {law : La
   udp_told_walks here P2 (Ok answer, o) w = give _
   udp_told_walks here P3 (Ok Pending, o) w = give _
   udp_told_walks here P3 (Ok (Ready d), o) w =
-      move (UdpChanges _ _ o (with_udp_progress o udp.Nothing) (udp_found here (Open o)) (record { side = refl; maker = refl; family = refl; remote = refl; bound = λ b. b; binds = inr (w, tt); connects = refl; sends = inl refl; receives = inl refl; came = inl refl }) (record { incoming = StreamStays _; makes = inl (λ some. some) })) (from (sym (udp_put_put _ _ _ _)) (give _))
+      move (UdpChanges _ _ o (with_udp_progress o udp.Nothing) (udp_found here (Open o)) (record { side = refl; maker = refl; family = refl; remote = refl; bound = λ b. b; binds = inr (w, tt); connects = refl; sends = inl refl; receives = inl refl; came = inl refl; dropped = refl }) (record { incoming = StreamStays _; makes = inl (λ some. some) })) (from (sym (udp_put_put _ _ _ _)) (give _))
   udp_told_walks here face (Err c, o) w = give _
 
   udp_stands_walks : (m : Machine) (ids : Ids) (place : ℕ) (face : Interface) (own : Own) (asked : OpenUdp → Asks (Answered × OpenUdp)) → NoStartStands m.store.standing

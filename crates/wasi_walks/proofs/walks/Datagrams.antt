@@ -27,7 +27,7 @@ use Rattle.wasi_udp.specs.Socket.{after_local, ask_bound, bound_asks, disconnect
 use Rattle.wasi_walks.proofs.Lists.{value_front}
 use Rattle.wasi_walks.specs.Licence.{IsDisconnect, IsUdpConnectTo}
 use Rattle.wasi_walks.proofs.walks.Here.{no_open}
-use Rattle.wasi_walks.proofs.walks.Moves.{StreamIsMade, StreamMoves, EndsConnect, HasNewStream, Here, ToConnect, ToSend, ToStream, Own, put_udp, FoundUdp, NoStart, NoStartStands, ReachesUdp, Leaves, Spends, UdpChanges, RemembersStreams, BeginsUdpConnect, StandsUdpConnect, Used, Unused}
+use Rattle.wasi_walks.proofs.walks.Moves.{StreamIsMade, StreamMoves, StreamsUnder, EndsConnect, HasNewStream, Here, ToConnect, ToSend, ToStream, Own, put_udp, FoundUdp, NoStart, NoStartStands, ReachesUdp, Leaves, Spends, UdpChanges, RemembersStreams, BeginsUdpConnect, StandsUdpConnect, Used, Unused}
 use Rattle.wasi_walks.proofs.walks.Law.{Law, Walks, Given, given_along, given_then, given_on, give, and_then, and_given, move, gives, from}
 use Rattle.wasi_walks.proofs.walks.States.{At, Over, OverWith, Starts, udp_record}
 use Rattle.wasi_walks.proofs.walks.Udp.{bound_walks, disconnect_walks, open_is, udp_there}
@@ -178,7 +178,7 @@ again_made store ids place handle q (Some o) e = given_along WaitsUdpConnect (Ar
 
 module _ {contexts : List WasiSocketsCtx} {line : ℕ} {origin : Step} {law : Law contexts line origin} where
   -- == a connect that was begun is polled, by the line that it goes on by
-  module _ {h : Here} {place : ℕ} (here : HasUdp h place) (quiet : NoStart h) where
+  module _ {h : Here} {place : ℕ} (here : HasUdp h place) (quiet : NoStart h) (under : StreamsUnder h place) where
     ended_walks : (op : Operation) (o : OpenUdp) (ended : End × List Item) → Walks law (put_udp (Going h place) place (UdpRecord.Open (udp_connect_left op o ended))) (Ends h place) (Give (udp_connect_ended op o ended))
     ended_walks op o (Waits, items) = give _
     ended_walks op o (Done given, items) = gives _ (EndsConnect _ place refl (inl (over_at (goes here) (udp_connect_left op o (Done given, items)) refl)))
@@ -186,13 +186,13 @@ module _ {contexts : List WasiSocketsCtx} {line : ℕ} {origin : Step} {law : La
 
     polled_by : (o : OpenUdp) (connecting : Option Operation) → o.connecting ≡ connecting → Walks law (put_udp (Going h place) place (UdpRecord.Open o)) (Ends h place) (poll_udp_connecting o connecting)
     polled_by o None e = gives _ (EndsConnect _ place refl (inl (over_at (goes here) o e)))
-    polled_by o (Some op) e = and_then (poll_udp_connect_walks (goes here) o op quiet e) (ended_walks op o)
+    polled_by o (Some op) e = and_then (poll_udp_connect_walks (goes here) o op quiet under e) (ended_walks op o)
 
   -- == on the record of a place
-  module _ {h : Here} {place : ℕ} (here : HasUdp h place) (at : h.at ≡ Some (place, line)) (free : h.own ≡ Unused) (quiet : NoStart h) where
+  module _ {h : Here} {place : ℕ} (here : HasUdp h place) (at : h.at ≡ Some (place, line)) (free : h.own ≡ Unused) (quiet : NoStart h) (under : StreamsUnder h place) where
     opens : (o : OpenUdp) → o.incoming ≡ None → Walks law (put_udp h place (UdpRecord.Open o)) (Ends h place) (Give (Ok (Ready tt), with_streams o))
     opens o none =
-        move (UdpChanges _ place o (with_streams o) (udp_found here (UdpRecord.Open o)) (record { side = refl; maker = refl; family = refl; remote = refl; bound = λ b. b; binds = inl refl; connects = refl; sends = inr refl; receives = inr refl; came = inr refl }) (record { incoming = subst (λ (inc : Option Incoming). StreamMoves origin (put_udp h place (UdpRecord.Open o)) place inc (with_streams o).incoming) (sym none) (StreamIsMade _); makes = inr (free, quiet) }))
+        move (UdpChanges _ place o (with_streams o) (udp_found here (UdpRecord.Open o)) (record { side = refl; maker = refl; family = refl; remote = refl; bound = λ b. b; binds = inl refl; connects = refl; sends = inr refl; receives = inr refl; came = inr refl; dropped = refl }) (record { incoming = subst (λ (inc : Option Incoming). StreamMoves origin (put_udp h place (UdpRecord.Open o)) place inc (with_streams o).incoming) (sym none) (StreamIsMade _ under); makes = inr (free, quiet) }))
         (from (sym (udp_put_put h place (UdpRecord.Open o) (UdpRecord.Open (with_streams o)))) (gives _ (Spends _ free)))
 
     -- with a connect
@@ -206,7 +206,7 @@ module _ {contexts : List WasiSocketsCtx} {line : ℕ} {origin : Step} {law : La
             let op : Operation = connect_start (own_of line) o.inner a true in
             let now : OpenUdp = record o { connecting = Some op } in
             move (BeginsUdpConnect _ place o a true at (udp_found here (UdpRecord.Open o)) to (λ e. bound) none free)
-            (from (ap (λ (x : Here). record x { own = ToConnect place }) (sym (udp_put_put h place (UdpRecord.Open o) (UdpRecord.Open now)))) (polled_by here quiet now (Some op) refl))
+            (from (ap (λ (x : Here). record x { own = ToConnect place }) (sym (udp_put_put h place (UdpRecord.Open o) (UdpRecord.Open now)))) (polled_by here quiet under now (Some op) refl))
 
     -- with a disconnect, where the socket is connected
     told_walks : (o : OpenUdp) → o.incoming ≡ None → (done : Result (Unit {0}) ErrorCode × Socket) → Walks law (put_udp h place (UdpRecord.Open (with_udp_inner o done.1))) (Ends h place) (Give (disconnected o done))
@@ -242,7 +242,7 @@ module _ {contexts : List WasiSocketsCtx} {line : ℕ} {origin : Step} {law : La
     start_by c remote is of o g false none =
         move (RemembersStreams _ c handle place remote is of o g none)
         (from (udp_put_same (Streaming line m place handle Unused) place (UdpRecord.Open o) g)
-        (and_given WaitsUdpConnect (begin_given (own_of line) o remote) (begin_walks (udp_there {h = Streaming line m place handle Unused} g) refl refl quiet c handle remote is o none) (λ begun w. answered_walks m (first_ids line) place handle quiet begun (record { was = UdpRecord.Open o; at = g }) w)))
+        (and_given WaitsUdpConnect (begin_given (own_of line) o remote) (begin_walks (udp_there {h = Streaming line m place handle Unused} g) refl refl quiet (line, (handle, refl)) c handle remote is o none) (λ begun w. answered_walks m (first_ids line) place handle quiet begun (record { was = UdpRecord.Open o; at = g }) w)))
 
     start_at : (c : ℕ) (remote : Option IpSocketAddress) → origin ≡ Step.Call c (GuestCall.UdpStream handle remote) → udp_of (kind_at m.table handle) ≡ Some place → (o : Option OpenUdp) → open_at m.store.records place ≡ o → Walks law (At line m place Unused) (Streamed line m place handle) (start_streams_at m.store (first_ids line) place handle remote o)
     start_at c remote is of None e = move (Spends _ refl) (gives _ (Leaves _))
@@ -255,7 +255,7 @@ module _ {contexts : List WasiSocketsCtx} {line : ℕ} {origin : Step} {law : La
         let g : FoundUdp (Streaming ids.line m place handle Used) place (UdpRecord.Open o) = open_is (udp2_at m.store.records place) o e in
         let there : HasUdp (Streaming ids.line m place handle Used) place = record { was = UdpRecord.Open o; at = g } in
         from (udp_put_same (Streaming ids.line m place handle (ToConnect place)) place (UdpRecord.Open o) g)
-        (and_given WaitsUdpConnect (poll_given o o.connecting) (polled_by there quiet o o.connecting refl) (λ done w. answered_walks m ids place handle quiet done there w))
+        (and_given WaitsUdpConnect (poll_given o o.connecting) (polled_by there quiet (ids.line, (handle, refl)) o o.connecting refl) (λ done w. answered_walks m ids place handle quiet done there w))
 
   -- == their handles
   module _ (n place handle : ℕ) where

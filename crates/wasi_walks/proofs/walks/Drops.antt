@@ -13,10 +13,11 @@ use Rattle.wasi_walks.proofs.Words.{without_handle}
 use Rattle.wasi_walks.proofs.Words.{ℕ, ◌≡◌}
 use Rattle.wasi_addr.specs.declared.address.ShutdownType.TheVariants.{Receive, Send}
 use Rattle.wasi_records.specs.Records.{tcp2_at, udp2_at, open_at, lookup_at}
-use Rattle.wasi_walks.proofs.walks.Moves.{Unused, Spends, record_of, Reaches, Leaves, Takes, ReachesUdp, udp_record_of}
+use Rattle.wasi_walks.proofs.walks.Moves.{Unused, Spends, record_of, Reaches, Leaves, Takes, ReachesUdp, WithHandle, udp_record_of}
 use Rattle.wasi_walks.proofs.walks.Law.{Law, Walks, give, and_then, move, gives}
-use Rattle.wasi_walks.proofs.walks.States.{OverWith, Starts, none_stands}
+use Rattle.wasi_walks.proofs.walks.States.{Emptying, OverWith, Starts, none_stands}
 use Rattle.wasi_walks.proofs.walks.Pipes.{drop_input_walks, drop_output_walks as drop_plain_output_walks}
+use Rattle.wasi_walks.proofs.walks.SocketDatagrams.{drop_udp_walks}
 use Rattle.wasi_walks.proofs.walks.Udp.{release_udp_walks}
 use Rattle.wasi_walks.proofs.walks.Lookups.{drop_lookup_walks}
 use Rattle.wasi_host.specs.declared.kind.Kind.TheVariants.{Listen3, Receive3, Result3, Send3, Tcp3, Udp2, Udp3, PlainInput, PlainOutput, Incoming, Outgoing, Lookup}
@@ -36,10 +37,10 @@ module _ {contexts : List WasiSocketsCtx} {line : ℕ} {origin : Step} {law : La
       move (Reaches _ this place named (ap record_of e)) (move (Empties _ this (Tcp2 place) (none_stands q) e free) (and_then (release_at_walks now place (tcp2_at m.store.records place) refl q) (λ done. give _)))
   dropped_walks m this (Udp2 place) true named e free q =
       let now : Machine = record m { table = without_handle m.table this } in
-      move (ReachesUdp _ this place named (ap udp_record_of e)) (move (Empties _ this (Udp2 place) (none_stands q) e free) (and_then (release_udp_walks now place (Udp2 place) refl (udp2_at m.store.records place) refl q) (λ done. gives _ (Leaves _))))
+      move (ReachesUdp _ this place named (ap udp_record_of e)) (move (Empties _ this (Udp2 place) (none_stands q) e free) (and_then (release_udp_walks (Emptying line now place (Udp2 place) Unused) place line (udp2_at m.store.records place) refl (λ o g. WithHandle q refl)) (λ done. move (Spends _ refl) (gives _ (Leaves _)))))
   dropped_walks m this (Udp3 place) true named e free q =
       let now : Machine = record m { table = without_handle m.table this } in
-      move (ReachesUdp _ this place named (ap udp_record_of e)) (move (Empties _ this (Udp3 place) (none_stands q) e free) (and_then (release_udp_walks now place (Udp3 place) refl (udp2_at m.store.records place) refl q) (λ done. gives _ (Leaves _))))
+      move (ReachesUdp _ this place named (ap udp_record_of e)) (move (Empties _ this (Udp3 place) (none_stands q) e free) (and_then (drop_udp_walks now place q) (λ done. give _)))
   dropped_walks m this (Tcp3 place) true named e free q =
       let now : Machine = record m { table = without_handle m.table this } in
       move (Reaches _ this place named (ap record_of e)) (move (Empties _ this (Tcp3 place) (none_stands q) e free) (and_then (handle_goes_walks now place q) (λ done. give _)))

@@ -24,7 +24,7 @@ use Rattle.wasi_steps.specs.Steps.{handles_of}
 use Rattle.wasi_walks.specs.Licence.{Has}
 use Rattle.wasi_walks.proofs.PipeLists.{slot_put_same}
 use Rattle.wasi_walks.proofs.Words.{if◌then◌else◌, without_handle}
-use Rattle.wasi_walks.proofs.walks.Moves.{Emptied, Finds, GivesBack, Here, Leaves, OfSlot, OfTcp, ReachesEnd, Spends, Takes, Unused, Used, end_of, put}
+use Rattle.wasi_walks.proofs.walks.Moves.{Emptied, Finds, GivesBack, WhenIdle, Here, Leaves, OfSlot, OfTcp, ReachesEnd, Spends, Takes, Unused, Used, end_of, put}
 use Rattle.wasi_walks.proofs.walks.Law.{HasRecord, Law, Walks, Given, give, given_then, and_given, and_then, found, from, gives, move, put_same}
 use Rattle.wasi_walks.proofs.walks.Releases.{Freeing, Gone, let_go_walks}
 use Rattle.wasi_walks.proofs.walks.States.{At, Over, OverIn, OverWith, Starts, none_stands, streams_are, there}
@@ -68,7 +68,7 @@ module _ {contexts : List WasiSocketsCtx} {line : ℕ} {origin : Step} {law : La
 
   -- and the network socket goes with its last holder
   gone_or_left : (m : Machine) (place : ℕ) (was : TcpRecord) → tcp2_at m.store.records place ≡ Some was → m.store.standing ≡ None → (done : Bool × TcpRecord) → Walks law (Gone (At line m place Used) place done) (OverIn m) (Give (left_so m.store place done))
-  gone_or_left m place was g q (true, r) = move (GivesBack _ place q (OfTcp r refl (found (there {h = Freeing (At line m place Used) place} g) r))) (gives _ (Leaves _))
+  gone_or_left m place was g q (true, r) = move (GivesBack _ place (WhenIdle q) (OfTcp r refl (found (there {h = Freeing (At line m place Used) place} g) r))) (gives _ (Leaves _))
   gone_or_left m place was g q (false, r) = gives _ (Leaves _)
 
   end_let_go_walks : (m : Machine) (place : ℕ) → m.store.standing ≡ None → Walks law (At line m place Used) (OverIn m) (let_go (own_of line) place m.store)
@@ -108,4 +108,4 @@ module _ {contexts : List WasiSocketsCtx} {line : ℕ} {origin : Step} {law : La
     where
       by_slot : (o : Option Slot) → slot_at m.store.records place ≡ o → Walks law (record (Starts m Used) { made = Emptied (Result3 place) }) OverWith (Give (f (record m { store = drop_slot_in place m.store o })))
       by_slot None e = move (Leaves _) (from (ap (λ (x : Machine). Over x) (same _)) (give _))
-      by_slot (Some s) e = move (GivesBack _ place q (OfSlot s refl e)) (move (Leaves _) (from (ap (λ (x : Machine). Over x) (same _)) (give _)))
+      by_slot (Some s) e = move (GivesBack _ place (WhenIdle q) (OfSlot s refl e)) (move (Leaves _) (from (ap (λ (x : Machine). Over x) (same _)) (give _)))

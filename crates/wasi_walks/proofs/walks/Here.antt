@@ -7,11 +7,12 @@ use Rattle.wasi_records.specs.Datagrams.{has_streams}
 use Rattle.wasi_records.specs.Holding.{has_listener}
 use Rattle.wasi_records.specs.Receiving.{taken, with_receiving}
 use Rattle.wasi_records.specs.Records.{open_at, open_of, tcp2_at, udp2_at, lookup_at, input_pipe_at, output_pipe_at}
+use Rattle.wasi_host.specs.SocketDatagrams.{is_udp_held}
 use Rattle.wasi_host.specs.UdpCalls.{with_udp}
 use Rattle.wasi_host.specs.declared.beside.Beside.{Beside}
 pub use Rattle.wasi_host.specs.declared.kind.Interface.{Interface}
 pub use Rattle.wasi_host.specs.declared.kind.Interface.TheVariants.{P2, P3}
-use Rattle.wasi_host.specs.declared.kind.Kind.TheVariants.{Incoming, Listen3, Outgoing, Receive3, Result3, Send3, Tcp3, Udp2, Udp3, Lookup, PlainInput, PlainOutput}
+use Rattle.wasi_host.specs.declared.kind.Kind.TheVariants.{Incoming, Listen3, Outgoing, Receive3, Result3, Send3, Tcp3, Udp2, Lookup, PlainInput, PlainOutput}
 use Rattle.wasi_host.specs.declared.kind.ConnectionEnd.{ConnectionEnd}
 use Rattle.wasi_records.specs.Slots.{slot_at}
 use Rattle.wasi_records.specs.declared.slot.Slot.{Slot}
@@ -153,12 +154,6 @@ abbrev pub tcp_kind : Interface → ℕ → Kind
 tcp_kind P2 place = Tcp2 place
 tcp_kind P3 place = Tcp3 place
 
--- the record of the UDP socket that a handle of either interface names
-abbrev pub udp_socket_of : Kind → Option ℕ
-udp_socket_of (Udp2 place) = Some place
-udp_socket_of (Udp3 place) = Some place
-udp_socket_of _ = None
-
 -- and nothing holds the record of the TCP socket any more, so that its streams may go
 abbrev pub Releases : Here → ℕ → Type 0
 Releases h place = NoStart h × (h.made ≡ Freed place)
@@ -170,14 +165,10 @@ pub data ListenerGoes (h : Here) (place : ℕ) (r : TcpRecord) : Type 0 where
   NoMore : h.made ≡ Emptied (Listen3 place) → ListenerGoes h place r
   OfNothing : h.made ≡ Freed place → ListenerGoes h place r
 
--- the handle that the line dropped was a UDP socket's
-pub record IsUdpDropped (now : Made) (place : ℕ) : Type 0 where
-  pub kind : Kind
-  pub made : now ≡ Emptied kind
-  pub socket : udp_socket_of kind ≡ Some place
-
-abbrev pub ReleasesUdp : Here → ℕ → Type 0
-ReleasesUdp h place = NoStart h × IsUdpDropped h.made place
+-- a UDP socket may go: the line dropped its handle of 0.2, or nothing holds it any more
+pub data ReleasesUdp (h : Here) (place : ℕ) : Type 0 where
+  WithHandle : h.machine.store.standing ≡ None → h.made ≡ Emptied (Udp2 place) → ReleasesUdp h place
+  Unheld : is_udp_held h.machine.store place ≡ false → ReleasesUdp h place
 
 -- == what is made of no network socket
 -- the record of a pipe is there before its handle, and has the next number
@@ -236,14 +227,19 @@ pub data IsLeft (h : Here) (place : ℕ) : Type 0 where
   OfOutput : (pipe : Contents) → h.made ≡ Emptied (PlainOutput (plain_output.Pipe place)) → output_pipe_at h.machine.store.records place ≡ Some pipe → IsLeft h place
   OfSlot : (s : Slot) → h.made ≡ Emptied (Result3 place) → slot_at h.machine.store.records place ≡ Some s → IsLeft h place
 
+-- and no pending call is of it: none is pending, or it is closed
+pub data GoesBack (h : Here) (place : ℕ) : Type 0 where
+  WhenIdle : h.machine.store.standing ≡ None → GoesBack h place
+  WhenClosed : (side : OpId) → FoundUdp h place (UdpRecord.Closed side) → GoesBack h place
+
 -- it goes, with its jobs
 abbrev pub without_record : Here → ℕ → Here
 without_record h place = record h { machine = record h.machine { store = given_back place h.machine.store } }
 
 -- == a create
--- a UDP socket that is there, and isn't closed
+-- a UDP socket that is there, isn't closed, and hasn't lost a handle
 abbrev pub IsOpenUdp : UdpRecord → Type 0
-IsOpenUdp (UdpRecord.Open o) = ⊤
+IsOpenUdp (UdpRecord.Open o) = o.dropped ≡ false
 IsOpenUdp _ = ⊥
 
 -- The record of a create that is done, which has no handle yet.
@@ -261,18 +257,22 @@ pub record TakesFrom (origin : Step) (t : HandleTable) (place : ℕ) : Type 0 wh
   pub is : origin ≡ Step.Call ctx (GuestCall.UdpReceive handle most)
   pub of : kind_at t handle ≡ Some (Incoming place)
 
+-- the line makes streams of the record's socket, under its handle
+abbrev pub StreamsUnder : Here → ℕ → Type 0
+StreamsUnder h place = (n : ℕ) × ((handle : ℕ) × (h.made ≡ ToStream n handle place))
+
 -- How the incoming stream of a UDP socket moves: it stays as it is; it is made, where there was none; what it holds is taken, by a
 -- line that receives on it; it goes, once its handle was dropped.
 pub data StreamMoves (origin : Step) (h : Here) (place : ℕ) : Option IncomingStream → Option IncomingStream → Type 0 where
   StreamStays : (inc : Option IncomingStream) → StreamMoves origin h place inc inc
-  StreamIsMade : (inc : IncomingStream) → StreamMoves origin h place None (Some inc)
+  StreamIsMade : (inc : IncomingStream) → StreamsUnder h place → StreamMoves origin h place None (Some inc)
   StreamIsTaken : (inc : IncomingStream) → TakesFrom origin h.machine.table place → StreamMoves origin h place (Some inc) (Some (with_receiving inc (taken inc.receiving).1))
   StreamGoes : (inc : Option IncomingStream) → h.made ≡ Emptied (Incoming place) → StreamMoves origin h place inc None
 
 -- so it is there where it was, or its handle is gone
 pub keeps_incoming : (origin : Step) (h : Here) (place : ℕ) (old now : Option IncomingStream) → StreamMoves origin h place old now → (is_some old ≡ true → is_some now ≡ true) ⊎ (h.made ≡ Emptied (Incoming place))
 keeps_incoming origin h place _ _ (StreamStays inc) = inl (λ some. some)
-keeps_incoming origin h place _ _ (StreamIsMade inc) = inl (λ some. refl)
+keeps_incoming origin h place _ _ (StreamIsMade inc under) = inl (λ some. refl)
 keeps_incoming origin h place _ _ (StreamIsTaken inc takes) = inl (λ some. refl)
 keeps_incoming origin h place _ _ (StreamGoes inc gone) = inr gone
 

@@ -23,7 +23,7 @@ use Rattle.wasi_records.specs.declared.records.Record.{Record}
 use Rattle.wasi_records.specs.declared.records.Record.TheVariants.{Lookup as LookupRecord}
 use Rattle.wasi_p2.specs.Lookup.{next_address_on, resolve_asks, resolved_host}
 use Rattle.wasi_walks.proofs.Lists.{get_seam}
-use Rattle.wasi_walks.proofs.walks.Moves.{ALookup, Emptied, Finds, GivesBack, Here, KeepsJobs, Leaves, Lists, LooksUp, Numbered, Numbers, OfLookup, OfUnnamed, SameSockets, Spends, Unused, with_records}
+use Rattle.wasi_walks.proofs.walks.Moves.{ALookup, Emptied, Finds, GivesBack, WhenIdle, Here, KeepsJobs, Leaves, Lists, LooksUp, Numbered, Numbers, OfLookup, OfUnnamed, SameSockets, Spends, Unused, with_records}
 use Rattle.wasi_walks.proofs.walks.Asked.{Looks, Resolves}
 use Rattle.wasi_walks.proofs.walks.Law.{Given, Law, Walks, and_given, by_if, give, gives, mark, move}
 use Rattle.wasi_walks.proofs.walks.Jobs.{lookup_is_record, may_begin_one}
@@ -139,7 +139,7 @@ module _ {contexts : List WasiSocketsCtx} {line : ℕ} {origin : Step} {law : La
     looked_up_walks l (Ok handle, t) k = move (Lists _ _ (job_begins m l)) (gives _ (Leaves _))
     looked_up_walks l (Err why, t) k =
         let n : ℕ = length m.store.records in
-        move (Lists _ _ (job_begins m l)) (move (GivesBack _ n idle (OfUnnamed l (ap (λ (next : ℕ). Numbered n next) (sym k)) (ap lookup_of (get_seam m.store.records (LookupRecord l))))) (gives _ (Leaves _)))
+        move (Lists _ _ (job_begins m l)) (move (GivesBack _ n (WhenIdle idle) (OfUnnamed l (ap (λ (next : ℕ). Numbered n next) (sym k)) (ap lookup_of (get_seam m.store.records (LookupRecord l))))) (gives _ (Leaves _)))
 
     -- its record was made, and it gets its handle
     handle_walks : (l : Lookup) → Walks law (Recorded m l m.table) OverWith (lookup_handle m (own_of line) network l)
@@ -196,4 +196,4 @@ module _ {contexts : List WasiSocketsCtx} {line : ℕ} {origin : Step} {law : La
   -- == a drop
   pub drop_lookup_walks : (m : Machine) (place : ℕ) (o : Option Lookup) → lookup_at m.store.records place ≡ o → m.store.standing ≡ None → Walks law (record (Starts m Unused) { made = Emptied (LookupHandle place) }) OverWith (Give (answered (with_store m (at_once (drop_lookup_at m.store place o)))))
   drop_lookup_walks m place None e q = move (Spends _ refl) (gives _ (Leaves _))
-  drop_lookup_walks m place (Some l) e q = move (Spends _ refl) (move (GivesBack _ place q (OfLookup l refl e)) (gives _ (Leaves _)))
+  drop_lookup_walks m place (Some l) e q = move (Spends _ refl) (move (GivesBack _ place (WhenIdle q) (OfLookup l refl e)) (gives _ (Leaves _)))

@@ -1,6 +1,6 @@
 -- What a line does, as moves: the state that it works on, what it may ask of the record that it works on, and how the state may
 -- move where nothing is asked.
-use Rattle.wasi_walks.proofs.Words.{Accepting, Accepts, Begins, Bool, Connection, End, Err, ErrorCode, Has, InProgress}
+use Rattle.wasi_walks.proofs.Words.{Accepting, Accepts, Begins, Bool, Connection, End, Err, ErrorCode, HandleTable, Has, InProgress}
 use Rattle.wasi_walks.proofs.Words.{IpSocketAddress, IsBindTo, IsConnectTo, IsListenStep, Item, Kind, List, Listener, None, Not}
 use Rattle.wasi_walks.proofs.Words.{Ok, OpId, Operation, Option, Other, ReadState, Result, Some, Standing}
 use Rattle.wasi_walks.proofs.Words.{StandingCall, GuestCall, Step, Stop, Streams, Tcp2, TcpRecord, TcpSendStream, TcpState}
@@ -12,7 +12,7 @@ use Rattle.wasi_walks.proofs.Words.{side_of, standing_as, true, wildcard, with_a
 use Rattle.wasi_walks.proofs.Words.{with_progress, with_reader, with_state, with_writer, without_handle, ℕ, ⊤}
 use Rattle.wasi_walks.proofs.Words.{◌≡◌, ◌⊎◌, ◌++◌, ◌∷◌, []}
 use Rattle.wasi_world.specs.declared.ids.Ids.{Ids}
-pub use Rattle.wasi_walks.proofs.walks.Here.{Interface, IsUdpDropped, ListenerGoes, NoListener, NotYet, NoMore, OfNothing, P2, P3, tcp_kind, udp_socket_of, KeepsJobs, IsRecord, job_place, keeps_incoming, StreamGoes, StreamIsMade, StreamIsTaken, StreamMoves, StreamStays, TakesFrom, ConnectIsOver, HasNewStream, KeepsStreams, MarksNext, TakesOver, one_stream, IsCreated, IsOpenUdp, NoStart, NoStartIn, NoStartStands, Releases, ReleasesUdp, CallKind, OfPollables, OfStreams, Found, FoundUdp, Here, Own, Names, ToConnect, ToWrite, Unused, Used, Made, Awaited, Calls, Emptied, Faulted, Freed, Joined, Marked, Past, ToListen, ToSend, ToStream, Unmade, part_of, put, put_udp, with_beside, with_records, IsLeft, IsNumbered, OfTcp, OfUdp, OfLookup, OfUnnamed, OfInput, OfOutput, OfSlot, without_record, Numbered, ToResult, end_in, end_of, MakesEnds, MakesEnd, IsEndAt}
+pub use Rattle.wasi_walks.proofs.walks.Here.{Interface, ListenerGoes, NoListener, NotYet, NoMore, OfNothing, P2, P3, tcp_kind, KeepsJobs, IsRecord, job_place, keeps_incoming, StreamGoes, StreamIsMade, StreamIsTaken, StreamMoves, StreamStays, StreamsUnder, TakesFrom, ConnectIsOver, HasNewStream, KeepsStreams, MarksNext, TakesOver, one_stream, IsCreated, IsOpenUdp, NoStart, NoStartIn, NoStartStands, Releases, ReleasesUdp, WithHandle, Unheld, GoesBack, WhenIdle, WhenClosed, CallKind, OfPollables, OfStreams, Found, FoundUdp, Here, Own, Names, ToConnect, ToWrite, Unused, Used, Made, Awaited, Calls, Emptied, Faulted, Freed, Joined, Marked, Past, ToListen, ToSend, ToStream, Unmade, part_of, put, put_udp, with_beside, with_records, IsLeft, IsNumbered, OfTcp, OfUdp, OfLookup, OfUnnamed, OfInput, OfOutput, OfSlot, without_record, Numbered, ToResult, end_in, end_of, MakesEnds, MakesEnd, IsEndAt}
 use Rattle.wasi_records.specs.Records.{tcp2_put, tcp2_pushed}
 use Rattle.std.specs.Prelude.{◌+◌}
 use Rattle.wasi_world.specs.declared.datagram.IncomingDatagram.{IncomingDatagram}
@@ -28,10 +28,12 @@ use Rattle.wasi_records.specs.declared.datagrams.Outgoing.{Outgoing as OutgoingS
 use Rattle.wasi_records.specs.declared.datagrams.Receiving.{Receiving}
 use Rattle.wasi_records.specs.declared.datagrams.Sending.{Sending}
 use Rattle.wasi_host.specs.declared.blocking.BlockingCall.{BlockingCall}
-use Rattle.wasi_host.specs.declared.kind.Kind.TheVariants.{Tcp3}
+use Rattle.wasi_host.specs.declared.kind.Kind.TheVariants.{Tcp3, Udp3}
 use Rattle.wasi_host.specs.Blocking.{blocking_handles}
-use Rattle.wasi_host.specs.Beside.{beside_as, unbeside}
-use Rattle.wasi_host.specs.declared.beside.BesideCall.TheVariants.{Connect}
+use Rattle.wasi_host.specs.declared.beside.Beside.{Beside}
+use Rattle.wasi_host.specs.declared.beside.BesideCall.{BesideCall}
+use Rattle.wasi_host.specs.declared.beside.BesideCall.TheVariants.{Connect, Send, Receive}
+use Rattle.wasi_host.specs.Beside.{beside_as, beside_with, beside_without, unbeside}
 use Rattle.wasi_host.specs.Kinds.{has_no_child, udp_of}
 use Rattle.wasi_udp.specs.Connect.{connect_start}
 use Rattle.wasi_udp.specs.Receive.{receive_start, wanting}
@@ -39,7 +41,7 @@ use Rattle.wasi_udp.specs.Send.{at_remote, send_start}
 use Rattle.wasi_records.specs.declared.udp.OpenUdp.{OpenUdp}
 use Rattle.wasi_records.specs.declared.udp.UdpRecord.{UdpRecord}
 use Rattle.wasi_records.specs.declared.udp.UdpInProgress.{UdpInProgress}
-use Rattle.wasi_records.specs.Udp.{udp_bind_progress, udp_create_left, with_udp_progress}
+use Rattle.wasi_records.specs.Udp.{udp_bind_progress, udp_create_left, with_udp_progress, without_udp_socket}
 use Rattle.wasi_host.specs.UdpCreates.{with_create}
 use Rattle.wasi_udp.specs.Bind.{bind_operation as udp_bind_operation}
 use Rattle.wasi_udp.specs.Create.{Create}
@@ -173,7 +175,8 @@ abbrev pub KeepsCame : Option Kept → Option Kept → Type 0
 KeepsCame old now = (now ≡ old) ⊎ (now ≡ None)
 
 -- The network socket, its creator, its family and its remote address are as they were. A bind in progress is as it was, and a
--- connect, a send, a receive and what has come are, or are over. It is known to be bound only where it was.
+-- connect, a send, a receive and what has come are, or are over. It is known to be bound only where it was. It has its handle as
+-- before.
 pub record UdpPlain (old now : OpenUdp) : Type 0 where
   pub side : now.inner.side ≡ old.inner.side
   pub maker : now.inner.maker ≡ old.inner.maker
@@ -185,6 +188,7 @@ pub record UdpPlain (old now : OpenUdp) : Type 0 where
   pub sends : KeepsOp (sending_in old.outgoing) (sending_in now.outgoing)
   pub receives : KeepsOp (receiving_in old.incoming) (receiving_in now.incoming)
   pub came : KeepsCame (came_in old.incoming) (came_in now.incoming)
+  pub dropped : now.dropped ≡ old.dropped
 
 -- what a poll of a datagram leaves: pending, the datagram; else it is over
 pub record SettlesSend (op : Operation) (left : End × List Item → Sending) : Type 0 where
@@ -210,6 +214,31 @@ sending_now o out op = record o { outgoing = Some (with_sending out (Sending.InP
 
 abbrev pub receiving_now : OpenUdp → IncomingStream → Operation → OpenUdp
 receiving_now o inc op = record o { incoming = Some (with_receiving inc (Receiving.InProgress op)) }
+
+-- == datagrams of 0.3, whose operations stay in their calls
+-- The line begins one on this socket, by the handle that it names: the call that keeps the operation, the operation, and what is
+-- polled of it: a send goes by the remote address of now, and a receive takes whatever comes.
+pub data StartsDatagram (line : ℕ) (origin : Step) (t : HandleTable) (place : ℕ) (o : OpenUdp) : (Operation → BesideCall) → Operation → Operation → Type 0 where
+  StartsSend : (c s : ℕ) (d : OutgoingDatagram) (bound : Bool) → origin ≡ Step.Call c (GuestCall.P3UdpSend s d) → kind_at t s ≡ Some (Udp3 place) → (bound ≡ true → o.inner.bound ≡ true)
+      → StartsDatagram line origin t place o (Send place) (send_start (own_of line) o.inner d.bytes d.remote_address bound) (at_remote o.inner.remote (send_start (own_of line) o.inner d.bytes d.remote_address bound))
+  StartsReceive : (c s : ℕ) (bound : Bool) → origin ≡ Step.Call c (GuestCall.P3UdpReceive s) → kind_at t s ≡ Some (Udp3 place) → (bound ≡ true → o.inner.bound ≡ true)
+      → StartsDatagram line origin t place o (Receive place) (receive_start (own_of line) o.inner bound) (wanting None (receive_start (own_of line) o.inner bound))
+
+-- the same of a call that stands beside others
+pub data PollsDatagram (place : ℕ) (o : OpenUdp) : BesideCall → (Operation → BesideCall) → Operation → Operation → Type 0 where
+  PollsSend : (op : Operation) → PollsDatagram place o (Send place op) (Send place) op (at_remote o.inner.remote op)
+  PollsReceive : (op : Operation) → PollsDatagram place o (Receive place op) (Receive place) op (wanting None op)
+
+-- the calls beside others after its first poll, and after another one: pending, it is the last of them, or keeps its place
+abbrev pub datagram_begun : List Beside → ℕ → (Operation → BesideCall) → Operation → End × List Item → List Beside
+datagram_begun calls line call op (Waits, items) = calls ++ beside_as line (call (left_of op items)) ∷ []
+datagram_begun calls line call op (Done given, items) = calls
+datagram_begun calls line call op (Refused c given, items) = calls
+
+abbrev pub datagram_polled : List Beside → ℕ → (Operation → BesideCall) → Operation → End × List Item → List Beside
+datagram_polled calls n call op (Waits, items) = beside_with calls n (call (left_of op items))
+datagram_polled calls n call op (Done given, items) = beside_without calls n
+datagram_polled calls n call op (Refused c given, items) = beside_without calls n
 
 -- == moves of a line, where nothing is asked
 pub data Move (line : ℕ) (origin : Step) : Here → Here → Type 0 where
@@ -268,7 +297,7 @@ pub data Move (line : ℕ) (origin : Step) : Here → Here → Type 0 where
   BeginsUdpBind : (h : Here) (place : ℕ) (o : OpenUdp) (a : IpSocketAddress) → h.at ≡ Some (place, line) → FoundUdp h place (UdpRecord.Open o) → IsUdpBindTo a origin → h.own ≡ Unused
       → Move line origin h (record (put_udp h place (UdpRecord.Open (with_udp_progress o (UdpInProgress.Binding (begun_udp_bind (own_of line) o a))))) { own = Used })
   StandsUdpBind : (h : Here) (ids : Ids) (place : ℕ) (face : Interface) (o : OpenUdp) (op : Operation) → NoStart h → h.at ≡ Some (place, ids.line) → FoundUdp h place (UdpRecord.Open o) → o.in_progress ≡ UdpInProgress.Binding op → Move line origin h (record h { machine = record h.machine { store = record h.machine.store { standing = Some (standing_as ids (StandingCall.UdpBind place face)) } } })
-  StandsUdpCreate : (h : Here) (ids : Ids) (place : ℕ) (face : Interface) (create : Create) → NoStart h → h.made ≡ Awaited face create.operation.who.side place → FoundUdp h place (UdpRecord.Creating create)
+  StandsUdpCreate : (h : Here) (ids : Ids) (place : ℕ) (face : Interface) (create : Create) → NoStart h → h.made ≡ Awaited face create.operation.who.side place → FoundUdp h place (UdpRecord.Creating create) → (ids.line ≡ line) ⊎ (origin ≡ Step.Poll ids.line)
       → Move line origin h (record h { machine = record h.machine { store = record h.machine.store { standing = Some (standing_as ids (StandingCall.UdpCreate place face)) } } })
   -- the datagram streams of a UDP socket: what they are made under, and the connect that comes before, until it is over or pending
   RemembersStreams : (h : Here) (c handle place : ℕ) (remote : Option IpSocketAddress) → origin ≡ Step.Call c (GuestCall.UdpStream handle remote) → udp_of (kind_at h.machine.table handle) ≡ Some place → (o : OpenUdp) → FoundUdp h place (UdpRecord.Open o) → has_streams o ≡ false
@@ -312,8 +341,10 @@ pub data Move (line : ℕ) (origin : Step) : Here → Here → Type 0 where
   -- a TCP socket is dropped with what is under it, or nothing holds it any more
   Frees : (h : Here) (place : ℕ) → h.made ≡ Emptied (Tcp2 place) → Move line origin h (record h { made = Freed place })
   IsUnheld : (h : Here) (place : ℕ) (r : TcpRecord) → Found h place r → is_held r ≡ false → Move line origin h (record h { made = Freed place })
-  -- nothing refers to a record any more, and nothing is pending
-  GivesBack : (h : Here) (place : ℕ) → h.machine.store.standing ≡ None → IsLeft h place → Move line origin h (without_record h place)
+  -- the handle of a UDP socket of 0.3 is gone; its datagrams in progress may hold it still
+  DropsUdp : (h : Here) (place : ℕ) (o : OpenUdp) → h.machine.store.standing ≡ None → h.made ≡ Emptied (Udp3 place) → FoundUdp h place (UdpRecord.Open o) → Move line origin h (record (put_udp h place (UdpRecord.Open (without_udp_socket o))) { at = None })
+  -- nothing refers to a record any more, and nothing of it is pending
+  GivesBack : (h : Here) (place : ℕ) → GoesBack h place → IsLeft h place → Move line origin h (without_record h place)
   -- the rest
   Lists : (h : Here) (jobs : List HostJob) → KeepsJobs h.machine.store.records h.machine.store.jobs jobs → Move line origin h (record h { machine = record h.machine { store = record h.machine.store { jobs = jobs } } })
 
@@ -325,7 +356,7 @@ pub data Held (h : Here) : Operation → (End × List Item → Here) → Type 0 
   Awaits : (place : ℕ) (r : TcpRecord) (l : Listener) (op : Operation) → Found h place r → r.listening ≡ Accepts l → l.accept ≡ Accepting.Asking op → Held h op (λ ended. put h place (accepting_now r l (accept_ended op.who ended)))
   UdpCreates : (place : ℕ) (create : Create) → NoStart h → FoundUdp h place (UdpRecord.Creating create) → Held h create.operation (λ ended. put_udp h place (udp_create_left create ended))
   UdpBindsOn : (place : ℕ) (o : OpenUdp) (op : Operation) → NoStart h → FoundUdp h place (UdpRecord.Open o) → o.in_progress ≡ UdpInProgress.Binding op → Held h op (λ ended. put_udp h place (UdpRecord.Open (with_udp_progress o (udp_bind_progress op ended))))
-  UdpConnectsOn : (place : ℕ) (o : OpenUdp) (op : Operation) → NoStart h → FoundUdp h place (UdpRecord.Open o) → o.connecting ≡ Some op → Held h op (λ ended. put_udp h place (UdpRecord.Open (udp_connect_left op o ended)))
+  UdpConnectsOn : (place : ℕ) (o : OpenUdp) (op : Operation) → NoStart h × StreamsUnder h place → FoundUdp h place (UdpRecord.Open o) → o.connecting ≡ Some op → Held h op (λ ended. put_udp h place (UdpRecord.Open (udp_connect_left op o ended)))
   UdpReconnectsOn : (place : ℕ) (o : OpenUdp) (op : Operation) → NoStart h → FoundUdp h place (UdpRecord.Open o) → o.connecting ≡ Some op → Held h op (λ ended. put_udp h place (UdpRecord.Open (udp_reconnect_left op o ended)))
   SendsOn : (place : ℕ) (o : OpenUdp) (out : OutgoingStream) (op : Operation) (left : End × List Item → Sending) → FoundUdp h place (UdpRecord.Open o) → o.outgoing ≡ Some out → out.sending ≡ Sending.InProgress op → SettlesSend op left → Held h (at_remote o.inner.remote op) (λ ended. put_udp h place (UdpRecord.Open (record o { outgoing = Some (with_sending out (left ended)) })))
   ReceivesOn : (place : ℕ) (o : OpenUdp) (inc : IncomingStream) (op : Operation) → FoundUdp h place (UdpRecord.Open o) → o.incoming ≡ Some inc → inc.receiving ≡ Receiving.InProgress op → Held h (wanting inc.remote op) (λ ended. put_udp h place (UdpRecord.Open (record o { incoming = Some (with_receiving inc (receive_left op ended)) })))

@@ -2,17 +2,22 @@
 -- does.
 use Rattle.wasi_walks.proofs.Words.{made_to, create_to, Allows, Asks, End, Entry, Err, ErrorValue, Has, HandleTable, Item, Kind, List, None, Not, Ok, OpId, Operation, Option}
 use Rattle.wasi_walks.proofs.Words.{ErrorCode, Result, SocketAddressFamily, Some, GuestCall, Step, Streams, Tcp2, TcpRecord, TcpState, Told, WasiSocketsCtx, Socket}
-use Rattle.wasi_walks.proofs.Words.{after_create, after_local, allows_if, allows_then, bind, is_full, length, make_asks, new_asks, new_socket, own_of, poll_asks, side_of, told_addr, told_done, turn_asks, with_handle, with_inner, with_listening, with_record, with_writer, ℕ, ◌≡◌, refl, subst, sym}
+use Rattle.wasi_walks.proofs.Words.{after_create, after_local, allows_if, allows_then, allows_weaker, bind, is_full, length, make_asks, new_asks, new_socket, own_of, poll_asks, side_of, told_addr, told_done, turn_asks, with_handle, with_inner, with_listening, with_record, with_writer, ℕ, ◌≡◌, refl, subst, sym}
 use Rattle.wasi_walks.proofs.Words.{Full, Stop, Trap}
 use Rattle.std.specs.Prelude.{true, ⊤, ◌⊎◌}
 use Rattle.wasi_walks.proofs.fits.Polls.{Anything}
-use Rattle.wasi_walks.proofs.Gives.{gives_any}
-use Rattle.wasi_walks.proofs.fits.UdpFits.{learnt_side}
-use Rattle.wasi_walks.proofs.walks.Asked.{Asked, Questions, SetsBacklog, Learns, Closes, UdpQuestions, UdpDisconnects, UdpLearns, UdpPeers, UdpCloses, UdpBegins, Resolves, ResolvesBeside, Looks, LooksBeside, MarksOne, MarksAccepted, MarksUdp, MarksStream, MarksError, AsksCreate, MarksListener, MarksPlain, MarksResult, WritesOnce, Polls, Turns, GivesUp, UdpGivesUp}
+use Rattle.wasi_walks.proofs.Gives.{gives_any, gives_where}
+use Rattle.wasi_walks.proofs.fits.DatagramPolls.{LeavesReceive, LeavesSend, receive_leaves, send_leaves, wanted_left}
+use Rattle.wasi_walks.proofs.fits.UdpFits.{begun_receive, begun_send, learnt_side}
+use Rattle.wasi_walks.proofs.walks.Asked.{Asked, Questions, SetsBacklog, Learns, Closes, UdpQuestions, UdpDisconnects, UdpLearns, UdpPeers, UdpCloses, UdpBegins, Resolves, ResolvesBeside, BeginsDatagram, PollsBeside, Looks, LooksBeside, MarksOne, MarksAccepted, MarksUdp, MarksStream, MarksError, AsksCreate, MarksListener, MarksPlain, MarksResult, WritesOnce, Polls, Turns, GivesUp, UdpGivesUp}
 use Rattle.wasi_walks.proofs.walks.Law.{BeginsIn, BeginsWrites, Rests}
 use Rattle.wasi_walks.proofs.walks.Moves.{Interface, P2, P3, Faulted, ListenerGoes, ToListen, ToResult, MakesEnds, tcp_kind, Calls, Creates, CreatesUdp, Found, FoundUdp, HasNewStream, Held, Here, IsCreated, Joined, LooksUp, Made, Marked, Marks, MarksNext, Move}
-use Rattle.wasi_walks.proofs.walks.Moves.{NoStart, OfStreams, Past, Releases, ReleasesUdp, SameSockets, Spends, ToSend, Unused, Used, closed_record, put, put_udp, record_of, udp_begun, with_beside, with_records}
+use Rattle.wasi_walks.proofs.walks.Moves.{PollsDatagram, PollsSend, PollsReceive, StartsDatagram, StartsSend, StartsReceive, datagram_begun, datagram_polled, NoStart, OfStreams, Past, Releases, ReleasesUdp, SameSockets, Spends, ToSend, Unused, Used, closed_record, put, put_udp, record_of, udp_begun, with_beside, with_records}
+use Rattle.wasi_host.specs.declared.beside.BesideCall.{BesideCall}
+use Rattle.wasi_host.specs.declared.beside.BesideCall.TheVariants.{Resolve}
+use Rattle.wasi_host.specs.Beside.{beside_as, beside_of}
 use Rattle.wasi_host.specs.declared.beside.Beside.{Beside}
+use Rattle.wasi_host.specs.Resolves.{begun_lookup}
 use Rattle.wasi_host.specs.Kinds.{udp_kind, kind_at, tcp3_of, udp_of}
 use Rattle.wasi_host.specs.declared.kind.Kind.TheVariants.{Listen3, Result3, Tcp3}
 use Rattle.wasi_records.specs.Holding.{has_listener}
@@ -21,7 +26,10 @@ use Rattle.wasi_records.specs.declared.records.Record.{Record}
 use Rattle.wasi_records.specs.declared.udp.OpenUdp.{OpenUdp}
 use Rattle.wasi_records.specs.declared.udp.UdpRecord.{UdpRecord}
 use Rattle.wasi_udp.specs.Create.{Create, after_create as udp_after_create}
+use Rattle.wasi_udp.specs.Receive.{IsLeftOfReceive, receive_start, wanting}
+use Rattle.wasi_udp.specs.Send.{IsLeftOfSend, at_remote, send_start}
 use Rattle.wasi_udp.specs.Shape.{Socket as UdpSocket}
+use Rattle.wasi_world.specs.Typed.{told_names}
 use Rattle.wasi_udp.specs.Socket.{after_local as udp_after_local, after_peer}
 
 -- a handle is made, which is of this kind under this parent; what the line has made is this then
@@ -57,6 +65,17 @@ HasNoRoom _ = ⊥
 abbrev pub creating : Here → OpId → WasiSocketsCtx → SocketAddressFamily → Here
 creating h own ctx family = record h { machine = record h.machine { store = with_record h.machine.store (new_socket own ctx.name family) }; own = Used }
 
+-- what is left of a datagram that begins once it was polled, and of one that was pending
+abbrev pub LeavesDatagram : {line : ℕ} {origin : Step} {t : HandleTable} {place : ℕ} {o : OpenUdp} {call : Operation → BesideCall} {op polled : Operation}
+    → StartsDatagram line origin t place o call op polled → End × List Item → Type 0
+LeavesDatagram (StartsSend c s d bound is at known) ended = LeavesSend ended
+LeavesDatagram (StartsReceive c s bound is at known) ended = LeavesReceive ended
+
+abbrev pub LeavesPolled : {place : ℕ} {o : OpenUdp} {was : BesideCall} {call : Operation → BesideCall} {op polled : Operation}
+    → PollsDatagram place o was call op polled → End × List Item → Type 0
+LeavesPolled (PollsSend op) ended = IsLeftOfSend op.left → LeavesSend ended
+LeavesPolled (PollsReceive op) ended = IsLeftOfReceive op.left → LeavesReceive ended
+
 -- what something that is asked leaves
 pub data Becomes (contexts : List WasiSocketsCtx) (line : ℕ) (origin : Step) (h : Here) : Here → Type 0 where
   Learnt : (place : ℕ) (r : TcpRecord) (side : OpId) (told : Told) → h.at ≡ Some (place, line) → Found h place r
@@ -79,7 +98,17 @@ pub data Becomes (contexts : List WasiSocketsCtx) (line : ℕ) (origin : Step) (
   Resolved : (host : List ℕ) (records : List Record) → LooksUp contexts host origin
       → SameSockets (λ op. op ≡ record { id = own_of line; host = host }) h.machine.store.records records
       → Becomes contexts line origin h (with_records h records)
-  StandsOn : (beside : List Beside) → Becomes contexts line origin h (with_beside h beside)
+  StandsOn : (host : List ℕ) (told : Told) → Becomes contexts line origin h
+      (with_beside h (begun_lookup h.machine.store.beside (beside_as line (Resolve host)) (Ok (told_names told))))
+  DatagramBegan : (place : ℕ) (o : OpenUdp) (call : Operation → BesideCall) (op polled : Operation) (ended : End × List Item)
+      → h.at ≡ Some (place, line) → FoundUdp h place (UdpRecord.Open o)
+      → (starts : StartsDatagram line origin h.machine.table place o call op polled) → h.made ≡ Past → h.own ≡ Unused
+      → LeavesDatagram starts ended → Becomes contexts line origin h
+      (record (with_beside h (datagram_begun h.machine.store.beside line call op ended)) { own = Used })
+  DatagramPolled : (n : ℕ) (b : Beside) (place : ℕ) (o : OpenUdp) (call : Operation → BesideCall) (op polled : Operation) (ended : End × List Item)
+      → origin ≡ Step.Poll n → beside_of h.machine.store n ≡ Some b → FoundUdp h place (UdpRecord.Open o)
+      → (polls : PollsDatagram place o b.call call op polled) → LeavesPolled polls ended → Becomes contexts line origin h
+      (with_beside h (datagram_polled h.machine.store.beside n call op ended))
   HasHandle : (kind : Kind) (parent : Option ℕ) (made : Made) → Handles origin h kind parent made
       → Becomes contexts line origin h (record h
       { machine = record h.machine { table = with_handle h.machine.table kind parent }; made = made })
@@ -109,6 +138,24 @@ pub record OfState (contexts : List WasiSocketsCtx) (line : ℕ) (origin : Step)
 abbrev IsNewSocket : Socket → Result Socket ErrorCode → Type 0
 IsNewSocket new (Ok socket) = socket ≡ new
 IsNewSocket new (Err c) = ⊤
+
+leaves_datagram : {line : ℕ} {origin : Step} {t : HandleTable} {place : ℕ} {o : OpenUdp} {call : Operation → BesideCall} {op polled : Operation}
+    → (starts : StartsDatagram line origin t place o call op polled) (es : List Entry) → Allows Anything (λ fs ended. LeavesDatagram starts ended) es (poll_asks polled)
+leaves_datagram {line} {o = o} (StartsSend c s d bound is at known) es =
+    let op : Operation = send_start (own_of line) o.inner d.bytes d.remote_address bound in
+    send_leaves (at_remote o.inner.remote op) (begun_send (own_of line) o.inner d.bytes d.remote_address bound).send.left es
+leaves_datagram {line} {o = o} (StartsReceive c s bound is at known) es =
+    let op : Operation = receive_start (own_of line) o.inner bound in
+    receive_leaves (wanting None op) (wanted_left None op.left (begun_receive (own_of line) o.inner bound).receive.left) es
+
+leaves_polled : {place : ℕ} {o : OpenUdp} {was : BesideCall} {call : Operation → BesideCall} {op polled : Operation}
+    → (polls : PollsDatagram place o was call op polled) (es : List Entry) → Allows Anything (λ fs ended. LeavesPolled polls ended) es (poll_asks polled)
+leaves_polled {o = o} (PollsSend op) es =
+    let polled : Operation = at_remote o.inner.remote op in
+    gives_where (IsLeftOfSend op.left) (λ fs ended. LeavesSend ended) es (poll_asks polled) (λ left. send_leaves polled left es)
+leaves_polled (PollsReceive op) es =
+    let polled : Operation = wanting None op in
+    gives_where (IsLeftOfReceive op.left) (λ fs ended. LeavesReceive ended) es (poll_asks polled) (λ left. receive_leaves polled (wanted_left None op.left left) es)
 
 module _ {contexts : List WasiSocketsCtx} {line : ℕ} {origin : Step} {B : List Entry → Here → Type 0} (a : OfState contexts line origin B) where
   -- a handle is made, or there is no room for it
@@ -182,13 +229,13 @@ module _ {contexts : List WasiSocketsCtx} {line : ℕ} {origin : Step} {B : List
       (tt, λ told fits. a.becomes es h _ (UdpLearnt place o (record o.inner { bound = true }) g refl) b i)
   asks es h _ _ _ (UdpPeers place o at g) b i =
       (tt, λ told fits. a.becomes es h _ (UdpLearnt place o (after_peer o.inner (told_addr told)) g refl) b i)
-  asks es h _ _ _ (UdpCloses place o q g) b i = (tt, λ told fits. a.becomes es h _ (UdpIsClosed place o q g) b i)
+  asks es h _ _ _ (UdpCloses place n o q g) b i = (tt, λ told fits. a.becomes es h _ (UdpIsClosed place o q g) b i)
   asks es h _ _ _ (UdpBegins face ctx family c may t o m) b i =
       (tt, λ told fits. a.becomes es h _ (UdpBegun face ctx family (told_done told) c o m) b i)
   asks es h _ _ _ (Resolves host records l s) b i =
       (tt, λ told fits. a.becomes es h _ (Resolved host (records told) l (s told)) b i)
   asks es h _ _ _ (Looks place op e) b i = (tt, λ told fits. i)
-  asks es h _ _ _ (ResolvesBeside host l) b i = (tt, λ told fits. a.becomes es h _ (StandsOn _) b i)
+  asks es h _ _ _ (ResolvesBeside host l) b i = (tt, λ told fits. a.becomes es h _ (StandsOn host told) b i)
   asks es h _ _ _ (LooksBeside n call host g e) b i = (tt, λ told fits. i)
   asks es h _ _ end (MarksOne kind parent sock m) b i =
       makes es _ h.machine.table kind parent sock end i
@@ -218,6 +265,14 @@ module _ {contexts : List WasiSocketsCtx} {line : ℕ} {origin : Step} {B : List
       (HasHandle _ _ _ (OfError n handle place handles m k e)) b i)
   asks es h _ _ _ (AsksCreate tells fails face ctx family c t o m) b i = created tells fails face es h ctx family c o m b i
   asks es h _ _ _ (Polls op after k) b i = a.polls es h op after k b i
+  asks es h _ tree _ (BeginsDatagram place o call op polled at g starts m own) b i =
+      allows_weaker Anything (λ fs ended. LeavesDatagram starts ended)
+      (λ fs ended. a.Holds (record (with_beside h (datagram_begun h.machine.store.beside line call op ended)) { own = Used }))
+      (λ fs ended left. a.becomes es h _ (DatagramBegan place o call op polled ended at g starts m own left) b i) es tree (leaves_datagram starts es)
+  asks es h _ tree _ (PollsBeside n call place o make op polled is at g polls) b i =
+      allows_weaker Anything (λ fs ended. LeavesPolled polls ended)
+      (λ fs ended. a.Holds (with_beside h (datagram_polled h.machine.store.beside n make op ended)))
+      (λ fs ended left. a.becomes es h _ (DatagramPolled n call place o make op polled ended is at g polls left) b i) es tree (leaves_polled polls es)
   asks es h _ _ _ (Turns place r s g e) b i = a.turns es h place r s g e b i
   asks es h _ tree _ (GivesUp place r q l g) b i =
       gives_any (λ fs done. a.Holds (put h place (with_listening r Not)))

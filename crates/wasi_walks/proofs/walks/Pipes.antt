@@ -14,7 +14,7 @@ use Rattle.wasi_host.specs.declared.kind.PlainOutput.TheVariants as output
 use Rattle.wasi_records.specs.declared.records.Record.{Record}
 use Rattle.wasi_records.specs.declared.records.Record.TheVariants.{InputPipe, OutputPipe}
 use Rattle.wasi_walks.proofs.PipeLists.{IsPipe, input_pipe_same, output_pipe_same, pipe_push}
-use Rattle.wasi_walks.proofs.walks.Moves.{APlain, Emptied, Finds, GivesBack, Here, IsNumbered, Leaves, MakesPlain, Numbered, Numbers, OfInput, OfOutput, Past, Spends, Unused, with_records}
+use Rattle.wasi_walks.proofs.walks.Moves.{APlain, Emptied, Finds, GivesBack, WhenIdle, Here, IsNumbered, Leaves, MakesPlain, Numbered, Numbers, OfInput, OfOutput, Past, Spends, Unused, with_records}
 use Rattle.wasi_walks.proofs.walks.Law.{Law, Walks, and_then, by_if, give, gives, mark, move}
 use Rattle.wasi_walks.proofs.walks.States.{Numbering, Over, OverWith, Starts}
 
@@ -54,11 +54,11 @@ module _ {contexts : List WasiSocketsCtx} {line : ℕ} {origin : Step} {law : La
     -- == one is dropped
     drop_input_pipe_walks : {A : Type 0} (answer : A) (place : ℕ) (o : Option (List ℕ)) → input_pipe_at h.machine.store.records place ≡ o → h.made ≡ Emptied (PlainInput (input.Pipe place)) → h.machine.store.standing ≡ None → Walks law h (LeftPast h) (Give (answer, record h.machine { store = drop_input_pipe_at h.machine.store place o }))
     drop_input_pipe_walks answer place None e gone idle = gives _ (Leaves _)
-    drop_input_pipe_walks answer place (Some bytes) e gone idle = move (GivesBack _ place idle (OfInput bytes gone e)) (gives _ (Leaves _))
+    drop_input_pipe_walks answer place (Some bytes) e gone idle = move (GivesBack _ place (WhenIdle idle) (OfInput bytes gone e)) (gives _ (Leaves _))
 
     drop_output_pipe_walks : {A : Type 0} (answer : A) (place : ℕ) (o : Option Contents) → output_pipe_at h.machine.store.records place ≡ o → h.made ≡ Emptied (PlainOutput (output.Pipe place)) → h.machine.store.standing ≡ None → Walks law h (LeftPast h) (Give (answer, record h.machine { store = drop_output_pipe_at h.machine.store place o }))
     drop_output_pipe_walks answer place None e gone idle = gives _ (Leaves _)
-    drop_output_pipe_walks answer place (Some pipe) e gone idle = move (GivesBack _ place idle (OfOutput pipe gone e)) (gives _ (Leaves _))
+    drop_output_pipe_walks answer place (Some pipe) e gone idle = move (GivesBack _ place (WhenIdle idle) (OfOutput pipe gone e)) (gives _ (Leaves _))
 
     pub drop_input_walks : {A : Type 0} (answer : A) (plain : InputOf) → h.made ≡ Emptied (PlainInput plain) → h.machine.store.standing ≡ None → Walks law h (LeftPast h) (Give (answer, record h.machine { store = drop_plain_input h.machine.store plain }))
     drop_input_walks answer (input.Pipe place) gone idle = drop_input_pipe_walks answer place (input_pipe_at h.machine.store.records place) refl gone idle

@@ -36,11 +36,11 @@ use Rattle.wasi_walks.proofs.Places.{put_finds, udp_sort}
 
 -- an incoming stream that has what it had
 kept_in : (o : OpenUdp) (now : Option Incoming) → (receiving_in now ≡ receiving_in o.incoming) → (came_in now ≡ came_in o.incoming) → UdpPlain o (record o { incoming = now })
-kept_in o now e f = record { side = refl; maker = refl; family = refl; remote = refl; bound = λ b. b; binds = inl refl; connects = refl; sends = inl refl; receives = inl e; came = inl f }
+kept_in o now e f = record { side = refl; maker = refl; family = refl; remote = refl; bound = λ b. b; binds = inl refl; connects = refl; sends = inl refl; receives = inl e; came = inl f; dropped = refl }
 
 -- one with no receive in progress, and of which nothing has come
 idle_in : (o : OpenUdp) (now : Option Incoming) → (receiving_in now ≡ None) → (came_in now ≡ None) → UdpPlain o (record o { incoming = now })
-idle_in o now e f = record { side = refl; maker = refl; family = refl; remote = refl; bound = λ b. b; binds = inl refl; connects = refl; sends = inl refl; receives = inr e; came = inr f }
+idle_in o now e f = record { side = refl; maker = refl; family = refl; remote = refl; bound = λ b. b; binds = inl refl; connects = refl; sends = inl refl; receives = inr e; came = inr f; dropped = refl }
 
 -- the socket and its stream are these, and so many names of the line are taken
 abbrev pub With : Here → ℕ → OpenUdp → ℕ → Socket × Incoming → Here

@@ -1,5 +1,5 @@
 -- What goes with a handle, as moves: a socket and a listener release what they have, and an output waits for its writer.
-use Rattle.wasi_walks.proofs.walks.Moves.{Changes, Frees, Freed, GivesBack, IsUnheld, NoMore, NoStart, OfNothing, OfTcp, NoStartStands, Plain, Releases}
+use Rattle.wasi_walks.proofs.walks.Moves.{Changes, Frees, Freed, GivesBack, WhenIdle, IsUnheld, NoMore, NoStart, OfNothing, OfTcp, NoStartStands, Plain, Releases}
 use Rattle.wasi_walks.proofs.walks.States.{Emptying}
 use Rattle.wasi_walks.proofs.Words.{inl, inr, Answer, Asks, Bool, Give, Kind}
 use Rattle.wasi_walks.proofs.Words.{List, Machine, None, Not, OpId, Option, Pending}
@@ -53,7 +53,7 @@ module _ {contexts : List WasiSocketsCtx} {line : ℕ} {origin : Step} {law : La
 
   -- the record is given back
   pub gone_walks : (kind : Kind) (m : Machine) (place : ℕ) (was : TcpRecord) → tcp2_at m.store.records place ≡ Some was → m.store.standing ≡ None → (r : TcpRecord) → Walks law (put (Freeing (Emptying line m place kind Unused) place) place r) (OverIn {A = Unit {0}} m) (Give (tt, released m.store place r))
-  gone_walks kind m place was g q r = move (Spends _ refl) (move (GivesBack _ place q (OfTcp r refl (found (there {h = Freeing (Emptying line m place kind Used) place} g) r))) (gives _ (Leaves _)))
+  gone_walks kind m place was g q r = move (Spends _ refl) (move (GivesBack _ place (WhenIdle q) (OfTcp r refl (found (there {h = Freeing (Emptying line m place kind Used) place} g) r))) (gives _ (Leaves _)))
 
   pub release_at_walks : (m : Machine) (place : ℕ) (o : Option TcpRecord) → tcp2_at m.store.records place ≡ o → m.store.standing ≡ None → Walks law (Emptying line m place (Tcp2 place) Unused) (OverIn m) (release_at m.store (own_of line) place o)
   release_at_walks m place None g q = move (Spends _ refl) (gives _ (Leaves _))

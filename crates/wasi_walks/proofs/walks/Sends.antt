@@ -46,10 +46,10 @@ turn_settles op = record { waits = λ items. refl; done = λ given items. refl; 
 
 -- an outgoing stream with nothing in the background, or with what it had
 plain_out : (o : OpenUdp) (now : Option Outgoing) → (sending_in now ≡ sending_in o.outgoing) → UdpPlain o (record o { outgoing = now })
-plain_out o now e = record { side = refl; maker = refl; family = refl; remote = refl; bound = λ b. b; binds = inl refl; connects = refl; sends = inl e; receives = inl refl; came = inl refl }
+plain_out o now e = record { side = refl; maker = refl; family = refl; remote = refl; bound = λ b. b; binds = inl refl; connects = refl; sends = inl e; receives = inl refl; came = inl refl; dropped = refl }
 
 idle_out : (o : OpenUdp) (now : Option Outgoing) → (sending_in now ≡ None) → UdpPlain o (record o { outgoing = now })
-idle_out o now e = record { side = refl; maker = refl; family = refl; remote = refl; bound = λ b. b; binds = inl refl; connects = refl; sends = inr e; receives = inl refl; came = inl refl }
+idle_out o now e = record { side = refl; maker = refl; family = refl; remote = refl; bound = λ b. b; binds = inl refl; connects = refl; sends = inr e; receives = inl refl; came = inl refl; dropped = refl }
 
 -- the line sends these, the first of which is of this part
 abbrev pub AreSent : ℕ → Step → List OutgoingDatagram → Type 0

@@ -153,6 +153,10 @@ pub udp3_record : (k : Option Kind) (place : ℕ) → udp3_of k ≡ Some place �
 udp3_record (Some (Udp3 n)) place e = e
 udp3_record _ place e = absurd (cc)
 
+pub udp3_kind : (k : Option Kind) (place : ℕ) → udp3_of k ≡ Some place → k ≡ Some (Udp3 place)
+udp3_kind (Some (Udp3 n)) place e = cc
+udp3_kind _ place e = absurd (cc)
+
 pub incoming_kind : (k : Option Kind) (place : ℕ) → incoming_of k ≡ Some place → k ≡ Some (Incoming place)
 incoming_kind (Some (Incoming n)) place e = let p : n ≡ place = cc in ap (λ (x : ℕ). Some (Incoming x)) p
 incoming_kind _ place e = absurd (cc)

@@ -41,7 +41,7 @@ use Rattle.wasi_walks.proofs.walks.Udp.{on_udp, udp_local_at_walks, udp_get_at_w
 use Rattle.wasi_walks.proofs.walks.P3Udp.{p3_disconnect_walks, p3_udp_get_walks, p3_udp_local_walks, p3_udp_set_walks}
 use Rattle.wasi_host.specs.BaseStops.{BaseStop}
 use Rattle.wasi_records.specs.declared.udp.UdpRecord.{UdpRecord}
-use Rattle.wasi_walks.proofs.Words.{Asks, append-nil, first_ids, handles_of, inr, ◌∷◌, []}
+use Rattle.wasi_walks.proofs.Words.{Asks, append-nil, first_ids, handles_of, inr, ◌∙◌, ◌∷◌, []}
 use Rattle.wasi_streams.specs.Streams.{zeros}
 use Rattle.wasi_host.specs.declared.kind.Kind.TheVariants.{PlainInput, PlainOutput}
 use Rattle.wasi_host.specs.declared.kind.PlainInput.TheVariants as plain_input
@@ -60,6 +60,7 @@ use Rattle.wasi_walks.proofs.walks.Resolves.{p3_resolve_walks}
 use Rattle.wasi_walks.proofs.walks.UdpConnects.{p3_udp_connect_walks, udp_reconnect_walks}
 use Rattle.wasi_walks.proofs.walks.P3Steps.{p3_get_walks, p3_local_walks, p3_remote_walks, p3_set_walks}
 use Rattle.wasi_walks.proofs.walks.Moves.{AwaitsCreate, Interface, P2, P3, Recalled}
+use Rattle.wasi_walks.proofs.walks.SocketDatagrams.{p3_udp_receive_walks, p3_udp_send_walks}
 use Rattle.wasi_walks.proofs.walks.Cancels.{cancel_walks}
 use Rattle.wasi_walks.proofs.walks.Pipes.{input_pipe_walks, output_pipe_walks, plain_walks}
 use Rattle.wasi_walks.proofs.walks.Splices.{splice_walks}
@@ -152,22 +153,22 @@ module _ {contexts : List WasiSocketsCtx} {line : ℕ} {origin : Step} {law : La
     connect_goes_on : (place : ℕ) → Walks law (At ids.line m place (ToConnect place)) OverWith (go_on m ids (StandingCall.UdpConnect3 place))
     connect_goes_on place = and_then (udp_reconnect_walks m ids quiet place) (bound_on_walks P3 place)
 
-    create_goes_on : m.store.standing ≡ None → (place : ℕ) (face : Interface) → Walks law (Polling face m place (udp2_at m.store.records place)) OverWith (go_on m ids (StandingCall.UdpCreate place face))
-    create_goes_on idle place face = and_then (polled_walks face m place ids idle (udp2_at m.store.records place) refl) (answered_on_walks handle_outcome face)
+    create_goes_on : origin ≡ Step.Poll ids.line → m.store.standing ≡ None → (place : ℕ) (face : Interface) → Walks law (Polling face m place (udp2_at m.store.records place)) OverWith (go_on m ids (StandingCall.UdpCreate place face))
+    create_goes_on is idle place face = and_then (polled_walks face m place ids (inr is) idle (udp2_at m.store.records place) refl) (answered_on_walks handle_outcome face)
 
   resumed_walks : (done : Result (Answer Outcome) Stop × Machine) → Walks law (Over done.1) OverWith (Give (resumed done))
   resumed_walks (Ok answer, m) = give _
   resumed_walks (Err why, m) = give _
 
   -- the call is taken out, and continues
-  taken_walks : (m : Machine) (ids : Ids) (call : StandingCall) → MayContinue law call → m.store.standing ≡ Some (standing_as ids call) → Walks law (Starts m Unused) OverWith (go_on (record m { store = unstood m.store }) ids call)
-  taken_walks m ids (StandingCall.UdpCreate place face) lets e = by_record (udp2_at m.store.records place) refl
+  taken_walks : (m : Machine) (ids : Ids) (call : StandingCall) → origin ≡ Step.Poll ids.line → MayContinue law call → m.store.standing ≡ Some (standing_as ids call) → Walks law (Starts m Unused) OverWith (go_on (record m { store = unstood m.store }) ids call)
+  taken_walks m ids (StandingCall.UdpCreate place face) is lets e = by_record (udp2_at m.store.records place) refl
     where
       now : Machine
       now = record m { store = unstood m.store }
 
       goes : Walks law (Polling face now place (udp2_at m.store.records place)) OverWith (go_on now ids (StandingCall.UdpCreate place face))
-      goes = create_goes_on ids now tt refl place face
+      goes = create_goes_on ids now tt is refl place face
 
       none : (p : ℕ) → ConnectStands m.store.standing p → Unused ≡ ToConnect p
       none = takes_none m.store.standing ids (StandingCall.UdpCreate place face) Unused e tt
@@ -177,20 +178,21 @@ module _ {contexts : List WasiSocketsCtx} {line : ℕ} {origin : Step} {law : La
       by_record (Some (UdpRecord.Open o)) g = move (Unstands _ none) (move (Spends _ refl) (from (ap (Polling face now place) g) goes))
       by_record (Some (UdpRecord.Closed side)) g = move (Unstands _ none) (move (Spends _ refl) (from (ap (Polling face now place) g) goes))
       by_record None g = move (Unstands _ none) (move (Spends _ refl) (from (ap (Polling face now place) g) goes))
-  taken_walks m ids (StandingCall.Blocking call) lets e = move (RecallsCall _ ids call e) (move (Unstands _ (takes_none m.store.standing ids (StandingCall.Blocking call) Unused e tt)) (move (Spends _ refl) (unblock_walks ids (record m { store = unstood m.store }) call lets)))
-  taken_walks m ids (StandingCall.UdpConnect place handle) lets e = move (Resumes _ (standing_as ids (StandingCall.UdpConnect place handle)) e tt) (move (RecallsStreams _ ids place handle e refl) (move (Unstands _ (λ p k. ap (λ (x : ℕ). ToConnect x) (subst (λ (o : Option Standing). ConnectStands o p) e k))) (streams_go_on ids (record m { store = unstood m.store }) tt place handle)))
-  taken_walks m ids (StandingCall.UdpConnect3 place) lets e = move (Resumes _ (standing_as ids (StandingCall.UdpConnect3 place)) e tt) (move (RecallsConnect _ ids place e refl) (move (Unstands _ (λ p k. ap (λ (x : ℕ). ToConnect x) (subst (λ (o : Option Standing). ConnectStands o p) e k))) (connect_goes_on ids (record m { store = unstood m.store }) tt place)))
-  taken_walks m ids (StandingCall.DropOutgoing place) lets e = move (Resumes _ (standing_as ids (StandingCall.DropOutgoing place)) e tt) (move (Unstands _ (takes_none m.store.standing ids (StandingCall.DropOutgoing place) Unused e tt)) (move (Spends _ refl) (go_on_walks ids (record m { store = unstood m.store }) tt (StandingCall.DropOutgoing place) tt)))
-  taken_walks m ids (StandingCall.Bind place face) lets e = move (Resumes _ (standing_as ids (StandingCall.Bind place face)) e tt) (move (Unstands _ (takes_none m.store.standing ids (StandingCall.Bind place face) Unused e tt)) (move (Spends _ refl) (go_on_walks ids (record m { store = unstood m.store }) tt (StandingCall.Bind place face) tt)))
-  taken_walks m ids (StandingCall.Listen place marks) lets e = move (Resumes _ (standing_as ids (StandingCall.Listen place marks)) e tt) (move (RecallsListen _ ids place marks e) (move (Unstands _ (takes_none m.store.standing ids (StandingCall.Listen place marks) Unused e tt)) (move (Spends _ refl) (listen_goes_on ids (record m { store = unstood m.store }) tt place marks))))
-  taken_walks m ids (StandingCall.DropOutput place) lets e = move (Resumes _ (standing_as ids (StandingCall.DropOutput place)) e tt) (move (Unstands _ (takes_none m.store.standing ids (StandingCall.DropOutput place) Unused e tt)) (move (Spends _ refl) (go_on_walks ids (record m { store = unstood m.store }) tt (StandingCall.DropOutput place) tt)))
-  taken_walks m ids (StandingCall.UdpBind place face) lets e = move (Resumes _ (standing_as ids (StandingCall.UdpBind place face)) e tt) (move (Unstands _ (takes_none m.store.standing ids (StandingCall.UdpBind place face) Unused e tt)) (move (Spends _ refl) (go_on_walks ids (record m { store = unstood m.store }) tt (StandingCall.UdpBind place face) tt)))
+  taken_walks m ids (StandingCall.Blocking call) is lets e = move (RecallsCall _ ids call e) (move (Unstands _ (takes_none m.store.standing ids (StandingCall.Blocking call) Unused e tt)) (move (Spends _ refl) (unblock_walks ids (record m { store = unstood m.store }) call lets)))
+  taken_walks m ids (StandingCall.UdpConnect place handle) is lets e = move (Resumes _ (standing_as ids (StandingCall.UdpConnect place handle)) e tt) (move (RecallsStreams _ ids place handle e refl) (move (Unstands _ (λ p k. ap (λ (x : ℕ). ToConnect x) (subst (λ (o : Option Standing). ConnectStands o p) e k))) (streams_go_on ids (record m { store = unstood m.store }) tt place handle)))
+  taken_walks m ids (StandingCall.UdpConnect3 place) is lets e = move (Resumes _ (standing_as ids (StandingCall.UdpConnect3 place)) e tt) (move (RecallsConnect _ ids place e refl) (move (Unstands _ (λ p k. ap (λ (x : ℕ). ToConnect x) (subst (λ (o : Option Standing). ConnectStands o p) e k))) (connect_goes_on ids (record m { store = unstood m.store }) tt place)))
+  taken_walks m ids (StandingCall.DropOutgoing place) is lets e = move (Resumes _ (standing_as ids (StandingCall.DropOutgoing place)) e tt) (move (Unstands _ (takes_none m.store.standing ids (StandingCall.DropOutgoing place) Unused e tt)) (move (Spends _ refl) (go_on_walks ids (record m { store = unstood m.store }) tt (StandingCall.DropOutgoing place) tt)))
+  taken_walks m ids (StandingCall.Bind place face) is lets e = move (Resumes _ (standing_as ids (StandingCall.Bind place face)) e tt) (move (Unstands _ (takes_none m.store.standing ids (StandingCall.Bind place face) Unused e tt)) (move (Spends _ refl) (go_on_walks ids (record m { store = unstood m.store }) tt (StandingCall.Bind place face) tt)))
+  taken_walks m ids (StandingCall.Listen place marks) is lets e = move (Resumes _ (standing_as ids (StandingCall.Listen place marks)) e tt) (move (RecallsListen _ ids place marks e) (move (Unstands _ (takes_none m.store.standing ids (StandingCall.Listen place marks) Unused e tt)) (move (Spends _ refl) (listen_goes_on ids (record m { store = unstood m.store }) tt place marks))))
+  taken_walks m ids (StandingCall.DropOutput place) is lets e = move (Resumes _ (standing_as ids (StandingCall.DropOutput place)) e tt) (move (Unstands _ (takes_none m.store.standing ids (StandingCall.DropOutput place) Unused e tt)) (move (Spends _ refl) (go_on_walks ids (record m { store = unstood m.store }) tt (StandingCall.DropOutput place) tt)))
+  taken_walks m ids (StandingCall.UdpBind place face) is lets e = move (Resumes _ (standing_as ids (StandingCall.UdpBind place face)) e tt) (move (Unstands _ (takes_none m.store.standing ids (StandingCall.UdpBind place face) Unused e tt)) (move (Spends _ refl) (go_on_walks ids (record m { store = unstood m.store }) tt (StandingCall.UdpBind place face) tt)))
 
-  pub resume_walks : (m : Machine) (n : ℕ) (o : Option Standing) → call_of m.store.standing n ≡ o → BeginsWrites law ⊎ ResumesSimply m.store.standing → Walks law (Starts m Unused) OverWith (resume_call m n o)
-  resume_walks m n None e lets = resume_beside_walks m n (beside_of m.store n) refl
-  resume_walks m n (Some s) e lets =
+  pub resume_walks : (m : Machine) (n : ℕ) → origin ≡ Step.Poll n → (o : Option Standing) → call_of m.store.standing n ≡ o → BeginsWrites law ⊎ ResumesSimply m.store.standing → Walks law (Starts m Unused) OverWith (resume_call m n o)
+  resume_walks m n is None e lets = resume_beside_walks m n is (beside_of m.store n) refl
+  resume_walks m n is (Some s) e lets =
       let stands = (stands_so m.store.standing n s e).0 in
-      and_then (taken_walks m s.ids s.call (elim lets [ inl begins ↦ inl begins | inr simple ↦ inr (subst ResumesSimply stands simple) ]) stands) resumed_walks
+      let its : origin ≡ Step.Poll s.ids.line = is ∙ ap (λ (i : ℕ). Step.Poll i) (sym (stands_so m.store.standing n s e).1) in
+      and_then (taken_walks m s.ids s.call its (elim lets [ inl begins ↦ inl begins | inr simple ↦ inr (subst ResumesSimply stands simple) ]) stands) resumed_walks
 
   -- == the calls on streams of a line
   -- the line's own handles, where nothing is written, or where that was begun
@@ -260,6 +262,8 @@ step_walks {contexts} line (Step.Call c (GuestCall.P3UdpCreate family)) m b f = 
 step_walks line (Step.Call c (GuestCall.P3UdpBind s a)) m b f = and_then (p3_udp_bind_walks m s a (inl refl) refl (none_stands (f refl))) (λ done. give _)
 step_walks line (Step.Call c (GuestCall.P3UdpConnect s a)) m b f = and_then (p3_udp_connect_walks m s a (inl refl) refl (none_stands (f refl))) (λ done. give _)
 step_walks line (Step.Call c (GuestCall.P3UdpDisconnect s)) m b f = and_then (p3_disconnect_walks m s (inl refl) tt) (λ done. give _)
+step_walks line (Step.Call c (GuestCall.P3UdpSend s d)) m b f = and_then (p3_udp_send_walks m c s d refl (inl refl)) (λ done. give _)
+step_walks line (Step.Call c (GuestCall.P3UdpReceive s)) m b f = and_then (p3_udp_receive_walks m c s refl (inl refl)) (λ done. give _)
 step_walks line (Step.Call c (GuestCall.P3UdpLocalAddress s)) m b f = and_then (p3_udp_local_walks m s (inl refl)) (λ done. give _)
 step_walks line (Step.Call c (GuestCall.P3UdpRemoteAddress s)) m b f = gives _ (Spends _ refl)
 step_walks line (Step.Call c (GuestCall.P3UdpAddressFamily s)) m b f = gives _ (Spends _ refl)
@@ -311,7 +315,7 @@ step_walks line (Step.Call c (GuestCall.BlockingSplice output input len)) m (inl
 step_walks line (Step.Call c (GuestCall.BlockingSplice output input len)) m (inr none) f = absurd none
 step_walks line (Step.Cancel n) m b f = and_then (cancel_walks m n (call_of m.store.standing n) refl) (λ done. give _)
 step_walks line Step.Turn m b f = and_then (turn_walks m) (λ done. give _)
-step_walks line (Step.Poll n) m b f = and_then (resume_walks m n (call_of m.store.standing n) refl b) (λ done. give _)
+step_walks line (Step.Poll n) m b f = and_then (resume_walks m n refl (call_of m.store.standing n) refl b) (λ done. give _)
 
 -- what a line may begin to write: nothing, while a call is pending
 abbrev pub may_while : Machine → Step → Option Standing → Own

@@ -1,5 +1,5 @@
 -- The steps of UDP sockets, as moves: one is made, the handle of one is looked up, and its record does the call.
-use Rattle.std.specs.Prelude.{◌≡◌, ⊤, ℕ, length, Bool, true, false, if◌then◌else◌, List, Option, Some, None, Result, Ok, Err}
+use Rattle.std.specs.Prelude.{◌≡◌, ◌⊎◌, ⊤, ℕ, length, Bool, true, false, if◌then◌else◌, List, Option, Some, None, Result, Ok, Err}
 use Rattle.wasi_addr.specs.declared.address.IpSocketAddress.{IpSocketAddress}
 use Rattle.wasi_addr.specs.Address.{is_of_family, ip_of}
 use Rattle.wasi_walks.proofs.Words.{Answer, Asks, ErrorCode, Give, Has, Item, End, Waits, Done, Refused, Machine, Operation, Pending, Ready, Records, SocketAddressFamily, StandingCall, Step, Stop, WasiSocketsCtx}
@@ -11,7 +11,7 @@ use Rattle.socket_common.specs.Options.{value_set, zero_test, refused_before, re
 use Rattle.wasi_records.specs.Records.{open_at, open_of, udp2_at}
 use Rattle.wasi_host.specs.declared.kind.Interface.{Interface}
 use Rattle.wasi_host.specs.BaseStops.{BaseStop}
-use Rattle.wasi_walks.proofs.Words.{GuestCall, Kind, OpId, Told}
+use Rattle.wasi_walks.proofs.Words.{GuestCall, OpId, Told}
 use Rattle.wasi_records.specs.declared.udp.OpenUdp.{OpenUdp}
 use Rattle.wasi_records.specs.declared.udp.UdpRecord.{UdpRecord}
 use Rattle.wasi_records.specs.declared.udp.UdpInProgress.{UdpInProgress}
@@ -31,9 +31,9 @@ use Rattle.wasi_udp.specs.Options.{get_option_asks, set_option_asks}
 use Rattle.wasi_udp.specs.Shape.{Socket}
 use Rattle.wasi_udp.specs.Socket.{asker_of, ask_bound, bound_asks, disconnect_in, local_where}
 use Rattle.wasi_walks.specs.Licence.{IsDisconnect, IsGetOf, IsSetTo, IsUdpBindTo}
-use Rattle.wasi_walks.proofs.walks.Moves.{Awaited, Begun, P2, MakesUdpFor, udp_socket_of, StreamStays, AwaitsCreate, Here, put_udp, FoundUdp, IsOpenUdp, NoStart, NoStartStands, ReleasesUdp, CreatesUdp, udp_begun, part_of, udp_record_of, IsUdpSettled, ReachesUdp, Leaves, Spends, UdpChanges, BeginsUdpBind, StandsUdpBind, StandsUdpCreate, Used, Unused, GivesBack, OfUdp}
+use Rattle.wasi_walks.proofs.walks.Moves.{Awaited, Begun, P2, MakesUdpFor, StreamStays, AwaitsCreate, Here, put_udp, FoundUdp, IsOpenUdp, NoStart, NoStartStands, ReleasesUdp, CreatesUdp, udp_begun, part_of, udp_record_of, IsUdpSettled, ReachesUdp, Leaves, Spends, UdpChanges, BeginsUdpBind, StandsUdpBind, StandsUdpCreate, Used, Unused, GivesBack, OfUdp, WhenClosed}
 use Rattle.wasi_walks.proofs.walks.Law.{Law, Walks, Given, given_then, given_on, given_along, give, and_then, and_so, and_given, by_if, move, gives, from}
-use Rattle.wasi_walks.proofs.walks.States.{At, Awaiting, Emptying, Over, OverWith, Put, Starts, none_stands, udp_record}
+use Rattle.wasi_walks.proofs.walks.States.{At, Awaiting, Over, OverWith, Put, Starts, none_stands, udp_record}
 use Rattle.wasi_walks.proofs.walks.UdpLaw.{HasUdp, udp_put_put, udp_put_same, udp_found, begin_create, mark_udp_walks, ask_udp, disconnect_udp, learn_udp, peer_udp, close_udp, poll_create_walks, poll_udp_bind_walks}
 use Rattle.wasi_walks.proofs.Places.{push_finds, put_finds, udp_sort}
 
@@ -88,7 +88,7 @@ create_given (UdpRecord.Creating create) = given_then (WaitsCreate create.operat
   where
     ended : (e : End × List Item) → WaitsCreate create.operation.who.side (udp_create_ended create e)
     ended (Waits, items) = record { create = _; is = refl; same = refl }
-    ended (Done given, items) = (tt, refl)
+    ended (Done given, items) = (refl, refl)
     ended (Refused c given, items) = tt
 create_given (UdpRecord.Open o) = tt
 create_given (UdpRecord.Closed s) = tt
@@ -179,7 +179,7 @@ module _ (m : Machine) (place : ℕ) where
   poll_at_given q u g = given_along (WaitsCreate (udp_side u)) (CreatesOn place (udp_side u)) (poll_create_asks u) (λ done. Give (create_answered m.store place done)) (create_given u) (answered_given q u g (udp_side u))
 
 -- with another store
-abbrev with_store_of : Here → Records → Here
+abbrev pub with_store_of : Here → Records → Here
 with_store_of h store = record h { machine = record h.machine { store = store } }
 
 module _ {contexts : List WasiSocketsCtx} {line : ℕ} {origin : Step} {law : Law contexts line origin} where
@@ -305,7 +305,7 @@ module _ {contexts : List WasiSocketsCtx} {line : ℕ} {origin : Step} {law : La
       by_if (is_network (kind_at m.table n)) (λ yes. on_udp m s (udp_socket_at m s) named (udp_record (kind_at m.table s)) (λ place. start_at m place a to q (open_at m.store.records place) refl)) (λ other. gives _ (Spends _ refl))
 
   finish_by : (m : Machine) (place : ℕ) (o : OpenUdp) → FoundUdp (Over m) place (UdpRecord.Open o) → (b : Bool) → is_udp_bound o.in_progress ≡ b → Walks law (Starts m Unused) (λ now. Over now) (Give (with_store m (finish_udp_bind_by m.store place o b)).1)
-  finish_by m place o g true e = move (Spends _ refl) (gives _ (UdpChanges _ place o _ g (record { side = refl; maker = refl; family = refl; remote = refl; bound = λ b. b; binds = inr (bound_settles o.in_progress e, tt); connects = refl; sends = inl refl; receives = inl refl; came = inl refl }) (record { incoming = StreamStays _; makes = inl (λ some. some) })))
+  finish_by m place o g true e = move (Spends _ refl) (gives _ (UdpChanges _ place o _ g (record { side = refl; maker = refl; family = refl; remote = refl; bound = λ b. b; binds = inr (bound_settles o.in_progress e, tt); connects = refl; sends = inl refl; receives = inl refl; came = inl refl; dropped = refl }) (record { incoming = StreamStays _; makes = inl (λ some. some) })))
   finish_by m place o g false e = gives _ (Spends _ refl)
 
   finish_at : (m : Machine) (place : ℕ) (o : Option OpenUdp) → open_at m.store.records place ≡ o → Walks law (Starts m Unused) (λ now. Over now) (Give (with_store m (finish_udp_bind_at m.store place o)).1)
@@ -316,24 +316,25 @@ module _ {contexts : List WasiSocketsCtx} {line : ℕ} {origin : Step} {law : La
   finish_udp_bind_walks m None = gives _ (Spends _ refl)
   finish_udp_bind_walks m (Some place) = finish_at m place (open_at m.store.records place) refl
 
-  -- == the end
-  close_by : {h : Here} {place : ℕ} (here : HasUdp h place) → ReleasesUdp h place → (u : UdpRecord) → Walks law (put_udp h place u) (λ done. put_udp h place done.1) (close_udp_asks (own_of line) u)
+  -- == the end, by the line or by one whose datagram is over
+  close_by : {h : Here} {place : ℕ} (n : ℕ) (here : HasUdp h place) (u : UdpRecord) → ((o : OpenUdp) → u ≡ UdpRecord.Open o → ReleasesUdp (put_udp h place u) place) → Walks law (put_udp h place u) (λ done. put_udp h place done.1) (close_udp_asks (own_of n) u)
   unfolding bind
-  close_by here q (UdpRecord.Open o) = close_udp here o q (λ told. give _)
-  close_by here q (UdpRecord.Creating c) = give _
-  close_by here q (UdpRecord.Closed s) = give _
+  close_by n here (UdpRecord.Open o) q = close_udp here o (q o refl) (λ told. give _)
+  close_by n here (UdpRecord.Creating c) q = give _
+  close_by n here (UdpRecord.Closed s) q = give _
 
   -- one that is closed is given back
-  left_walks : {A : Type 0} {h : Here} {place : ℕ} {end : A → Here} {asks : Asks A} → HasUdp h place → h.machine.store.standing ≡ None → (u : UdpRecord) → Walks law (with_store_of h (udp_left h.machine.store place u)) end asks → Walks law (put_udp h place u) end asks
-  left_walks {place = place} here q (UdpRecord.Closed side) w = move (GivesBack _ place q (OfUdp side (udp_found here (UdpRecord.Closed side)))) w
-  left_walks here q (UdpRecord.Creating create) w = w
-  left_walks here q (UdpRecord.Open o) w = w
+  left_walks : {A : Type 0} {h : Here} {place : ℕ} {end : A → Here} {asks : Asks A} → HasUdp h place → (u : UdpRecord) → Walks law (with_store_of h (udp_left h.machine.store place u)) end asks → Walks law (put_udp h place u) end asks
+  left_walks {place = place} here (UdpRecord.Closed side) w = let closed = udp_found here (UdpRecord.Closed side) in move (GivesBack _ place (WhenClosed side closed) (OfUdp side closed)) w
+  left_walks here (UdpRecord.Creating create) w = w
+  left_walks here (UdpRecord.Open o) w = w
 
-  pub release_udp_walks : (m : Machine) (place : ℕ) (kind : Kind) → udp_socket_of kind ≡ Some place → (u : Option UdpRecord) → udp2_at m.store.records place ≡ u → m.store.standing ≡ None → Walks law (Emptying line m place kind Unused) (λ done. Emptying line (record m { store = done.1 }) place kind Used) (release_udp_at m.store (own_of line) place u)
-  release_udp_walks m place kind is None g q = gives _ (Spends _ refl)
-  release_udp_walks m place kind is (Some u) g q =
-      from (udp_put_same (Emptying line m place kind Unused) place u g)
-      (and_then (close_by (udp_there {h = Emptying line m place kind Unused} g) (none_stands q, record { kind = kind; made = refl; socket = is }) u) (λ done. move (Spends _ refl) (left_walks (udp_there {h = Emptying line m place kind Used} g) q done.1 (give _))))
+  pub release_udp_walks : (h : Here) (place n : ℕ) (u : Option UdpRecord) → udp2_at h.machine.store.records place ≡ u → ((o : OpenUdp) → FoundUdp h place (UdpRecord.Open o) → ReleasesUdp h place)
+      → Walks law h (λ done. with_store_of h done.1) (release_udp_at h.machine.store (own_of n) place u)
+  release_udp_walks h place n None g q = give _
+  release_udp_walks h place n (Some u) g q =
+      let same : put_udp h place u ≡ h = udp_put_same h place u g in
+      from same (and_then (close_by n (udp_there {h = h} g) u (λ o e. subst (λ (x : Here). ReleasesUdp x place) (sym same) (q o (g ∙ ap (λ (x : UdpRecord). Some x) e)))) (λ done. left_walks (udp_there {h = h} g) done.1 (give _)))
 
   -- == a create
   created_walks : (m : Machine) (made : Result ℕ Stop × HandleTable) → Walks law (Over (record m { table = made.1 })) OverWith (Give (handle_made m made))
@@ -348,10 +349,10 @@ module _ {contexts : List WasiSocketsCtx} {line : ℕ} {origin : Step} {law : La
         let its : udp_side u ≡ side = subst (λ (x : UdpRecord). udp_side x ≡ side) same o.same in
         and_then (mark_udp_walks face place u (record { awaited = ap (λ (x : OpId). Awaited face x place) (sym its); found = g; opens = subst IsOpenUdp same o.opens })) (created_walks m)
 
-    create_so_walks : (side : OpId) (ids : Ids) (place : ℕ) (m : Machine) (done : Result (Answer (Unit {0})) BaseStop × Records) → CreatesOn place side done → Walks law (CreatedSo face side m place done) OverWith (create_so face ids place m done)
-    create_so_walks side ids place m (Ok Pending, store) w = move (StandsUdpCreate _ ids place face w.create w.quiet (ap (λ (x : OpId). Awaited face x place) (sym w.same)) w.at) (gives _ (Leaves _))
-    create_so_walks side ids place m (Ok (Ready d), store) w = mark_walks side (record m { store = store }) place (udp2_at store.records place) refl w
-    create_so_walks side ids place m (Err c, store) w = give _
+    create_so_walks : (side : OpId) (ids : Ids) → (ids.line ≡ line) ⊎ (origin ≡ Step.Poll ids.line) → (place : ℕ) (m : Machine) (done : Result (Answer (Unit {0})) BaseStop × Records) → CreatesOn place side done → Walks law (CreatedSo face side m place done) OverWith (create_so face ids place m done)
+    create_so_walks side ids by place m (Ok Pending, store) w = move (StandsUdpCreate _ ids place face w.create w.quiet (ap (λ (x : OpId). Awaited face x place) (sym w.same)) w.at by) (gives _ (Leaves _))
+    create_so_walks side ids by place m (Ok (Ready d), store) w = mark_walks side (record m { store = store }) place (udp2_at store.records place) refl w
+    create_so_walks side ids by place m (Err c, store) w = give _
 
     module _ (m : Machine) (place : ℕ) where
       ended_walks : (create : Create) (ended : End × List Item) → Walks law (put_udp (Awaiting face create.operation.who.side m place) place (udp_create_left create ended)) (Polled face create.operation.who.side m place) (Give (udp_create_ended create ended))
@@ -364,17 +365,17 @@ module _ {contexts : List WasiSocketsCtx} {line : ℕ} {origin : Step} {law : La
       poll_so (UdpRecord.Open o) g q = give _
       poll_so (UdpRecord.Closed s) g q = give _
 
-      answered_so : (side : OpId) → HasUdp (Over m) place → m.store.standing ≡ None → (done : Result (Answer (Unit {0})) ErrorCode × UdpRecord) → Walks law (Polled face side m place done) (CreatedSo face side m place) (Give (create_answered m.store place done))
-      answered_so side here q (Ok answer, u) = give _
-      answered_so side here q (Err c, u) = left_walks here q u (give _)
+      answered_so : (side : OpId) → HasUdp (Over m) place → (done : Result (Answer (Unit {0})) ErrorCode × UdpRecord) → Walks law (Polled face side m place done) (CreatedSo face side m place) (Give (create_answered m.store place done))
+      answered_so side here (Ok answer, u) = give _
+      answered_so side here (Err c, u) = left_walks here u (give _)
 
       poll_at_walks : (u : UdpRecord) → udp2_at m.store.records place ≡ Some u → m.store.standing ≡ None → Walks law (Polling face m place (Some u)) (CreatedSo face (udp_side u) m place) (poll_create_at m.store place (Some u))
-      poll_at_walks u g q = from (same_polling face m place u g) (and_then (poll_so u g q) (answered_so (udp_side u) (udp_there {h = Over m} g) q))
+      poll_at_walks u g q = from (same_polling face m place u g) (and_then (poll_so u g q) (answered_so (udp_side u) (udp_there {h = Over m} g)))
 
-      pub polled_walks : (ids : Ids) → m.store.standing ≡ None → (u : Option UdpRecord) → udp2_at m.store.records place ≡ u → Walks law (Polling face m place u) OverWith (bind (poll_create_at m.store place u) (create_so face ids place m))
+      pub polled_walks : (ids : Ids) → (ids.line ≡ line) ⊎ (origin ≡ Step.Poll ids.line) → m.store.standing ≡ None → (u : Option UdpRecord) → udp2_at m.store.records place ≡ u → Walks law (Polling face m place u) OverWith (bind (poll_create_at m.store place u) (create_so face ids place m))
       unfolding bind
-      polled_walks ids q None g = give _
-      polled_walks ids q (Some u) g = and_given (CreatesOn place (udp_side u)) (poll_at_given m place (none_stands q) u g) (poll_at_walks u g q) (create_so_walks (udp_side u) ids place m)
+      polled_walks ids by q None g = give _
+      polled_walks ids by q (Some u) g = and_given (CreatesOn place (udp_side u)) (poll_at_given m place (none_stands q) u g) (poll_at_walks u g q) (create_so_walks (udp_side u) ids by place m)
 
     -- one that the line begins
     create_begun_walks : (m : Machine) → m.store.standing ≡ None → MakesUdpFor face origin → (begun : Result Create ErrorCode) → IsOwn line begun → Walks law (udp_begun (Starts m Unused) begun) OverWith (create_begun face m (first_ids line) begun)
@@ -383,7 +384,7 @@ module _ {contexts : List WasiSocketsCtx} {line : ℕ} {origin : Step} {law : La
         let place = length m.store.records in
         let found = push_finds udp_sort m.store.records (UdpRecord.Creating create) in
         move (AwaitsCreate _ place face create (Begun makes own) found)
-        (from (ap (Polling face now place) found) (polled_walks now place (first_ids line) q (udp2_at now.store.records place) refl))
+        (from (ap (Polling face now place) found) (polled_walks now place (first_ids line) (inl refl) q (udp2_at now.store.records place) refl))
     create_begun_walks m q makes (Err c) own = give _
 
     pub create_udp_walks : (m : Machine) (ctx : WasiSocketsCtx) (family : SocketAddressFamily) → CreatesUdp contexts ctx family face origin → m.store.standing ≡ None → Walks law (Starts m Unused) OverWith (create_udp face m (first_ids line) ctx family)

@@ -23,7 +23,7 @@ use Rattle.wasi_records.specs.declared.udp.UdpInProgress.{UdpInProgress}
 use Rattle.wasi_records.specs.Udp.{udp_side, udp_create_left, udp_bind_progress, with_udp_inner, with_udp_progress}
 use Rattle.wasi_udp.specs.Create.{Create, new_asks}
 use Rattle.wasi_udp.specs.Socket.{after_local, after_peer}
-use Rattle.wasi_walks.proofs.walks.Moves.{Interface, HasNewStream, Here, MarksNext, put_udp, FoundUdp, IsCreated, NoStart, ReleasesUdp, IsUdpQuestionOf, CreatesUdp, udp_begun, ToSend, part_of, SettlesSend, Unused, Past, Spends, Held, UdpCreates, UdpBindsOn, UdpConnectsOn, UdpReconnectsOn, SendsOn, ReceivesOn}
+use Rattle.wasi_walks.proofs.walks.Moves.{Interface, HasNewStream, Here, MarksNext, put_udp, FoundUdp, IsCreated, NoStart, StreamsUnder, ReleasesUdp, IsUdpQuestionOf, CreatesUdp, udp_begun, ToSend, part_of, SettlesSend, Unused, Past, Spends, Held, UdpCreates, UdpBindsOn, UdpConnectsOn, UdpReconnectsOn, SendsOn, ReceivesOn}
 use Rattle.wasi_walks.proofs.walks.Asked.{MarksStream, MarksUdp, Polls, UdpBegins, UdpCloses, UdpDisconnects, UdpLearns, UdpPeers, UdpQuestions}
 use Rattle.wasi_walks.proofs.walks.Law.{Law, Walks, ends, by_if, gives}
 use Rattle.wasi_walks.proofs.Places.{put_again, put_finds, put_twice, udp_sort}
@@ -110,13 +110,13 @@ module _ {contexts : List WasiSocketsCtx} {line : ℕ} {origin : Step} {law : La
     }
 
     -- its network socket is closed
-    pub close_udp : {A : Type 0} {end : A → Here} (o : OpenUdp) {next : Told → Asks A} → ReleasesUdp h place → ((told : Told) → Walks law (put_udp h place (UdpRecord.Closed o.inner.side)) end (next told)) → Walks law (put_udp h place (UdpRecord.Open o)) end (Ask (own_of line) (Call.Close o.inner.side) next)
-    close_udp o q k = record {
+    pub close_udp : {A : Type 0} {n : ℕ} {end : A → Here} (o : OpenUdp) {next : Told → Asks A} → ReleasesUdp (put_udp h place (UdpRecord.Open o)) place → ((told : Told) → Walks law (put_udp h place (UdpRecord.Closed o.inner.side)) end (next told)) → Walks law (put_udp h place (UdpRecord.Open o)) end (Ask (own_of n) (Call.Close o.inner.side) next)
+    close_udp {n = n} o q k = record {
       along = λ es i.
-          let a = law.asks es (put_udp h place (UdpRecord.Open o)) _ _ _ (UdpCloses place o q (udp_found here (UdpRecord.Open o))) tt i in (
+          let a = law.asks es (put_udp h place (UdpRecord.Open o)) _ _ _ (UdpCloses place n o q (udp_found here (UdpRecord.Open o))) tt i in (
             a.0,
             λ told fits.
-                let fs : List Entry = es ++ entry (own_of line) (Call.Close o.inner.side) told ∷ [] in
+                let fs : List Entry = es ++ entry (own_of n) (Call.Close o.inner.side) told ∷ [] in
                 (k told).along fs (subst (law.Inv fs) (udp_put_put h place (UdpRecord.Open o) (UdpRecord.Closed o.inner.side)) (a.1 told fits)),
           );
     }
@@ -131,8 +131,8 @@ module _ {contexts : List WasiSocketsCtx} {line : ℕ} {origin : Step} {law : La
     pub poll_udp_bind_walks : (o : OpenUdp) (op : Operation) → NoStart h → o.in_progress ≡ UdpInProgress.Binding op → Walks law (put_udp h place (UdpRecord.Open o)) (λ ended. put_udp h place (UdpRecord.Open (with_udp_progress o (udp_bind_progress op ended)))) (poll_asks op)
     poll_udp_bind_walks o op q e = udp_polled (UdpRecord.Open o) (λ ended. UdpRecord.Open (with_udp_progress o (udp_bind_progress op ended))) (UdpBindsOn place o op q (udp_found here (UdpRecord.Open o)) e)
 
-    pub poll_udp_connect_walks : (o : OpenUdp) (op : Operation) → NoStart h → o.connecting ≡ Some op → Walks law (put_udp h place (UdpRecord.Open o)) (λ ended. put_udp h place (UdpRecord.Open (udp_connect_left op o ended))) (poll_asks op)
-    poll_udp_connect_walks o op q e = udp_polled (UdpRecord.Open o) (λ ended. UdpRecord.Open (udp_connect_left op o ended)) (UdpConnectsOn place o op q (udp_found here (UdpRecord.Open o)) e)
+    pub poll_udp_connect_walks : (o : OpenUdp) (op : Operation) → NoStart h → StreamsUnder h place → o.connecting ≡ Some op → Walks law (put_udp h place (UdpRecord.Open o)) (λ ended. put_udp h place (UdpRecord.Open (udp_connect_left op o ended))) (poll_asks op)
+    poll_udp_connect_walks o op q under e = udp_polled (UdpRecord.Open o) (λ ended. UdpRecord.Open (udp_connect_left op o ended)) (UdpConnectsOn place o op (q, under) (udp_found here (UdpRecord.Open o)) e)
 
     -- one of 0.3
     pub poll_reconnect_walks : (o : OpenUdp) (op : Operation) → NoStart h → o.connecting ≡ Some op → Walks law (put_udp h place (UdpRecord.Open o)) (λ ended. put_udp h place (UdpRecord.Open (udp_reconnect_left op o ended))) (poll_asks op)
