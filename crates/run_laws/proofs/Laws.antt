@@ -52,7 +52,7 @@ took_permitted contexts side steps log o = record {
 }
 
 -- no operation serves two: on one network socket, nor on two, since each receives on one
-none_serves_both : (log : List Entry) (steps : List Step) (replies : List Reply) → ReceivesOnOne log → (first second : ℕ) → ReceivedApart log steps replies first second → NoneServesBoth log steps replies first second
+none_serves_both : (log : List Entry) (steps : List Step) (replies : List Reply) → ReceivesOnOne steps log → (first second : ℕ) → ReceivedApart log steps replies first second → NoneServesBoth log steps replies first second
 none_serves_both log steps replies on_one first second k = record {
   one = k.one;
   two = k.two;
@@ -62,7 +62,7 @@ none_serves_both log steps replies on_one first second k = record {
       k.apart (on_one.one op k.one.side k.two.side (record { told = a.0; asked = a.1 }) (record { told = b.0; asked = b.1 })) op h l;
 }
 
-serves_apart : {log : List Entry} {steps : List Step} {replies : List Reply} → ReceivesOnOne log → (first second : ℕ)
+serves_apart : {log : List Entry} {steps : List Step} {replies : List Reply} → ReceivesOnOne steps log → (first second : ℕ)
     → (handed_out first steps replies ≡ []) ⊎ ((handed_out second steps replies ≡ []) ⊎ ReceivedApart log steps replies first second)
     → (handed_out first steps replies ≡ []) ⊎ ((handed_out second steps replies ≡ []) ⊎ NoneServesBoth log steps replies first second)
 serves_apart {log} {steps} {replies} on_one first second (inl none) = inl none

@@ -48,7 +48,7 @@ pub record KeepsLaws (contexts : List WasiSocketsCtx) (steps : List Step) (log :
   pub checks_first : (op : OpId) → ChecksFirst (asked_by op log)
   pub while_open : AsksOpenSockets log
   pub taken : (side : OpId) → TookPermitted contexts side steps log
-  pub on_one : ReceivesOnOne log
+  pub on_one : ReceivesOnOne steps log
   pub in_order : (side : OpId) → HandsOutInOrder log side steps replies
   pub apart : (first second : ℕ) → (first ≡ second → ⊥)
       → (handed_out first run.done replies ≡ []) ⊎ ((handed_out second run.done replies ≡ []) ⊎ NoneServesBoth run.front run.done replies first second)

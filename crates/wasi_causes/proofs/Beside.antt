@@ -1,9 +1,13 @@
 -- Whether a call stands beside others, and what a poll and a cancel of one leave.
-use Rattle.std.specs.Prelude.{◌||◌, ◌&&◌, not}
+use Rattle.std.specs.Prelude.{◌||◌, ◌&&◌, not, position}
 use Rattle.wasi_causes.proofs.Words.{◌≡◌, ℕ, ◌==◌, ◌++◌, ◌∷◌, Bool, true, false, List, [], Option, Some, None, refl}
-use Rattle.wasi_causes.proofs.Words.{IsSome, is_some, Machine, eq-eqb}
+use Rattle.wasi_causes.proofs.Words.{IsSome, is_some, Machine, ap, eq-eqb, eqb-true, inl, inr, slice_get, slice_set, suc, sym, zero, ◌∙◌}
+use Rattle.wasi_walks.specs.Licence.{Has}
+use Rattle.wasi_host.specs.SocketDatagrams.{has_datagram, is_datagram_of}
 use Rattle.wasi_host.specs.declared.beside.Beside.{Beside}
-use Rattle.wasi_host.specs.Beside.{beside_in, beside_of, stands_under}
+use Rattle.wasi_host.proofs.BesidePlaces.{at_place, found_at}
+use Rattle.wasi_host.specs.declared.beside.BesideCall.{BesideCall}
+use Rattle.wasi_host.specs.Beside.{beside_as, beside_in, beside_of, beside_put, beside_with, stands_under}
 use Rattle.wasi_host.specs.Standing.{call_of, standing_as, stands_as}
 use Rattle.wasi_host.specs.declared.store.Standing.{Standing}
 use Rattle.wasi_host.specs.declared.store.StandingCall.{StandingCall}
@@ -85,3 +89,36 @@ found_last (c ∷ calls) b = by (c.line == b.line) refl (found_last calls b)
     by : (same : Bool) → (c.line == b.line) ≡ same → IsSome (beside_in (calls ++ b ∷ []) b.line) → IsSome (beside_in ((c ∷ calls) ++ b ∷ []) b.line)
     by true e later = rw e refl
     by false e later = rw e later
+
+-- == a call in the place of another of its number
+found_set : (n : ℕ) (calls : List Beside) (i : ℕ) (b : Beside) → b.line ≡ n → IsSome (slice_get calls i) → IsSome (beside_in (slice_set calls i b) n)
+found_set n [] i b e some = absurd (cc)
+found_set n (c ∷ calls) zero b e some = rw (e, eq-eqb n n refl) refl
+found_set n (c ∷ calls) (suc i) b e some = by_line (c.line == n) refl (found_set n calls i b e some)
+  where
+    by_line : (same : Bool) → (c.line == n) ≡ same → IsSome (beside_in (slice_set calls i b) n) → IsSome (beside_in (c ∷ slice_set calls i b) n)
+    by_line true k later = rw k refl
+    by_line false k later = rw k later
+
+-- it is found there
+pub found_there : (calls : List Beside) (n : ℕ) (its : BesideCall) → IsSome (beside_in calls n) → IsSome (beside_in (beside_with calls n its) n)
+found_there calls n its some = by_place (position (λ b. b.line == n) calls) (found_at (λ b. b.line == n) calls)
+  where
+    by_place : (o : Option ℕ) → at_place calls o ≡ beside_in calls n → IsSome (beside_in (beside_put calls n its o) n)
+    by_place None e = some
+    by_place (Some i) e = found_set n calls i (beside_as n its) refl (rw e some)
+
+-- one that is found is among them, by its number
+pub find_has : (calls : List Beside) (n : ℕ) (b : Beside) → beside_in calls n ≡ Some b → Has calls b × (b.line ≡ n)
+find_has [] n b e = absurd (cc)
+find_has (c ∷ calls) n b e = by_line (c.line == n) refl (find_has calls n b) e
+  where
+    by_line : (same : Bool) → (c.line == n) ≡ same → (beside_in calls n ≡ Some b → Has calls b × (b.line ≡ n)) → beside_in (c ∷ calls) n ≡ Some b → Has (c ∷ calls) b × (b.line ≡ n)
+    by_line true k later e = let its : c ≡ b = (let p : Some c ≡ Some b = (rw k at e) in cc) in (inl its, ap (λ (x : Beside). x.line) (sym its) ∙ eqb-true c.line n k)
+    by_line false k later e = let found = later (rw k at e) in (inr found.0, found.1)
+
+-- so is a datagram, among those of its socket
+pub datagram_has : (calls : List Beside) (place : ℕ) (b : Beside) → Has calls b → is_datagram_of place b.call ≡ true → has_datagram calls place ≡ true
+datagram_has [] place b has is = absurd has
+datagram_has (c ∷ calls) place b (inl same) is = one_stands (is_datagram_of place c.call) (has_datagram calls place) (ap (λ (x : Beside). is_datagram_of place x.call) same ∙ is)
+datagram_has (c ∷ calls) place b (inr later) is = other_stands (is_datagram_of place c.call) (has_datagram calls place) (datagram_has calls place b later is)

@@ -18,10 +18,12 @@ use Rattle.wasi_walks.proofs.walks.Moves as walk
 use Rattle.wasi_walks.proofs.walks.Moves.{Found, FoundUdp, GoesOn, HasListen, Held, Here, Made, Move, NoStart, NoStartIn, NoStartStands, SameSockets, ListensForHandle, beginning_listen, listen_after, put, put_udp, udp_begun, with_records}
 use Rattle.wasi_walks.proofs.walks.Runs.{run_ends}
 use Rattle.wasi_walks.proofs.walks.Steps.{machine_walks}
-use Rattle.wasi_walks.proofs.walks.OfState.{Becomes, Created, CreatedWith, GivenUp, Handles, HasHandle, HasNoRoom, IsClosed, Learnt, NoRoom, OfError, OfLine, OfState, Resolved, StandsOn, UdpBegun}
+use Rattle.wasi_walks.proofs.walks.OfState.{DatagramBegan, DatagramPolled, Becomes, Created, CreatedWith, GivenUp, Handles, HasHandle, HasNoRoom, IsClosed, Learnt, NoRoom, OfError, OfLine, OfState, Resolved, StandsOn, UdpBegun}
 use Rattle.wasi_walks.proofs.walks.OfState.{UdpGivenUp, UdpIsClosed, UdpLearnt, Writing, begins_state, of_state}
 use Rattle.wasi_walks.proofs.walks.Law.{InCall}
-use Rattle.wasi_walks.proofs.GoneLists.{was_there}
+use Rattle.wasi_walks.proofs.GoneLists.{stays_there, was_there}
+use Rattle.wasi_records.specs.Numbered.{record_gone}
+use Rattle.wasi_causes.proofs.Words.{slice_get}
 use Rattle.wasi_walks.proofs.Places.{push_new, push_still, push_was, put_found, put_stays, put_still, put_was, tcp_sort, udp_sort}
 use Rattle.wasi_walks.specs.Answered.{AllOf}
 use Rattle.wasi_walks.specs.Waiting.{IsAskOfBound, IsOfBound}
@@ -181,6 +183,18 @@ recalled : (records : List Record) (n : ℕ) (marks : Option ℕ) (place : ℕ) 
 recalled records n None place k = λ x at. let same : k.was ≡ x = (let p : Some k.was ≡ Some x = sym k.at ∙ at in cc) in subst (λ (y : TcpRecord). IsOfBound y.listening) same (begins_bound k.was.listening k.goes)
 recalled records n (Some handle) place k = tt
 
+-- a record is given back, while nothing is pending, or one of a closed UDP socket
+back_bound : (h : Here) (place : ℕ) → walk.GoesBack h place → StandsBound h.machine.store.records h.machine.store.standing → StandsBound (record_gone h.machine.store.records place) h.machine.store.standing
+back_bound h place (walk.WhenIdle idle) i = subst (StandsBound _) (sym idle) tt
+back_bound h place (walk.WhenClosed side g) i =
+    stands_still h.machine.store.records _ h.machine.store.standing (λ k b. record { was = b.was; at = stays_there tcp2_of h.machine.store.records place k b.was (other k b) b.at; goes = b.goes }) i
+  where
+    other : (k : ℕ) → ListensBound h.machine.store.records k → k ≡ place → ⊥
+    other k b same =
+        let none : tcp2_at h.machine.store.records place ≡ None = ap tcp2_of (udp_sort.it (slice_get h.machine.store.records place) (UdpRecord.Closed side) g) in
+        let some : tcp2_at h.machine.store.records place ≡ Some b.was = ap (tcp2_at h.machine.store.records) (sym same) ∙ b.at in
+        absurd (cc)
+
 module _ (contexts : List WasiSocketsCtx) (line : ℕ) (origin : Step) where
   -- a listen begins, where none was
   listens_begin : (h : Here) (place : ℕ) (r : TcpRecord) (side : OpId) (bound : Bool) → Found h place r → (bound ≡ false → ListensForHandle h.made) → r.listening ≡ listening.Not → Bound h → Bound (put h place (beginning_listen (own_of line) side r bound))
@@ -237,13 +251,14 @@ module _ (contexts : List WasiSocketsCtx) (line : ℕ) (origin : Step) where
   moves_bound _ _ (walk.Unstands h over) i = (tt, i.1)
   moves_bound _ _ (walk.Stands h ids call r quiet at g k) i = (goes_bound h.machine.store.records call r k, i.1)
   moves_bound _ _ (walk.StandsUdpBind h ids place face o op quiet at g e) i = (tt, i.1)
-  moves_bound _ _ (walk.StandsUdpCreate h ids place face create quiet made g) i = (tt, i.1)
+  moves_bound _ _ (walk.StandsUdpCreate h ids place face create quiet made g its) i = (tt, i.1)
   moves_bound _ _ (walk.StandsConnect h ids place o op quiet at past g e) i = (tt, i.1)
   moves_bound _ _ (walk.StandsUdpConnect h ids place handle o op quiet at made g e) i = (tt, i.1)
   moves_bound _ _ (walk.StandsDropOutgoing h ids place o quiet at g e) i = (tt, i.1)
   moves_bound _ _ (walk.StandsBlocking h ids call handles made its) i = (tt, i.1)
   moves_bound _ _ (walk.GivesBack h place idle left) i =
-      (subst (StandsBound _) (sym idle) tt, makes_still h.machine.store.records _ h.made (λ k all x e. all x (was_there tcp2_of refl h.machine.store.records place k x e)) i.1)
+      (back_bound h place idle i.0, makes_still h.machine.store.records _ h.made (λ k all x e. all x (was_there tcp2_of refl h.machine.store.records place k x e)) i.1)
+  moves_bound _ _ (walk.DropsUdp h place o idle made g) i = put_udp_bound h place (UdpRecord.Open o) _ g i
   moves_bound _ _ _ i = i
 
   -- == polls
@@ -314,7 +329,9 @@ module _ (contexts : List WasiSocketsCtx) (line : ℕ) (origin : Step) where
   becomes_bound h _ (UdpGivenUp place create q g) i = put_udp_bound h place (UdpRecord.Creating create) _ g i
   becomes_bound h _ (UdpBegun face ctx family r c u m) i = begun_bound h (udp_after_create (own_of line) ctx.name family r) i
   becomes_bound h _ (Resolved host records l same) i = found_bound h records same i
-  becomes_bound h _ (StandsOn beside) i = i
+  becomes_bound h _ (StandsOn host told) i = i
+  becomes_bound h _ (DatagramBegan place o call op polled ended at g starts m own left) i = i
+  becomes_bound h _ (DatagramPolled n b place o call op polled ended is at g polls left) i = i
   becomes_bound h _ (HasHandle kind parent made k) i = (i.0, handles_bound h.machine.store.records h kind parent made k i.1)
   becomes_bound h _ (NoRoom made none) i = (i.0, no_room h.machine.store.records made none)
   becomes_bound h _ (Created face ctx family c u m) i = created h _ tt i

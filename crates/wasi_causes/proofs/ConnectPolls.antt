@@ -12,7 +12,7 @@ use Rattle.wasi_records.specs.Sockets.{inner_answered}
 use Rattle.wasi_records.specs.Stops.{Code}
 use Rattle.wasi_host.specs.declared.beside.Beside.{Beside}
 use Rattle.wasi_host.specs.declared.beside.BesideCall.{BesideCall}
-use Rattle.wasi_host.specs.declared.beside.BesideCall.TheVariants.{Connect, Resolve}
+use Rattle.wasi_host.specs.declared.beside.BesideCall.TheVariants.{Connect, Receive, Resolve, Send}
 use Rattle.wasi_host.specs.declared.kind.Interface.TheVariants.{P3}
 use Rattle.wasi_host.specs.declared.pending.Outcome.{Outcome as Given}
 use Rattle.wasi_host.specs.BaseStops.{BaseStop}
@@ -28,10 +28,11 @@ use Rattle.wasi_walks.specs.Waiting.{call_over, left_missing}
 use Rattle.wasi_causes.proofs.Beside.{beside_call, is_beside, none_of, not_both}
 use Rattle.wasi_causes.proofs.operations.ConnectEnds.{ConnectEnd, connect_ends_so}
 use Rattle.wasi_causes.proofs.resolving.P3ResolvePolls.{lookup_resumes}
+use Rattle.wasi_causes.proofs.sockets.P3DatagramPolls.{receive_resumes, send_resumes}
 use Rattle.wasi_causes.proofs.tables.Meets.{Meets, Rows, ends, granted, onto, widen}
 use Rattle.wasi_causes.proofs.tables.Routes.{apart, calls, finds, put_same}
 use Rattle.wasi_causes.specs.Outcomes.{BlockedGoesOn, Outcome}
-use Rattle.wasi_causes.specs.P3Connects.{BesidePolled, ConnectsStill, GoesOnBeside, IsBeside, IsClosed, IsConnected}
+use Rattle.wasi_causes.specs.P3Connects.{BesidePolled, ConnectsStill, EndsOver, GoesOnBeside, IsBeside, IsClosed, IsConnected, StaysPending}
 use Rattle.wasi_causes.specs.P3Connects.{IsOver, NeverBegan, OverDone, OverGone, OverRefused, SocketIsGone, SocketPolled}
 use Rattle.wasi_causes.specs.P3Connects.{WasClosedBefore, WasConnected, with_socket_as}
 
@@ -59,7 +60,7 @@ module _ (contexts : List WasiSocketsCtx) (m : Machine) (line n : ℕ) (other : 
 
     -- it is over, and leaves this socket
     over_row : (es : List Entry) (r : Reply) (r_now : TcpRecord) → let after : Machine = call_over (putting m place r_now) n in IsOver r → Why es r after → BesidePolled m n es r after
-    over_row es r now over why = record { handles = refl; exclusive = refl; ends = inr (over, refl); why = its_why es r _ why }
+    over_row es r now over why = record { handles = refl; exclusive = refl; ends = rw is (EndsOver r (call_over (putting m place now) n) over refl); why = its_why es r _ why }
 
     module _ (r : TcpRecord) (at : tcp2_at m.store.records place ≡ Some r) where
       abbrev Socket : List Entry → Reply → Machine → Type 0
@@ -84,7 +85,7 @@ module _ (contexts : List WasiSocketsCtx) (m : Machine) (line n : ℕ) (other : 
       waits_row : (es : List Entry) (now : TcpRecord) → let after : Machine = putting m place now in Socket es (reply.Pending n) after → Row es (reply.Pending n, after)
       waits_row es now why =
           let after : Machine = putting m place now in
-          let polled : BesidePolled m n es (reply.Pending n) after = record { handles = refl; exclusive = refl; ends = inl (refl, refl); why = its_why es (reply.Pending n) after (there es (reply.Pending n) after why) } in
+          let polled : BesidePolled m n es (reply.Pending n) after = record { handles = refl; exclusive = refl; ends = rw is (rw call (StaysPending after refl)); why = its_why es (reply.Pending n) after (there es (reply.Pending n) after why) } in
           ((apart (λ e. cc) (λ none. not_both (stands_under m.store n) on none), λ stands. absurd (cc), no_blocking es (reply.Pending n) after, λ b. polled), ((refl, inr (rw is refl)), (inr beside, refl, λ k. refl)))
 
       abbrev ToldRow : Rows (Answered × TcpRecord)
@@ -124,11 +125,11 @@ module _ (contexts : List WasiSocketsCtx) (m : Machine) (line n : ℕ) (other : 
         let after : Machine = call_over m n in
         let gone : SocketIsGone m n [] (reply.Trap NoSuchHandle) after = (refl, refl, refl) in
         let why : Why [] (reply.Trap NoSuchHandle) after = (λ k. gone, λ q found connects. absurd (cc)) in
-        let polled : BesidePolled m n [] (reply.Trap NoSuchHandle) after = record { handles = refl; exclusive = refl; ends = inr (OverGone, refl); why = its_why [] (reply.Trap NoSuchHandle) after why } in
+        let polled : BesidePolled m n [] (reply.Trap NoSuchHandle) after = record { handles = refl; exclusive = refl; ends = rw is (EndsOver (reply.Trap NoSuchHandle) after OverGone refl); why = its_why [] (reply.Trap NoSuchHandle) after why } in
         ((apart (λ e. cc) (λ none. not_both (stands_under m.store n) on none), λ stands. absurd (cc), no_blocking [] (reply.Trap NoSuchHandle) after, λ b. polled), (inr (other, rw is (rw call none)), λ live. (refl, left_beside)))
       where
         left_beside : call_over m n ≡ left_missing m (step.Poll n)
-        left_beside = rw (none_of m.store.standing n other) refl
+        left_beside = rw (none_of m.store.standing n other, is, call) refl
 
     its : Meets StoreRow [] (reconnect_in place m.store)
     its =
@@ -142,6 +143,8 @@ module _ (contexts : List WasiSocketsCtx) (m : Machine) (line n : ℕ) (other : 
   by_call : (b : Beside) → beside_of m.store n ≡ Some b → (call : BesideCall) → b.call ≡ call → Meets GoneRow [] (go_on_beside m n call)
   by_call b is (Connect place) call = onto _ (onto _ (its b is place call))
   by_call b is (Resolve host) call = lookup_resumes contexts m line n other no_blocking b is host call
+  by_call b is (Send place op) call = send_resumes contexts m line n other no_blocking b is place op call
+  by_call b is (Receive place op) call = receive_resumes contexts m line n other no_blocking b is place op call
 
   pub resumes_beside : (b : Beside) → beside_of m.store n ≡ Some b → Meets GoneRow [] (go_on_beside m n b.call)
   resumes_beside b is = by_call b is b.call refl

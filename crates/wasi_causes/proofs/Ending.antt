@@ -13,7 +13,7 @@ use Rattle.wasi_host.specs.UdpCalls.{release_udp_at, udp_closed, with_open_udp}
 use Rattle.wasi_host.specs.declared.kind.Kind.TheVariants.{Udp2, Incoming, Outgoing}
 use Rattle.wasi_records.specs.declared.udp.UdpRecord.{UdpRecord}
 use Rattle.wasi_records.specs.declared.udp.UdpRecord.TheVariants as udp
-use Rattle.wasi_causes.specs.Udp.{udp_given_up, udp_left}
+use Rattle.wasi_causes.specs.Udp.{putting_udp, udp_given_up, udp_left}
 use Rattle.wasi_causes.proofs.GivenBack.{no_job, put_gone}
 use Rattle.wasi_host.specs.UdpCalls as calls
 use Rattle.wasi_records.specs.declared.records.Record.{Record}
@@ -21,7 +21,13 @@ use Rattle.wasi_causes.proofs.streams.Halves.{OutputRow, outputs}
 use Rattle.wasi_causes.proofs.tables.Meets.{Rows, Meets, ends, asks, chain, onto, shifted, told_so, widen}
 use Rattle.wasi_causes.proofs.tables.Routes.{Replied, Says, put_back, Names, its, on_record, apart, none_has}
 use Rattle.wasi_causes.specs.GivenUp.{LetsGo, ListenerGoes, streams_given_up, side_closed, listening_given_up, socket_given_up, HasLiveChildren, without, LooksOnce, NoLook, OneLook, IsDropped, GoesAtOnce, IsGone}
-use Rattle.wasi_causes.specs.Gone.{AsksOnce, Gone, ListenerGone, SocketGone, Socket3Gone, UdpGone}
+use Rattle.wasi_causes.specs.Gone.{AsksOnce, Gone, ListenerGone, SocketGone, Socket3Gone, Udp3Gone, Udp3GoneBy, UdpGone}
+use Rattle.wasi_causes.proofs.HeldUdp.{closes}
+use Rattle.wasi_host.specs.SocketDatagrams.{has_datagram, is_udp_held, let_udp_go, udp_goes, without_udp_handle}
+use Rattle.wasi_host.specs.SocketDatagrams as udp_held
+use Rattle.wasi_records.specs.Records.{open_of}
+use Rattle.wasi_records.specs.Udp.{without_udp_socket}
+use Rattle.wasi_walks.proofs.walks.Udp.{open_is}
 use Rattle.wasi_causes.specs.Outcomes.{Outcome, AreLike}
 use Rattle.wasi_records.specs.Holding.{drop_listener_asks, drop_socket_asks, is_held, let_go_by, without_socket}
 use Rattle.wasi_host.specs.Dropping.{left_so, let_go_at}
@@ -42,7 +48,7 @@ use Rattle.memory_streams.specs.Plain.{Contents}
 use Rattle.wasi_host.specs.declared.kind.PlainInput.TheVariants as plain_input
 use Rattle.wasi_host.specs.declared.kind.PlainOutput.TheVariants as plain_output
 use Rattle.wasi_host.specs.PlainStreams.{drop_input_pipe_at, drop_output_pipe_at}
-use Rattle.wasi_walks.proofs.Places.{put_again, udp_sort}
+use Rattle.wasi_walks.proofs.Places.{put_again, put_finds, udp_sort}
 use Rattle.wasi_causes.proofs.streams.EndsClosed.{read_end_goes, write_end_goes}
 use Rattle.wasi_causes.specs.P3Streams.{IsLetGo, ReadEndGoes, WriteEndGoes}
 use Rattle.wasi_host.specs.ConnectionEnds.{drop_slot_in}
@@ -211,6 +217,49 @@ module _ (contexts : List WasiSocketsCtx) (m : Machine) (line c handle : ℕ) wh
       udp_by_record None at = ends ((apart (λ e. cc) no_children, rw is (free [])), (tt, (refl, rw is (its_gone [] _ (λ u there. absurd (cc))))))
       udp_by_record (Some u) at = onto _ (widen (udp_ends u at) (udp_closes u))
 
+    -- == of a UDP socket of 0.3
+    module _ (place : ℕ) (is : IsKind (kinds.Udp3 place)) where
+      udp3_drop : (es : List Entry) (store : Records) → Udp3Gone m line handle place es (record (without m handle) { store = store }) → DropRow es (answered (with_store (without m handle) (at_once (tt, store))))
+      udp3_drop es store gone = ((apart (λ e. cc) no_children, rw is tt), (tt, (refl, rw is gone)))
+
+      -- of one that isn't open, as of one of 0.2
+      unopened : open_at m.store.records place ≡ None → (es : List Entry) (after : Machine) → UdpGone m line handle place es after → Udp3Gone m line handle place es after
+      unopened none es after gone = λ u there. by_record u there (gone u there)
+        where
+          by_record : (u : UdpRecord) → udp2_at m.store.records place ≡ Some u → (es ≡ udp_given_up own u) × (after ≡ udp_left (without m handle) place u) → Udp3GoneBy m line handle place es after u (has_datagram m.store.beside place)
+          by_record (udp.Open o) there k = let some : open_at m.store.records place ≡ Some o = ap open_of there in absurd (cc)
+          by_record (udp.Creating create) there k = k
+          by_record (udp.Closed side) there k = k
+
+      module _ (o : OpenUdp) (at : open_at m.store.records place ≡ Some o) where
+        abbrev now : Machine
+        now = record (without m handle) { store = with_open_udp m.store place (without_udp_socket o) }
+
+        there : udp2_at m.store.records place ≡ Some (udp.Open o)
+        there = open_is (udp2_at m.store.records place) o at
+
+        there_now : udp2_at now.store.records place ≡ Some (udp.Open (without_udp_socket o))
+        there_now = put_finds udp_sort m.store.records place (udp.Open o) (udp.Open (without_udp_socket o)) there
+
+        held_so : is_udp_held now.store place ≡ has_datagram m.store.beside place
+        held_so = ap (λ (x : Option UdpRecord). udp_held.held_by m.store.beside place (open_of x)) there_now
+
+        its_row : (es : List Entry) (after : Machine) (held : Bool) → has_datagram m.store.beside place ≡ held → Udp3GoneBy m line handle place es after (udp.Open o) held → Udp3Gone m line handle place es after
+        its_row es after held e k = λ u found. let opened : udp2_at m.store.records place ≡ Some (udp.Open o) = there in let its : udp.Open o ≡ u = cc in subst (λ (x : UdpRecord). Udp3GoneBy m line handle place es after x (has_datagram m.store.beside place)) its (rw e k)
+
+        lets_udp_go : (held : Bool) → has_datagram m.store.beside place ≡ held → Meets (λ es done. DropRow es (answered (with_store (without m handle) (at_once done)))) [] (udp_goes own place now.store held)
+        lets_udp_go true e = ends (udp3_drop [] now.store (its_row [] now true e (refl, refl)))
+        lets_udp_go false e =
+            widen (λ es done k. udp3_drop es done.1 (its_row es _ false e (k.0, k.1 ∙ put_gone (without m handle) place (Record.Udp (udp.Open (without_udp_socket o))))))
+            (closes now own place (without_udp_socket o) there_now)
+
+      by_udp_handle : (o : Option OpenUdp) → open_at m.store.records place ≡ o → Meets (λ es done. DropRow es (answered (with_store (without m handle) (at_once done)))) [] (let_udp_go own place (without_udp_handle m.store place o))
+      by_udp_handle None at =
+          subst (λ (held : Bool). Meets (λ es done. DropRow es (answered (with_store (without m handle) (at_once done)))) [] (udp_goes own place m.store held)) (sym (ap (udp_held.held_by m.store.beside place) at))
+          (udp_by_record place (kinds.Udp3 place) is (λ es. tt) (λ es after k. unopened at es after k) (udp2_at m.store.records place) refl)
+      by_udp_handle (Some o) at =
+          subst (λ (held : Bool). Meets (λ es done. DropRow es (answered (with_store (without m handle) (at_once done)))) [] (udp_goes own place (now o at).store held)) (sym (held_so o at)) (lets_udp_go o at (has_datagram m.store.beside place) refl)
+
     -- == of an output
     waits_once : (writer : WriteState) (es : List Entry) → WriterWaits own writer es → LooksOnce own es
     waits_once writer _ (WritesOn on) = NoLook
@@ -269,7 +318,7 @@ module _ (contexts : List WasiSocketsCtx) (m : Machine) (line c handle : ℕ) wh
     by_kind (Tcp2 place) is = onto _ (by_record place (Tcp2 place) is (λ es. tt) (λ es after k. k) (tcp2_at m.store.records place) refl)
     by_kind (kinds.Tcp3 place) is = onto _ (by_handle place is (tcp2_at m.store.records place) refl)
     by_kind (Udp2 place) is = onto _ (udp_by_record place (Udp2 place) is (λ es. tt) (λ es after k. k) (udp2_at m.store.records place) refl)
-    by_kind (kinds.Udp3 place) is = onto _ (udp_by_record place (kinds.Udp3 place) is (λ es. tt) (λ es after k. k) (udp2_at m.store.records place) refl)
+    by_kind (kinds.Udp3 place) is = onto _ (by_udp_handle place is (open_at m.store.records place) refl)
     by_kind (kinds.Listen3 place) is = onto _ (by_listener place is (tcp2_at m.store.records place) refl)
     by_kind (kinds.Receive3 end) is = onto _ (widen (λ es done k. read_end_left end is es done.1 k) (read_end_goes (without m handle) own end))
     by_kind (kinds.Send3 end) is = onto _ (widen (λ es done k. write_end_left end is es done.1 k) (write_end_goes (without m handle) own end))
@@ -391,8 +440,23 @@ module _ (contexts : List WasiSocketsCtx) (m : Machine) (line c handle : ℕ) wh
 
   pub udp3_gone : (place : ℕ) (u : UdpRecord) → kind_at m.table handle ≡ Some (kinds.Udp3 place) → udp2_at m.store.records place ≡ Some u
       → (es : List Entry) (fields : List Field) (after : Machine) → DropSays es (reply.Ok fields) after
-      → (es ≡ udp_given_up (own_of line) u) × (after ≡ udp_left (without m handle) place u)
+      → Udp3GoneBy m line handle place es after u (has_datagram m.store.beside place)
   udp3_gone place u is at es fields after row = rw is at row.1.1.1 u at
+
+  gone_free : (place : ℕ) (es : List Entry) (after : Machine) (u : UdpRecord) → Udp3GoneBy m line handle place es after u false → (es ≡ udp_given_up (own_of line) u) × (after ≡ udp_left (without m handle) place u)
+  gone_free place es after (udp.Open o) k = k
+  gone_free place es after (udp.Creating create) k = k
+  gone_free place es after (udp.Closed side) k = k
+
+  pub udp3_free : (place : ℕ) (u : UdpRecord) → kind_at m.table handle ≡ Some (kinds.Udp3 place) → udp2_at m.store.records place ≡ Some u → has_datagram m.store.beside place ≡ false
+      → (es : List Entry) (fields : List Field) (after : Machine) → DropSays es (reply.Ok fields) after
+      → (es ≡ udp_given_up (own_of line) u) × (after ≡ udp_left (without m handle) place u)
+  udp3_free place u is at none es fields after row = gone_free place es after u (subst (Udp3GoneBy m line handle place es after u) none (udp3_gone place u is at es fields after row))
+
+  pub udp3_held : (place : ℕ) (o : OpenUdp) → kind_at m.table handle ≡ Some (kinds.Udp3 place) → udp2_at m.store.records place ≡ Some (udp.Open o) → has_datagram m.store.beside place ≡ true
+      → (es : List Entry) (fields : List Field) (after : Machine) → DropSays es (reply.Ok fields) after
+      → (es ≡ []) × (after ≡ putting_udp (without m handle) place (without_udp_socket o))
+  udp3_held place o is at some es fields after row = subst (Udp3GoneBy m line handle place es after (udp.Open o)) some (udp3_gone place (udp.Open o) is at es fields after row)
 
   pub record GivesUp (r : TcpRecord) (es : List Entry) (after : Machine) : Type 0 where
     pub asked : es ≡ socket_given_up (own_of line) r

@@ -12,12 +12,14 @@ pub mod Releases
 pub mod Ending
 pub mod Machine
 pub mod Beside
+pub mod HeldUdp
 pub mod ConnectPolls
 pub mod Resumes
 pub mod Slots
 pub mod GivenBack
 pub mod ReceivesGo
 pub mod Derived
+pub mod Fitted
 pub mod NoConnects
 pub mod Steady
 pub mod UdpConnects

@@ -27,7 +27,7 @@ use Rattle.wasi_walks.proofs.walks.Layers.{begins_stand, stand}
 use Rattle.wasi_walks.proofs.walks.Moves as walk
 use Rattle.wasi_walks.proofs.walks.Moves.{Found, FoundUdp, Held, Here, Interface, IsOfOld, Made, Marks, Move, Own, P2, P3, Past, Plain, SameSockets, put, put_udp, tcp_kind, udp_begun, with_records}
 use Rattle.wasi_walks.proofs.walks.OfState.{Becomes, Created, CreatedWith, GivenUp, Handles, HasHandle, HasNoRoom, IsClosed, Learnt, NoRoom}
-use Rattle.wasi_walks.proofs.walks.OfState.{OfAccepted, OfCreated, OfError, OfLine, OfListener, OfPlain, OfResult, OfState, OfStream, Resolved, StandsOn, UdpBegun, UdpGivenUp, UdpIsClosed, UdpLearnt, Writing, begins_state, of_state}
+use Rattle.wasi_walks.proofs.walks.OfState.{DatagramBegan, DatagramPolled, OfAccepted, OfCreated, OfError, OfLine, OfListener, OfPlain, OfResult, OfState, OfStream, Resolved, StandsOn, UdpBegun, UdpGivenUp, UdpIsClosed, UdpLearnt, Writing, begins_state, of_state}
 use Rattle.wasi_walks.proofs.walks.States.{Over, makes_plain}
 use Rattle.wasi_walks.specs.Licence.{Has}
 
@@ -185,6 +185,7 @@ module _ (contexts : List WasiSocketsCtx) (line : ℕ) (origin : Step) where
   moves_idle _ _ (walk.RecallsStreams h ids place handle e own) b i = (i.0, tt)
   moves_idle _ _ (walk.RemembersListen h marks place r is under g none) b i = (i.0, tt)
   moves_idle _ _ (walk.RecallsListen h ids place marks e) b i = (i.0, tt)
+  moves_idle _ _ (walk.DropsUdp h place o idle made g) b i = put_udp_idle h place _ i
   moves_idle _ _ _ b i = i
 
   bound_none : (op : Operation) (end : End × List Item) → is_connect (bind_progress op end) ≡ false
@@ -271,7 +272,9 @@ module _ (contexts : List WasiSocketsCtx) (line : ℕ) (origin : Step) where
   becomes_idle h _ (UdpGivenUp place create q g) i = put_udp_idle h place _ i
   becomes_idle h _ (UdpBegun face ctx family r c u m) i = begun_idle h (udp_after_create (own_of line) ctx.name family r) i
   becomes_idle h _ (Resolved host records l same) i = same_idle h records same i
-  becomes_idle h _ (StandsOn beside) i = i
+  becomes_idle h _ (StandsOn host told) i = i
+  becomes_idle h _ (DatagramBegan place o call op polled ended at g starts m own left) i = i
+  becomes_idle h _ (DatagramPolled n b place o call op polled ended is at g polls left) i = i
   becomes_idle h _ (HasHandle kind parent made k) i = handles_idle h kind parent made k i
   becomes_idle h _ (NoRoom made none) i = (i.0, no_room h made none)
   becomes_idle h _ (Created face ctx family c u m) i = push_idle h.machine.table h.machine.store.records (new_record (new_socket (own_of line) ctx.name family)) h.made refl i

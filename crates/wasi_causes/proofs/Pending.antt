@@ -44,7 +44,26 @@ use Rattle.wasi_causes.specs.Blocking.{BlockingCallStands, IsBlocking, SplicesOn
 use Rattle.wasi_causes.specs.Datagrams.{HasItsHandle, HasItsSocket, IsUdpStream, PendingHandleIsLive}
 use Rattle.wasi_causes.specs.Outcomes.{Outcome}
 use Rattle.wasi_causes.specs.Outcomes.{InputIsThere}
-use Rattle.wasi_causes.proofs.Derived.{OwnedIn, first_in, its_record, line_owned, streams_held}
+use Rattle.wasi_causes.proofs.Derived.{OwnedIn, its_record, streams_held}
+use Rattle.wasi_causes.proofs.Fitted.{Fitted, beside_fits, first_fitted, line_fitted}
+use Rattle.wasi_causes.proofs.Watching.{what_is_watched}
+use Rattle.wasi_walks.proofs.Places.{udp_sort}
+use Rattle.wasi_walks.proofs.fits.Datagrams.{FitBeside}
+use Rattle.wasi_walks.specs.Missing.{MissesOneOf, MissesWatched}
+use Rattle.wasi_records.specs.Numbered.{record_gone}
+use Rattle.wasi_records.specs.Records.{input_pipe_of, open_of, output_pipe_at, output_pipe_of, tcp2_of, udp2_at}
+use Rattle.wasi_records.specs.declared.records.Record.{Record}
+use Rattle.wasi_records.specs.declared.udp.OpenUdp.{OpenUdp}
+use Rattle.wasi_records.specs.declared.udp.UdpRecord.{UdpRecord}
+use Rattle.wasi_host.specs.Beside.{beside_of}
+use Rattle.wasi_host.specs.Kinds.{watch_of}
+use Rattle.wasi_host.specs.declared.beside.Beside.{Beside}
+use Rattle.wasi_host.specs.declared.beside.BesideCall.{BesideCall}
+use Rattle.wasi_host.specs.declared.beside.BesideCall.TheVariants.{Connect, Receive, Resolve, Send}
+use Rattle.wasi_causes.specs.GivenUp.{giving_back}
+use Rattle.wasi_causes.specs.P3Connects.{BesideCancelled, LeavesBeside}
+use Rattle.wasi_causes.specs.P3Datagrams.{DatagramOver, IsHeldNoMore, IsStillHeld}
+use Rattle.wasi_causes.proofs.Words.{HandleTable, Watched, ◌∷◌, ap, suc, zero, slice_get, is_some, ◌⊎◌, ◌∙◌}
 use Rattle.wasi_causes.proofs.Words.{Input, Kind, asks_while, record_in, streams_in}
 use Rattle.wasi_host.specs.Blocking.{blocking_splice_when}
 use Rattle.wasi_records.specs.Records.{input_pipe_at, open_at, tcp2_at}
@@ -133,7 +152,7 @@ module _ (contexts : List WasiSocketsCtx) (line : ℕ) (origin : Step) (plain : 
   moves_none _ _ (Unstands h over) i = (tt, i.1)
   moves_none _ _ (Stands h ids call r quiet at g k) i = (goes_none call r k, i.1)
   moves_none _ _ (StandsUdpBind h ids place face o op quiet at g e) i = (tt, i.1)
-  moves_none _ _ (StandsUdpCreate h ids place face create quiet made g) i = (tt, i.1)
+  moves_none _ _ (StandsUdpCreate h ids place face create quiet made g its) i = (tt, i.1)
   moves_none _ _ (StandsDropOutgoing h ids place o quiet at g e) i = (tt, i.1)
   moves_none _ _ (RemembersStreams h c handle place remote is of o g none) i = absurd (plain (inr (inl (subst IsUdpStream (sym is) tt))))
   moves_none _ _ (RecallsStreams h ids place handle e own) i = absurd (subst NoStreamsStand e i.0)
@@ -219,6 +238,69 @@ module _ (m after : Machine) (table : after.table ≡ m.table) (there : PartsThe
   same_well : after.store.standing ≡ m.store.standing → PendingHandleIsLive m → PendingHandleIsLive after
   same_well standing well = subst (λ (o : Option Standing). IfSome o (λ s. HasItsHandle after s.call)) (sym standing) (of_same m.store.standing well)
 
+-- a record is given back that is no socket of TCP and no pipe: what calls are on is still there, and so is what pollables watch
+get_gone : (xs : List Record) (i k : ℕ) → (slice_get (record_gone xs i) k ≡ slice_get xs k) ⊎ (k ≡ i)
+get_gone [] i k = inl refl
+get_gone (z ∷ xs) zero zero = inr refl
+get_gone (z ∷ xs) zero (suc k) = inl refl
+get_gone (z ∷ xs) (suc i) zero = inl refl
+get_gone (z ∷ xs) (suc i) (suc k) = elim (get_gone xs i k) [ inl e ↦ inl e | inr e ↦ inr (ap suc e) ]
+
+udp_inputs : (records : List Record) (place : ℕ) (u : UdpRecord) → udp2_at records place ≡ Some u → (input_pipe_at records place ≡ None) × (output_pipe_at records place ≡ None)
+udp_inputs records place u at = let is = udp_sort.it (slice_get records place) u at in (ap input_pipe_of is, ap output_pipe_of is)
+
+parts_gone : (records : List Record) (place : ℕ) → tcp2_at records place ≡ None → (input_pipe_at records place ≡ None) × (output_pipe_at records place ≡ None) → PartsThere records (record_gone records place)
+parts_gone records place no_tcp no_pipe = record {
+  streams = λ k h. elim (get_gone records place k) [
+    | inl e ↦ subst (λ (o : Option Record). IsSome (streams_in (tcp2_of o))) (sym e) h
+    | inr e ↦ (let none : streams_in (tcp2_at records k) ≡ None = ap (λ (n : ℕ). streams_in (tcp2_at records n)) e ∙ ap streams_in no_tcp in absurd (cc))
+  ];
+  inputs = λ k h. elim (get_gone records place k) [
+    | inl e ↦ subst (λ (o : Option Record). is_some (input_pipe_of o) ≡ true) (sym e) h
+    | inr e ↦ (let none : input_pipe_at records k ≡ None = ap (input_pipe_at records) e ∙ no_pipe.0 in absurd (cc))
+  ];
+  outputs = λ k h. elim (get_gone records place k) [
+    | inl e ↦ subst (λ (o : Option Record). is_some (output_pipe_of o) ≡ true) (sym e) h
+    | inr e ↦ (let none : output_pipe_at records k ≡ None = ap (output_pipe_at records) e ∙ no_pipe.1 in absurd (cc))
+  ];
+}
+
+-- where what each live handle is of is there
+module _ (m after : Machine) (owned : OwnedIn after) (table : after.table ≡ m.table) (there : PartsThere m.store.records after.store.records) where
+  watch_there : (p : ℕ) → (MissesWatched m (watch_of (kind_at m.table p)) → ⊥) → MissesWatched after (watch_of (kind_at after.table p)) → ⊥
+  watch_there p k = by_watch (watch_of (kind_at m.table p)) refl k
+    where
+      by_watch : (o : Option Watched) → watch_of (kind_at m.table p) ≡ o → (MissesWatched m o → ⊥) → MissesWatched after (watch_of (kind_at after.table p)) → ⊥
+      by_watch None e k missing = k tt
+      by_watch (Some watch) e k missing = what_is_watched after owned p (let its : watch_of (kind_at after.table p) ≡ Some watch = ap (λ (t : HandleTable). watch_of (kind_at t p)) table ∙ e in rw its refl) missing
+
+  ones_there : (ps : List ℕ) → (MissesOneOf m ps → ⊥) → MissesOneOf after ps → ⊥
+  ones_there [] k missing = missing
+  ones_there (p ∷ ps) k missing = elim missing [ inl one ↦ watch_there p (λ x. k (inl x)) one | inr others ↦ ones_there ps (λ x. k (inr x)) others ]
+
+  on_there : (call : BlockingCall) → HasItsHandle m (StandingCall.Blocking call) → HasItsHandle after (StandingCall.Blocking call)
+  on_there (blocking.Read input len) k = (λ missing. k.0 (missed_input m after table there input missing), tt)
+  on_there (blocking.Skip input len) k = (λ missing. k.0 (missed_input m after table there input missing), tt)
+  on_there (blocking.Write output rest) k = (λ missing. k.0 (missed_output m after table there output missing), k.1)
+  on_there (blocking.Finish output) k = (λ missing. k.0 (missed_output m after table there output missing), tt)
+  on_there (blocking.Flush output) k = (λ missing. k.0 (missed_output m after table there output missing), tt)
+  on_there (blocking.Block p) k = (λ missing. watch_there p k.0 missing, tt)
+  on_there (blocking.Poll ps) k = (λ missing. ones_there ps k.0 missing, tt)
+  on_there (blocking.Splice to from len) k = (λ missing. k.0 (elim missing [ inl none ↦ inl (missed_output m after table there to none) | inr none ↦ inr (missed_input m after table there from none) ]), tt)
+
+  call_there : (call : StandingCall) → HasItsHandle m call → HasItsHandle after call
+  call_there (StandingCall.UdpConnect place handle) k = subst (λ t. udp_of (kind_at t handle) ≡ Some place) (sym table) k
+  call_there (StandingCall.Listen place (Some handle)) k = subst (λ t. tcp3_of (kind_at t handle) ≡ Some place) (sym table) k
+  call_there (StandingCall.Blocking call) k = on_there call k
+  call_there _ k = tt
+
+  of_still : (o : Option Standing) → IfSome o (λ s. HasItsHandle m s.call) → IfSome o (λ s. HasItsHandle after s.call)
+  of_still None k = tt
+  of_still (Some s) k = call_there s.call k
+
+of_gone : (m after : Machine) → OwnedIn after → after.table ≡ m.table → PartsThere m.store.records after.store.records → after.store.standing ≡ m.store.standing → PendingHandleIsLive m → PendingHandleIsLive after
+of_gone m after owned table there standing well = subst (λ (o : Option Standing). IfSome o (λ s. HasItsHandle after s.call)) (sym standing) (of_still m after owned table there m.store.standing well)
+
 same_quiet : (m after : Machine) → after ≡ m → PendingHandleIsLive m → PendingHandleIsLive after
 same_quiet m after same well = subst PendingHandleIsLive (sym same) well
 
@@ -254,7 +336,7 @@ unread : (m : Machine) (ids : Ids) (to from len : ℕ) (writes : Bool) → Meets
 unread m ids to from len true = ends refl
 unread m ids to from len false = ends refl
 
-module _ (contexts : List WasiSocketsCtx) (m : Machine) (line : ℕ) (inputs : (handle : ℕ) → InputIsThere m handle) where
+module _ (contexts : List WasiSocketsCtx) (m : Machine) (line : ℕ) (inputs : (handle : ℕ) → InputIsThere m handle) (fitted : Fitted m) where
   -- none are pending afterwards, where none were and the step asks for none
   abbrev KeepsNone : Step → Machine → Type 0
   KeepsNone s after = (MayPend s → ⊥) × NoStreamsStand m.store.standing → NoStreamsStand after.store.standing
@@ -335,16 +417,44 @@ module _ (contexts : List WasiSocketsCtx) (m : Machine) (line : ℕ) (inputs : (
   over_well : (n : ℕ) → PendingHandleIsLive m → PendingHandleIsLive (call_over m n)
   over_well n well = same_well m (call_over m n) refl (record { streams = λ k h. h; inputs = λ k h. h; outputs = λ k h. h }) (stay_same m.store.records) refl well
 
+  -- or where its socket went with it
+  module _ (n place : ℕ) (o : OpenUdp) (at : udp2_at m.store.records place ≡ Some (UdpRecord.Open o)) where
+    abbrev gone : Machine
+    gone = giving_back (call_over m n) place
+
+    no_tcp : tcp2_at m.store.records place ≡ None
+    no_tcp = ap tcp2_of (udp_sort.it (slice_get m.store.records place) (UdpRecord.Open o) at)
+
+    gone_well : OwnedIn gone → PendingHandleIsLive m → PendingHandleIsLive gone
+    gone_well owned well = of_gone m gone owned refl (parts_gone m.store.records place no_tcp (udp_inputs m.store.records place (UdpRecord.Open o) at)) refl well
+
+  over_beside : (n place : ℕ) (o : OpenUdp) → udp2_at m.store.records place ≡ Some (UdpRecord.Open o) → {es : List Entry} {after : Machine} → DatagramOver m n place o es after → OwnedIn after → PendingHandleIsLive m → PendingHandleIsLive after
+  over_beside n place o at (IsStillHeld held) owned well = over_well n well
+  over_beside n place o at (IsHeldNoMore held) owned well = gone_well n place o at owned well
+
+  beside_well : (n : ℕ) (es : List Entry) (after : Machine) → BesideCancelled m n es after → OwnedIn after → PendingHandleIsLive m → PendingHandleIsLive after
+  beside_well n es after left owned well = by_beside (beside_of m.store n) refl left.1
+    where
+      by_call : (b : Beside) (call : BesideCall) → FitBeside m.store.records b.line call → LeavesBeside m n es after call → PendingHandleIsLive after
+      by_call b (Connect place) fit k = subst PendingHandleIsLive (sym k.1) (over_well n well)
+      by_call b (Resolve host) fit k = subst PendingHandleIsLive (sym k.1) (over_well n well)
+      by_call b (Send place op) fit k = over_beside n place fit.0.was fit.0.at (k fit.0.was (ap open_of fit.0.at)) owned well
+      by_call b (Receive place op) fit k = over_beside n place fit.0.was fit.0.at (k fit.0.was (ap open_of fit.0.at)) owned well
+
+      by_beside : (o : Option Beside) → beside_of m.store n ≡ o → IsSomeAnd o (λ b. LeavesBeside m n es after b.call) → PendingHandleIsLive after
+      by_beside None e k = absurd k
+      by_beside (Some b) e k = by_call b b.call (beside_fits m fitted n b e).0 k
+
   -- a cancel leaves nothing pending, or all as it was, or the exclusive call
-  cancelled_well : (n : ℕ) (es : List Entry) (r : Reply) (after : Machine) → Outcome contexts m line (step.Cancel n) es r after → PendingHandleIsLive m → PendingHandleIsLive after
-  cancelled_well n es r after row well = by_under (stands_under m.store n) refl
+  cancelled_well : (n : ℕ) (es : List Entry) (r : Reply) (after : Machine) → Outcome contexts m line (step.Cancel n) es r after → OwnedIn after → PendingHandleIsLive m → PendingHandleIsLive after
+  cancelled_well n es r after row owned well = by_under (stands_under m.store n) refl
     where
       by_under : (b : Bool) → stands_under m.store n ≡ b → PendingHandleIsLive after
       by_under true e =
           let k = subst (λ (x : Reply). Outcome contexts m line (step.Cancel n) es x after) (row.0.1.1 e) row in
           elim k.1.1 [
             | inl left ↦ free_well after left.1
-            | inr beside ↦ subst PendingHandleIsLive (sym beside.2) (over_well n well)
+            | inr beside ↦ beside_well n es after beside owned well
           ]
       by_under false e = let k = subst (λ (x : Reply). Outcome contexts m line (step.Cancel n) es x after) (row.0.0.1 e) row in same_quiet m after k.1.1.1 well
 
@@ -365,52 +475,52 @@ module _ (contexts : List WasiSocketsCtx) (m : Machine) (line : ℕ) (inputs : (
         of_wait none (NoPollable some not) = free_well m none
         of_wait none (AllPollables gs said now some all k) = list_live m (first_ids line) ps First gs said now none k
 
-    well_after : (s : Step) → (IsHeldUp contexts m line s → ⊥) → Answered contexts m line s es r after → Outcome contexts m line s es r after → KeepsNone s after → PendingHandleIsLive m → PendingHandleIsLive after
-    well_after step.Turn free w row none well =
+    well_after : (s : Step) → (IsHeldUp contexts m line s → ⊥) → Answered contexts m line s es r after → Outcome contexts m line s es r after → KeepsNone s after → OwnedIn after → PendingHandleIsLive m → PendingHandleIsLive after
+    well_after step.Turn free w row none owned well =
         same_well m after row.0.handles (record { streams = row.0.streams; inputs = λ k h. ap (λ o. is_some o) (row.0.pipes k).0 ∙ h; outputs = λ k h. ap (λ o. is_some o) (row.0.pipes k).1 ∙ h }) (turn_stays m after row.0.sockets row.0.opens row.0.streams) row.0.pending well
-    well_after (step.Poll n) free w row none well = polled_well n es r after free row well
-    well_after (step.Cancel n) free w row none well = cancelled_well n es r after row well
-    well_after (step.Call c (guest.UdpStream s remote)) free w row none well = row.0.1 (nothing_pending (step.Call c (guest.UdpStream s remote)) refl free m.store.standing refl)
-    well_after (step.Call c (guest.P3TcpListen s)) free w row none well = listen_live contexts m line c s es r after (nothing_pending (step.Call c (guest.P3TcpListen s)) refl free m.store.standing refl) row
-    well_after (step.Call c (guest.Read input len)) free w row none well = free_well after (read_free contexts m (nothing_pending (step.Call c (guest.Read input len)) refl free m.store.standing refl) line c es r after input len w)
-    well_after (step.Call c (guest.CheckWrite output)) free w row none well = free_well after (check_free contexts m (nothing_pending (step.Call c (guest.CheckWrite output)) refl free m.store.standing refl) line c es r after output w)
-    well_after (step.Call c (guest.Write output bytes)) free w row none well = free_well after (write_free contexts m (nothing_pending (step.Call c (guest.Write output bytes)) refl free m.store.standing refl) line c es r after output bytes w)
-    well_after (step.Call c (guest.Flush output)) free w row none well = free_well after (flush_free contexts m (nothing_pending (step.Call c (guest.Flush output)) refl free m.store.standing refl) line c es r after output w)
-    well_after (step.Call c (guest.Skip input len)) free w row none well = let none = nothing_pending (step.Call c (guest.Skip input len)) refl free m.store.standing refl in free_well after (skip_free contexts m none line c input len es r after (row.0 none))
-    well_after (step.Call c (guest.WriteZeroes output len)) free w row none well = let none = nothing_pending (step.Call c (guest.WriteZeroes output len)) refl free m.store.standing refl in free_well after (write_free contexts m none line c es r after output (zeros len) (row.0 none))
-    well_after (step.Call c (guest.Splice to from len)) free w row none well = let none = nothing_pending (step.Call c (guest.Splice to from len)) refl free m.store.standing refl in free_well after (splice_free contexts m line c to from len es r after none (row.0 none))
-    well_after (step.Call c (guest.BlockingRead input len)) free w row none well = let none = nothing_pending (step.Call c (guest.BlockingRead input len)) refl free m.store.standing refl in blocked_live contexts c (first_ids line) m (blocking.Read input len) es r after none tt tt (row.0 none)
-    well_after (step.Call c (guest.BlockingSkip input len)) free w row none well = let none = nothing_pending (step.Call c (guest.BlockingSkip input len)) refl free m.store.standing refl in blocked_live contexts c (first_ids line) m (blocking.Skip input len) es r after none tt tt (row.0 none)
-    well_after (step.Call c (guest.BlockingWrite output bytes)) free w row none well = let none = nothing_pending (step.Call c (guest.BlockingWrite output bytes)) refl free m.store.standing refl in begun_live contexts c (first_ids line) m output (length bytes) bytes es r after none (λ few. few) (row.0 none)
-    well_after (step.Call c (guest.BlockingZeroes output len)) free w row none well = let none = nothing_pending (step.Call c (guest.BlockingZeroes output len)) refl free m.store.standing refl in begun_live contexts c (first_ids line) m output len (zeros len) es r after none (few_zeros len) (row.0 none)
-    well_after (step.Call c (guest.BlockingFlush output)) free w row none well = let none = nothing_pending (step.Call c (guest.BlockingFlush output)) refl free m.store.standing refl in blocked_live contexts c (first_ids line) m (blocking.Flush output) es r after none tt tt (row.0 none)
-    well_after (step.Call c (guest.BlockingSplice to from len)) free w row none well = let none = nothing_pending (step.Call c (guest.BlockingSplice to from len)) refl free m.store.standing refl in spliced_well c to from len none w (is_readable (kind_at m.table from)) refl (row.0 none)
-    well_after (step.Call c (guest.Ready p)) free w row none well = free_well after (ready_free contexts m line c p (nothing_pending (step.Call c (guest.Ready p)) refl free m.store.standing refl) es r after w)
-    well_after (step.Call c (guest.Block p)) free w row none well = let none = nothing_pending (step.Call c (guest.Block p)) refl free m.store.standing refl in block_live contexts c (first_ids line) m p First es r after none (row.0 none)
-    well_after (step.Call c (guest.PollList ps)) free w row none well = begun_wait ps (nothing_pending (step.Call c (guest.PollList ps)) refl free m.store.standing refl) row.0
-    well_after s free w row none well = by_guest s after refl (λ h. elim h [ inl k ↦ k | inr k ↦ elim k [ inl j ↦ j | inr j ↦ elim j [ inl x ↦ x | inr x ↦ x ] ] ]) free none
+    well_after (step.Poll n) free w row none owned well = polled_well n es r after free row well
+    well_after (step.Cancel n) free w row none owned well = cancelled_well n es r after row owned well
+    well_after (step.Call c (guest.UdpStream s remote)) free w row none owned well = row.0.1 (nothing_pending (step.Call c (guest.UdpStream s remote)) refl free m.store.standing refl)
+    well_after (step.Call c (guest.P3TcpListen s)) free w row none owned well = listen_live contexts m line c s es r after (nothing_pending (step.Call c (guest.P3TcpListen s)) refl free m.store.standing refl) row
+    well_after (step.Call c (guest.Read input len)) free w row none owned well = free_well after (read_free contexts m (nothing_pending (step.Call c (guest.Read input len)) refl free m.store.standing refl) line c es r after input len w)
+    well_after (step.Call c (guest.CheckWrite output)) free w row none owned well = free_well after (check_free contexts m (nothing_pending (step.Call c (guest.CheckWrite output)) refl free m.store.standing refl) line c es r after output w)
+    well_after (step.Call c (guest.Write output bytes)) free w row none owned well = free_well after (write_free contexts m (nothing_pending (step.Call c (guest.Write output bytes)) refl free m.store.standing refl) line c es r after output bytes w)
+    well_after (step.Call c (guest.Flush output)) free w row none owned well = free_well after (flush_free contexts m (nothing_pending (step.Call c (guest.Flush output)) refl free m.store.standing refl) line c es r after output w)
+    well_after (step.Call c (guest.Skip input len)) free w row none owned well = let none = nothing_pending (step.Call c (guest.Skip input len)) refl free m.store.standing refl in free_well after (skip_free contexts m none line c input len es r after (row.0 none))
+    well_after (step.Call c (guest.WriteZeroes output len)) free w row none owned well = let none = nothing_pending (step.Call c (guest.WriteZeroes output len)) refl free m.store.standing refl in free_well after (write_free contexts m none line c es r after output (zeros len) (row.0 none))
+    well_after (step.Call c (guest.Splice to from len)) free w row none owned well = let none = nothing_pending (step.Call c (guest.Splice to from len)) refl free m.store.standing refl in free_well after (splice_free contexts m line c to from len es r after none (row.0 none))
+    well_after (step.Call c (guest.BlockingRead input len)) free w row none owned well = let none = nothing_pending (step.Call c (guest.BlockingRead input len)) refl free m.store.standing refl in blocked_live contexts c (first_ids line) m (blocking.Read input len) es r after none tt tt (row.0 none)
+    well_after (step.Call c (guest.BlockingSkip input len)) free w row none owned well = let none = nothing_pending (step.Call c (guest.BlockingSkip input len)) refl free m.store.standing refl in blocked_live contexts c (first_ids line) m (blocking.Skip input len) es r after none tt tt (row.0 none)
+    well_after (step.Call c (guest.BlockingWrite output bytes)) free w row none owned well = let none = nothing_pending (step.Call c (guest.BlockingWrite output bytes)) refl free m.store.standing refl in begun_live contexts c (first_ids line) m output (length bytes) bytes es r after none (λ few. few) (row.0 none)
+    well_after (step.Call c (guest.BlockingZeroes output len)) free w row none owned well = let none = nothing_pending (step.Call c (guest.BlockingZeroes output len)) refl free m.store.standing refl in begun_live contexts c (first_ids line) m output len (zeros len) es r after none (few_zeros len) (row.0 none)
+    well_after (step.Call c (guest.BlockingFlush output)) free w row none owned well = let none = nothing_pending (step.Call c (guest.BlockingFlush output)) refl free m.store.standing refl in blocked_live contexts c (first_ids line) m (blocking.Flush output) es r after none tt tt (row.0 none)
+    well_after (step.Call c (guest.BlockingSplice to from len)) free w row none owned well = let none = nothing_pending (step.Call c (guest.BlockingSplice to from len)) refl free m.store.standing refl in spliced_well c to from len none w (is_readable (kind_at m.table from)) refl (row.0 none)
+    well_after (step.Call c (guest.Ready p)) free w row none owned well = free_well after (ready_free contexts m line c p (nothing_pending (step.Call c (guest.Ready p)) refl free m.store.standing refl) es r after w)
+    well_after (step.Call c (guest.Block p)) free w row none owned well = let none = nothing_pending (step.Call c (guest.Block p)) refl free m.store.standing refl in block_live contexts c (first_ids line) m p First es r after none (row.0 none)
+    well_after (step.Call c (guest.PollList ps)) free w row none owned well = begun_wait ps (nothing_pending (step.Call c (guest.PollList ps)) refl free m.store.standing refl) row.0
+    well_after s free w row none owned well = by_guest s after refl (λ h. elim h [ inl k ↦ k | inr k ↦ elim k [ inl j ↦ j | inr j ↦ elim j [ inl x ↦ x | inr x ↦ x ] ] ]) free none
 
   -- whatever it is answered
-  by_answer : (s : Step) (es : List Entry) (r : Reply) (after : Machine) → Answered contexts m line s es r after → Answers contexts m line s es r after → KeepsNone s after → PendingHandleIsLive m → PendingHandleIsLive after
-  by_answer s _ _ _ w (IsBusy held) none well = well
-  by_answer s _ _ _ w (IsItsOwn es r after free row) none well = well_after es r after s free w row none well
+  by_answer : (s : Step) (es : List Entry) (r : Reply) (after : Machine) → Answered contexts m line s es r after → Answers contexts m line s es r after → KeepsNone s after → OwnedIn after → PendingHandleIsLive m → PendingHandleIsLive after
+  by_answer s _ _ _ w (IsBusy held) none owned well = well
+  by_answer s _ _ _ w (IsItsOwn es r after free row) none owned well = well_after es r after s free w row none owned well
 
   -- and whatever is told
-  lasts : (s : Step) → Meets (λ es done. PendingHandleIsLive m → PendingHandleIsLive done.1) [] (machine_asks contexts m line s)
+  lasts : (s : Step) → Meets (λ es done. OwnedIn done.1 → PendingHandleIsLive m → PendingHandleIsLive done.1) [] (machine_asks contexts m line s)
   lasts s = by_left (machine_asks contexts m line s) (λ es done w. by_answer s es done.0 done.1 w (answers contexts m line s es done.0 done.1 w) (λ p. met {a = done} (record { along = stays_none contexts line s p.0 m p.1 }) w))
 
 -- == of a run
--- what is pending is well, and what each live handle is of is there
+-- what is pending is well, and what each live handle is of is there, and each record and each datagram in progress fits
 abbrev pub Holds : Machine → Type 0
-Holds m = PendingHandleIsLive m × OwnedIn m
+Holds m = PendingHandleIsLive m × Fitted m
 
 line_holds : (contexts : List WasiSocketsCtx) (line : ℕ) (s : Step) (m : Machine) (es : List Entry) → Holds m → Allows Anything (λ fs done. Holds done.1) es (machine_asks contexts m line s)
 line_holds contexts line s m es h =
-    (both (widen (λ gs done k. k.row h.0) (shifted es (lasts contexts m line (inputs_are_there m h.1) s)))
-    (record { along = line_owned contexts line s m es h.1 })).along
+    (widen (λ gs done k. (k.0.row k.1.0 h.0, k.1))
+    (both (shifted es (lasts contexts m line (inputs_are_there m h.1.0) h.1 s)) (record { along = line_fitted contexts line s m es h.1 }))).along
 
 pub runs_hold : (contexts : List WasiSocketsCtx) (steps : List Step) (es : List Entry) (replies : List Reply) (m : Machine) → Left (run contexts [] first_state 1 steps) es (Give (replies, m)) → Holds m
-runs_hold contexts steps es replies m w = (run_ends contexts Anything (λ line fs now. Holds now) (λ line s now fs h. line_holds contexts line s now fs h) (tt, first_in) steps es replies m w).1
+runs_hold contexts steps es replies m w = (run_ends contexts Anything (λ line fs now. Holds now) (λ line s now fs h. line_holds contexts line s now fs h) (tt, first_fitted) steps es replies m w).1
 
 -- so datagram streams that are pending have their handle
 pub runs_keep_sockets : (m : Machine) → PendingHandleIsLive m → IfSome m.store.standing (λ s. HasItsSocket m s.call)

@@ -223,6 +223,8 @@ module _ (contexts : List WasiSocketsCtx) (line : ℕ) (origin : Step) where
       (i place (UdpRecord.Open o) g)
   moves_go _ _ (walk.GivesBack h place idle left) i = gone h.machine.store.records i place
   moves_go _ _ (walk.Finds h records s) i = λ k u e. i k u (sym (s.udp k) ∙ e)
+  moves_go _ _ (walk.DropsUdp h place o idle made g) i = udp_put h.machine.store.records i place _
+      (i place (UdpRecord.Open o) g)
   moves_go _ _ _ i = i
 
   created : (create : Create) (ended : End × List Item) → GoesIn (udp_create_left create ended)

@@ -44,8 +44,10 @@ use Rattle.wasi_causes.specs.Outcomes.{InputIsThere, Traps}
 use Rattle.wasi_causes.specs.Reached.{Finishes, MayFinish, ListensLate, HasRecord, HasUdpRecord, OfItsRecord}
 use Rattle.wasi_records.specs.declared.tcp_listening.Listening.TheVariants as listening
 use Rattle.wasi_host.specs.declared.store.StandingCall.TheVariants as standing
-use Rattle.wasi_walks.proofs.fits.Law.{Fit, begins_fit, fits_along}
-use Rattle.wasi_walks.proofs.fits.Lines.{first_fit, starts_fit}
+use Rattle.wasi_walks.proofs.fits.Law.{Fit}
+use Rattle.wasi_walks.proofs.owners.Names.{held_udp}
+use Rattle.wasi_causes.proofs.Fitted.{Fitted, none_lost}
+use Rattle.wasi_walks.specs.Waiting.{left_beside}
 use Rattle.wasi_walks.proofs.fits.Polls.{Anything}
 use Rattle.wasi_walks.proofs.fits.Records.{FitListening, FitProgress, FitRecord, FitCall, FitUdpProgress}
 use Rattle.wasi_walks.proofs.walks.Moves.{HasBinding, HasListen}
@@ -163,12 +165,17 @@ with_open : (o : Option UdpRecord) → IsSome (open_of o) → IsSome o
 with_open (Some u) s = refl
 with_open None s = s
 
+-- what has its handle is open
+held_open : (o : Option OpenUdp) → IsSome (held_udp o) → IsSome o
+held_open (Some o) s = refl
+held_open None s = s
+
 module _ (m : Machine) (i : OwnedIn m) where
   tcp_there : (place : ℕ) → IsSome (streams_in (tcp2_at m.store.records place)) → HasRecord m place
   tcp_there place names = with_streams (tcp2_at m.store.records place) names
 
-  udp_there : (place : ℕ) → IsSome (open_at m.store.records place) → HasUdpRecord m place
-  udp_there place names = with_open (udp2_at m.store.records place) names
+  udp_there : (place : ℕ) → IsSome (held_udp (open_at m.store.records place)) → HasUdpRecord m place
+  udp_there place names = with_open (udp2_at m.store.records place) (held_open (open_at m.store.records place) names)
 
   of_its_record : (handle : ℕ) (kind : Kind) → kind_at m.table handle ≡ Some kind → OfItsRecord m kind
   of_its_record handle (Tcp2 place) e = held (tcp2_at m.store.records place) (its_record m i handle place (Tcp2 place) e (inl refl))
@@ -247,18 +254,15 @@ module _ (m : Machine) (f : Fit (Over m)) (well : PendingHandleIsLive m) where
           by_line false on = on
 
 -- == of a run
-abbrev pub Between : ℕ → List Entry → Machine → Type 0
-Between line es m = Fit (Over m)
-
-pub line_fits : (contexts : List WasiSocketsCtx) (line : ℕ) (s : Step) (m : Machine) (es : List Entry) → Fit (Over m) → Allows Anything (λ fs done. Fit (Over done.1)) es (machine_asks contexts m line s)
-line_fits contexts line s m es f = fits_along contexts line s (machine_walks line s (begins_fit contexts line s) m m.store.standing refl) es (starts_fit m (may_while m s m.store.standing) f)
-
 module _ (contexts : List WasiSocketsCtx) (steps : List Step) (es : List Entry) (replies : List Reply) (m : Machine) (w : Left (run contexts [] first_state 1 steps) es (Give (replies, m))) where
-  pub fits : Fit (Over m)
-  fits = (run_ends contexts Anything Between (line_fits contexts) first_fit steps es replies m w).1
-
   run_holds : Holds m
   run_holds = runs_hold contexts steps es replies m w
+
+  run_fitted : Fitted m
+  run_fitted = run_holds.1
+
+  pub fits : Fit (Over m)
+  fits = run_fitted.2
 
   run_well : PendingHandleIsLive m
   run_well = run_holds.0
@@ -267,7 +271,7 @@ module _ (contexts : List WasiSocketsCtx) (steps : List Step) (es : List Entry) 
   run_live = run_well
 
   pub runs_have_inputs : (handle : ℕ) → InputIsThere m handle
-  runs_have_inputs = inputs_are_there m run_holds.1
+  runs_have_inputs = inputs_are_there m run_fitted.0
 
   pub run_socket : IfSome m.store.standing (λ s. HasItsSocket m s.call)
   run_socket = runs_keep_sockets m run_well
@@ -305,13 +309,13 @@ module _ (contexts : List WasiSocketsCtx) (steps : List Step) (es : List Entry) 
   runs_bind = stands_by m fits run_steady m.store.standing fits.stands (runs_listen_bound contexts steps es replies m w)
 
   pub runs_have_records : (handle : ℕ) (kind : Kind) → kind_at m.table handle ≡ Some kind → OfItsRecord m kind
-  runs_have_records = of_its_record m run_holds.1
+  runs_have_records = of_its_record m run_fitted.0
 
   pub runs_miss_no_record : (handle : ℕ) → record_at m handle ≡ None → socket_at m handle ≡ None
-  runs_miss_no_record = is_no_socket m run_holds.1
+  runs_miss_no_record = is_no_socket m run_fitted.0
 
   pub runs_miss_no_lookup : (handle : ℕ) → found_lookup m handle ≡ None → lookup_number m handle ≡ None
-  runs_miss_no_lookup = no_lookup_missing m run_holds.1
+  runs_miss_no_lookup = no_lookup_missing m run_fitted.0
 
   pub runs_stand_on_records : (n : ℕ) → ExclusiveOnNothing m n → ⊥
   runs_stand_on_records = stands_on m fits run_well
@@ -347,7 +351,7 @@ module _ (contexts : List WasiSocketsCtx) (steps : List Step) (es : List Entry) 
       by_kind : (o : Option Kind) → kind_at m.table handle ≡ o → (place : ℕ) → listen3_of o ≡ Some place → listens_in (tcp2_at m.store.records place) ≡ true
       by_kind (Some (Listen3 its)) e place names =
           let same : its ≡ place = cc in
-          subst (λ (p : ℕ). listens_in (tcp2_at m.store.records p) ≡ true) same (its_record m run_holds.1 handle its (Listen3 its) e (inr (inr refl)))
+          subst (λ (p : ℕ). listens_in (tcp2_at m.store.records p) ≡ true) same (its_record m run_fitted.0 handle its (Listen3 its) e (inr (inr refl)))
       by_kind _ e place names = absurd (cc)
 
       none_listens : (l : Listening) → HasNoListener l → has_listener l ≡ true → ⊥
@@ -364,7 +368,7 @@ module _ (contexts : List WasiSocketsCtx) (steps : List Step) (es : List Entry) 
   full_alone : (line n : ℕ) (entries : List Entry) (kind : TrapKind) (after : Machine) → Traps contexts m line (step.Poll n) entries kind after → PollTraps n entries kind after
   full_alone line n entries NoSuchHandle after h = elim h.0 [
     | inl none ↦ absurd (stands_on m fits run_well n none)
-    | inr gone ↦ let left = h.1 run_well in inr (refl, gone, left.0, left.1 ∙ ap (λ (o : Option Standing). left_by m n o) (none_of m.store.standing n gone.0))
+    | inr gone ↦ let left = h.1 run_well in inr (refl, gone, left.0, left.1 ∙ (ap (λ (o : Option Standing). left_by m n o) (none_of m.store.standing n gone.0) ∙ ap (left_beside m n) (none_lost m run_fitted n gone)))
   ]
   full_alone line n entries HasChildren after h = absurd h.0
   full_alone line n entries Full after h = inl (refl, h.2)

@@ -48,7 +48,7 @@ use Rattle.wasi_tcp.specs.Listener.{accepted_socket, accepted_state}
 use Rattle.wasi_tcp.specs.Shape.{Socket}
 use Rattle.wasi_records.specs.declared.name_lookup.LookupOp.{LookupOp}
 use Rattle.wasi_walks.proofs.GoneLists.{was_there}
-use Rattle.wasi_walks.proofs.walks.Moves.{GivesBack}
+use Rattle.wasi_walks.proofs.walks.Moves.{DropsUdp, GivesBack}
 use Rattle.wasi_walks.proofs.walks.OfState.{Becomes, Created, CreatedWith, GivenUp, IsClosed, Learnt, OfState, Resolved, UdpBegun}
 use Rattle.wasi_walks.proofs.walks.OfState.{UdpGivenUp, UdpIsClosed, UdpLearnt, Writing, begins_state, of_state}
 use Rattle.wasi_walks.proofs.walks.Law.{InCall}
@@ -219,6 +219,7 @@ module _ (contexts : List WasiSocketsCtx) (line : ℕ) (origin : Step) where
   moves_steady _ _ (Finds h records same) b i = found_steady h.machine.store.records records same i
   moves_steady _ _ (GivesBack h place idle left) b i =
       λ k r e. i k r (was_there tcp2_of refl h.machine.store.records place k r e)
+  moves_steady _ _ (DropsUdp h place o idle made g) b i = put_udp_steady h place _ i
   moves_steady _ _ _ b i = i
 
   -- == what is asked

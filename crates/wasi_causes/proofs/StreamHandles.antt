@@ -27,9 +27,15 @@ use Rattle.wasi_walks.proofs.walks.States.{IsPlain, makes_plain}
 use Rattle.wasi_causes.proofs.UdpConnects.{HasConnects, Quiet, connects, connects_begin, first_connects, starts_with}
 use Rattle.wasi_causes.proofs.StreamsLive.{tcp_other, udp_other, Both, HasIncoming, IsOther, CallSo, MadeSo, Parts, StandsSo, Streams, begun, changed, connect_keeps, reconnect_keeps, emptied, found, has_none, makes_left, has_next, has_other, has_handle, not_yet, push_tcp, put_none, put_open, put_tcp, remade, restood, stay, taken}
 use Rattle.wasi_walks.proofs.walks.OfState.{Becomes, Created, CreatedWith, GivenUp, Handles, HasHandle, HasNoRoom, IsClosed, Learnt, NoRoom}
-use Rattle.wasi_walks.proofs.walks.OfState.{OfAccepted, OfCreated, OfError, OfLine, OfListener, OfPlain, OfResult, OfState, OfStream, Resolved, StandsOn, UdpBegun, UdpGivenUp, UdpIsClosed, UdpLearnt, Writing, begins_state, of_state}
+use Rattle.wasi_walks.proofs.walks.OfState.{DatagramBegan, DatagramPolled, OfAccepted, OfCreated, OfError, OfLine, OfListener, OfPlain, OfResult, OfState, OfStream, Resolved, StandsOn, UdpBegun, UdpGivenUp, UdpIsClosed, UdpLearnt, Writing, begins_state, of_state}
 use Rattle.wasi_walks.proofs.walks.Layers.{begins_layer, begins_over, begins_stand, layer, over, stand}
-use Rattle.wasi_walks.proofs.owners.Law.{Owns, owners, owners_begin, udp_owner}
+use Rattle.wasi_walks.proofs.owners.Law.{Owns, owners, owners_begin}
+use Rattle.wasi_walks.proofs.owners.Names.{Names, held_udp, unless_gone}
+use Rattle.wasi_walks.proofs.owners.Owned.{IsOf}
+use Rattle.wasi_host.specs.SocketDatagrams.{is_udp_held}
+use Rattle.wasi_records.specs.Records.{open_of}
+use Rattle.wasi_causes.proofs.StreamsLive.{NoIncoming}
+use Rattle.wasi_causes.proofs.Words.{Bool, IsSome, slice_get, true, false}
 use Rattle.wasi_walks.proofs.owners.Owned as owned
 use Rattle.wasi_walks.proofs.owners.Owned.{stream_place}
 use Rattle.wasi_causes.proofs.Derived.{OwnedIn, first_in}
@@ -107,7 +113,7 @@ module _ (contexts : List WasiSocketsCtx) (line : ℕ) (origin : Step) where
   moves_apart _ _ (walk.Unstands h over) i = restood _ _ h.made _ None tt i
   moves_apart _ _ (walk.Stands h ids call r quiet at g k) i = restood _ _ h.made _ (Some (standing_as ids call)) (goes_so h.machine.table call r k) i
   moves_apart _ _ (walk.StandsUdpBind h ids place face o op quiet at g e) i = restood _ _ h.made _ (Some (standing_as ids (StandingCall.UdpBind place face))) tt i
-  moves_apart _ _ (walk.StandsUdpCreate h ids place face create quiet made g) i = restood _ _ h.made _ (Some (standing_as ids (StandingCall.UdpCreate place face))) tt i
+  moves_apart _ _ (walk.StandsUdpCreate h ids place face create quiet made g its) i = restood _ _ h.made _ (Some (standing_as ids (StandingCall.UdpCreate place face))) tt i
   moves_apart _ _ (walk.StandsDropOutgoing h ids place o quiet at g e) i = restood _ _ h.made _ (Some (standing_as ids (StandingCall.DropOutgoing place))) tt i
   moves_apart _ _ (walk.StandsBlocking h ids call handles made its) i = restood _ _ h.made _ (Some (standing_as ids (StandingCall.Blocking call))) tt i
   moves_apart _ _ (walk.StandsConnect h ids place o op quiet at past g e) i = restood _ _ h.made _ (Some (standing_as ids (StandingCall.UdpConnect3 place))) tt i
@@ -122,6 +128,7 @@ module _ (contexts : List WasiSocketsCtx) (line : ℕ) (origin : Step) where
   moves_apart _ _ (walk.Finds h records same) i = found h records same i
   moves_apart _ _ (walk.Empties h handle kind q e none) i = taken _ _ handle h.made (Made.Emptied kind) _ (emptied h.machine.table h.machine.store.records handle kind e i.apart) i
   moves_apart _ _ (walk.Takes h handle q made none) i = taken _ _ handle h.made h.made _ (makes_left h.machine.table h.machine.store.records handle h.made i.makes) i
+  moves_apart _ _ (walk.DropsUdp h place o idle made g) i = put_open h place o _ g (λ e. e) i
   moves_apart _ _ _ i = i
 
   -- == what is made
@@ -185,22 +192,39 @@ module _ (contexts : List WasiSocketsCtx) (line : ℕ) (origin : Step) where
       → Both (record h { machine = record h.machine { store = record h.machine.store { records = tcp2_pushed h.machine.store.records new } } })
   created h new i = (push_tcp h.machine.table h.machine.store.records new h.made h.machine.store.standing i.0, i.1)
 
+  -- a UDP socket that is closed has no live stream: its handle went, and it has none but under that
+  has_handle_still : (o : OpenUdp) → IsSome (held_udp (Some o)) → o.dropped ≡ false
+  has_handle_still o k = by_dropped o.dropped k
+    where
+      by_dropped : (b : Bool) → IsSome (unless_gone o b) → b ≡ false
+      by_dropped false k = refl
+      by_dropped true k = absurd (cc)
+
+  unheld_none : (h : Here) (place : ℕ) (o : OpenUdp) → walk.ReleasesUdp h place → walk.FoundUdp h place (UdpRecord.Open o) → Owns h → NoIncoming h.machine.table place
+  unheld_none h place o (walk.WithHandle idle made) g owns a l e =
+      let none = subst (owned.MadeSo h.machine.table h.machine.store.records) made owns.1 in none.0 place refl a l (inr (ap stream_place e))
+  unheld_none h place o (walk.Unheld free) g owns a l e =
+      let names : Names (Incoming place) (slice_get h.machine.store.records place) = subst (λ (k : Kind). Names k (slice_get h.machine.store.records place)) e (owns.0.there a place l (subst (λ (k : Kind). IsOf k place) (sym e) (inr (inl refl)))) in
+      let held : o.dropped ≡ false = has_handle_still o (subst (λ (u : Option UdpRecord). IsSome (held_udp (open_of u))) g names) in
+      let still : is_udp_held h.machine.store place ≡ true = rw (g, held) refl in
+      absurd (cc)
+
   pub becomes_apart : (es : List Entry) (h now : Here) → Becomes contexts line origin h now → Owns h × Quiet h
       → Both h → Both now
   becomes_apart es h _ (Learnt place r side told at g e) b i = (put_tcp h place r g _ i.0, i.1)
   becomes_apart es h _ (IsClosed place r side q g e) b i = (put_tcp h place r g _ i.0, i.1)
   becomes_apart es h _ (GivenUp place r q goes g) b i = (put_tcp h place r g _ i.0, i.1)
   becomes_apart es h _ (UdpLearnt place o socket g e) b i = (put_open h place o _ g (λ e. e) i.0, i.1)
-  becomes_apart es h _ (UdpIsClosed place o q g) b i =
-      let none = subst (owned.MadeSo h.machine.table h.machine.store.records) q.1.made b.0.1 in
-      (put_none h place (UdpRecord.Closed o.inner.side) (λ a l e. none.0 place (udp_owner q.1.kind place q.1.socket) a l (inr (ap stream_place e))) i.0, i.1)
+  becomes_apart es h _ (UdpIsClosed place o q g) b i = (put_none h place (UdpRecord.Closed o.inner.side) (unheld_none h place o q g b.0) i.0, i.1)
   becomes_apart es h _ (UdpGivenUp place create q g) b i =
       (put_none h place (UdpRecord.Closed create.operation.who.side) (not_yet h place create g i.0) i.0, i.1)
   becomes_apart es h _ (UdpBegun face ctx family r c u m) b i =
       let made = udp_after_create (own_of line) ctx.name family r in
       (begun h made i.0, begun_same (λ t made standing. AreUnder t made standing) h made i.1)
   becomes_apart es h _ (Resolved host records l same) b i = (found h records same i.0, i.1)
-  becomes_apart es h _ (StandsOn beside) b i = i
+  becomes_apart es h _ (StandsOn host told) b i = i
+  becomes_apart es h _ (DatagramBegan place o call op polled ended at g starts m own left) b i = i
+  becomes_apart es h _ (DatagramPolled n was place o call op polled ended is at g polls left) b i = i
   becomes_apart es h _ (HasHandle kind parent made k) b i = handles_apart h kind parent made k i
   becomes_apart es h _ (NoRoom made none) b i = no_room h made none i
   becomes_apart es h _ (Created face ctx family c u m) b i = created h _ i

@@ -20,7 +20,7 @@ use Rattle.wasi_walks.proofs.walks.Here.{ConnectStands, IsConnectOf, NoConnectIn
 use Rattle.wasi_walks.proofs.walks.Moves as walk
 use Rattle.wasi_walks.proofs.walks.Moves.{Found, FoundUdp, GoesOn, Held, Here, Made, Move, Own, Past, SameSockets, ToConnect, Unused, Used, made_so, put, put_udp, udp_begun}
 use Rattle.wasi_walks.proofs.walks.OfState.{Becomes, Created, CreatedWith, GivenUp, Handles, HasHandle, HasNoRoom, IsClosed, Learnt, NoRoom}
-use Rattle.wasi_walks.proofs.walks.OfState.{OfError, OfLine, OfState, Resolved, StandsOn, UdpBegun, UdpGivenUp, UdpIsClosed, UdpLearnt, Writing, begins_state, of_state}
+use Rattle.wasi_walks.proofs.walks.OfState.{DatagramBegan, DatagramPolled, OfError, OfLine, OfState, Resolved, StandsOn, UdpBegun, UdpGivenUp, UdpIsClosed, UdpLearnt, Writing, begins_state, of_state}
 use Rattle.wasi_causes.proofs.Words.{Kind}
 use Rattle.wasi_walks.proofs.Places.{push_found, push_was, put_found, put_was, tcp_sort, udp_sort}
 use Rattle.wasi_walks.proofs.PipeLists.{slot_push_same}
@@ -245,7 +245,7 @@ module _ (contexts : List WasiSocketsCtx) (line : ℕ) (origin : Step) where
   moves_quiet _ _ (walk.Empties h handle kind q e none) i = (i.0, tt)
   moves_quiet _ _ (walk.Stands h ids call r quiet at g k) i = restood h (standing_as ids call) quiet (goes_none call r k) i
   moves_quiet _ _ (walk.StandsUdpBind h ids place face o op quiet at g e) i = restood h (standing_as ids (StandingCall.UdpBind place face)) quiet tt i
-  moves_quiet _ _ (walk.StandsUdpCreate h ids place face create quiet made g) i = restood h (standing_as ids (StandingCall.UdpCreate place face)) quiet tt i
+  moves_quiet _ _ (walk.StandsUdpCreate h ids place face create quiet made g its) i = restood h (standing_as ids (StandingCall.UdpCreate place face)) quiet tt i
   moves_quiet _ _ (walk.StandsDropOutgoing h ids place o quiet at g e) i = restood h (standing_as ids (StandingCall.DropOutgoing place)) quiet tt i
   moves_quiet _ _ (walk.StandsBlocking h ids call handles made its) i =
       let now = Some (standing_as ids (StandingCall.Blocking call)) in (stands_now h.machine.store.records h.machine.store.standing now h.own (subst (λ (m : Made). CallsSo m h.machine.store.standing) made i.1) i.0, calls_so h.made now tt)
@@ -264,6 +264,7 @@ module _ (contexts : List WasiSocketsCtx) (line : ℕ) (origin : Step) where
   moves_quiet _ _ (walk.Finds h records same) i = found h records same i
   moves_quiet _ _ (walk.GivesBack h place idle left) i = fewer h place i
   moves_quiet _ _ (walk.Numbers h) i = (i.0, tt)
+  moves_quiet _ _ (walk.DropsUdp h place o idle made g) i = put_open h place o _ g refl (λ some. some) i
   moves_quiet _ _ _ i = i
 
   -- a create that was polled has no connect, nor has a socket that is closed
@@ -338,7 +339,9 @@ module _ (contexts : List WasiSocketsCtx) (line : ℕ) (origin : Step) where
       let side = create.operation.who.side in put_none h place (UdpRecord.Closed side) (closed_none side) i
   becomes_quiet h _ (UdpBegun face ctx family r c own m) i = begun h (udp_after_create (own_of line) ctx.name family r) own i
   becomes_quiet h _ (Resolved host records l same) i = found h records same i
-  becomes_quiet h _ (StandsOn beside) i = i
+  becomes_quiet h _ (StandsOn host told) i = i
+  becomes_quiet h _ (DatagramBegan place o call op polled ended at g starts m own left) i = (owns _ h.machine.store.standing h.own Used (λ k c. unused k (sym own ∙ c)) i.0, i.1)
+  becomes_quiet h _ (DatagramPolled n b place o call op polled ended is at g polls left) i = i
   becomes_quiet h _ (HasHandle kind parent made k) i = (i.0, handles_quiet h kind parent made k i)
   becomes_quiet h _ (NoRoom made none) i = (i.0, no_room made h.machine.store.standing none)
   becomes_quiet h _ (Created face ctx family c own m) i = (created h _ own i, i.1)

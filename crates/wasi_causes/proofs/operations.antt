@@ -6,5 +6,6 @@ pub mod Checks
 pub mod ConnectEnds
 pub mod ConnectPolls
 pub mod UdpConnectEnds
+pub mod P3DatagramEnds
 pub mod DatagramPolls
 pub mod PendingListens

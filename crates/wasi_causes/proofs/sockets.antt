@@ -9,6 +9,9 @@ pub mod UdpBinds
 pub mod P3Binds
 pub mod P3Connects
 pub mod P3UdpConnects
+pub mod P3Datagrams
+pub mod P3DatagramPolls
+pub mod P3DatagramLaws
 pub mod P3Listens
 pub mod P3Accepts
 pub mod P3ListenPolls

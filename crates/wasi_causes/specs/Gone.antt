@@ -5,13 +5,16 @@ use Rattle.wasi_records.specs.Slots.{slot_at}
 use Rattle.wasi_host.specs.declared.kind.PlainInput.TheVariants as input
 use Rattle.wasi_host.specs.declared.kind.PlainOutput.TheVariants as output
 use Rattle.wasi_causes.specs.Plain.{InputPipeGone, OutputPipeGone}
-use Rattle.std.specs.Prelude.{◌≡◌, ⊤, ℕ, List, [], Option, Some}
+use Rattle.std.specs.Prelude.{◌≡◌, ⊤, ℕ, Bool, true, List, [], Option, Some}
 use Rattle.wasi_records.specs.Holding.{without_socket}
 use Rattle.wasi_causes.specs.GivenUp.{IsGone, LetsGo, ListenerGoes, LooksOnce, socket_given_up, without}
 use Rattle.wasi_world.specs.declared.call.Entry.{Entry}
 use Rattle.wasi_records.specs.declared.name_lookup.Lookup.{Lookup}
 use Rattle.wasi_records.specs.declared.udp.OpenUdp.{OpenUdp}
 use Rattle.wasi_records.specs.declared.udp.UdpRecord.{UdpRecord}
+use Rattle.wasi_records.specs.declared.udp.UdpRecord.TheVariants.{Open}
+use Rattle.wasi_records.specs.Udp.{without_udp_socket}
+use Rattle.wasi_host.specs.SocketDatagrams.{has_datagram}
 use Rattle.wasi_host.specs.declared.kind.Kind.{Kind}
 use Rattle.wasi_host.specs.declared.kind.Kind.TheVariants as kind
 use Rattle.wasi_host.specs.declared.machine.Machine.{Machine}
@@ -20,7 +23,7 @@ use Rattle.wasi_host.specs.Machine.{own_of}
 use Rattle.wasi_causes.specs.Lookups.{LookupGone}
 use Rattle.wasi_causes.specs.Datagrams.{IncomingGone, OutgoingGone}
 use Rattle.wasi_causes.specs.P3Streams.{IsLetGo, ReadEndGoes, WriteEndGoes}
-use Rattle.wasi_causes.specs.Udp.{udp_given_up, udp_left}
+use Rattle.wasi_causes.specs.Udp.{putting_udp, udp_given_up, udp_left}
 
 -- what the drop of a handle of this kind asks, unless that is a socket's, a listener's or an end's
 abbrev pub AsksOnce : ℕ → Option Kind → List Entry → Type 0
@@ -50,12 +53,20 @@ ListenerGone m line handle place es after = (r : TcpRecord) → tcp2_at m.store.
 abbrev pub UdpGone : Machine → ℕ → ℕ → ℕ → List Entry → Machine → Type 0
 UdpGone m line handle place es after = (u : UdpRecord) → udp2_at m.store.records place ≡ Some u → (es ≡ udp_given_up (own_of line) u) × (after ≡ udp_left (without m handle) place u)
 
+-- the same of one of 0.3: while a datagram in progress holds it nothing is asked, and its record stays, without a handle
+abbrev pub Udp3GoneBy : Machine → ℕ → ℕ → ℕ → List Entry → Machine → UdpRecord → Bool → Type 0
+Udp3GoneBy m line handle place es after (Open o) true = (es ≡ []) × (after ≡ putting_udp (without m handle) place (without_udp_socket o))
+Udp3GoneBy m line handle place es after u _ = (es ≡ udp_given_up (own_of line) u) × (after ≡ udp_left (without m handle) place u)
+
+abbrev pub Udp3Gone : Machine → ℕ → ℕ → ℕ → List Entry → Machine → Type 0
+Udp3Gone m line handle place es after = (u : UdpRecord) → udp2_at m.store.records place ≡ Some u → Udp3GoneBy m line handle place es after u (has_datagram m.store.beside place)
+
 -- what is left where the handle that was dropped is of this kind
 abbrev pub Gone : Machine → ℕ → ℕ → Option Kind → List Entry → Machine → Type 0
 Gone m line handle (Some (kind.Tcp2 place)) es after = SocketGone m line handle place es after
 Gone m line handle (Some (kind.Tcp3 place)) es after = Socket3Gone m line handle place es after
 Gone m line handle (Some (kind.Udp2 place)) es after = UdpGone m line handle place es after
-Gone m line handle (Some (kind.Udp3 place)) es after = UdpGone m line handle place es after
+Gone m line handle (Some (kind.Udp3 place)) es after = Udp3Gone m line handle place es after
 Gone m line handle (Some (kind.Listen3 place)) es after = ListenerGone m line handle place es after
 Gone m line handle (Some (kind.Receive3 end)) es after = ReadEndGoes (without m handle) (own_of line) end es after
 Gone m line handle (Some (kind.Send3 end)) es after = WriteEndGoes (without m handle) (own_of line) end es after

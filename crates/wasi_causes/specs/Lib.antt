@@ -31,6 +31,7 @@ pub mod P3UdpConnects
 pub mod P3Listens
 pub mod P3Streams
 pub mod P3Lookups
+pub mod P3Datagrams
 pub mod P3Connects
 pub mod NamedRecords
 pub mod TurnPolls

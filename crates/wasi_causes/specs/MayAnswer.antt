@@ -17,8 +17,8 @@ use Rattle.wasi_steps.specs.declared.reply.Reply.TheVariants as reply
 use Rattle.wasi_steps.specs.declared.step.Step.{Step}
 use Rattle.wasi_steps.specs.declared.guest_call.GuestCall.TheVariants as guest
 use Rattle.wasi_steps.specs.declared.step.Step.TheVariants as step
-use Rattle.wasi_steps.specs.Replies.{FieldKind, ANumber, SomeBytes, Truth, Nothing, FieldKinds, Each, AnAddress, AnIpOrNone, ADatagramList, SomeNumbers, SomeIps, OfAPolledCall, polled_kinds, kinds_of}
-use Rattle.wasi_steps.specs.Reply.{address_values, datagram_values, found_values, ips_values, numbers_fields}
+use Rattle.wasi_steps.specs.Replies.{FieldKind, ANumber, SomeBytes, Truth, Nothing, FieldKinds, Each, AnAddress, AnIpOrNone, ADatagramList, SomeNumbers, SomeIps, OneDatagram, OfAPolledCall, polled_kinds, kinds_of}
+use Rattle.wasi_steps.specs.Reply.{address_values, datagram_values, found_values, ips_values, numbers_fields, received_values}
 use Rattle.wasi_walks.specs.Answered.{word_of_code}
 use Rattle.wasi_walks.specs.Missing.{IsWrite, MakesHandle}
 use Rattle.wasi_walks.specs.Waiting.{IsPoll}
@@ -54,8 +54,12 @@ LikeNumbers fields = (first : ℕ) × (others : List ℕ) × (fields ≡ numbers
 abbrev pub LikeIps : List Field → Type 0
 LikeIps fields = (addresses : List IpAddress) × (fields ≡ ips_values addresses)
 
+-- those of a datagram
+abbrev pub LikeADatagram : List Field → Type 0
+LikeADatagram fields = (d : IncomingDatagram) × (fields ≡ received_values d)
+
 -- one of each of these kinds, or the numbers of an address, or those of one with no port, or none, or the fields of datagrams, or
--- numbers, or those of some addresses, or those of a call that can be pending; nothing is said of widths
+-- numbers, or those of some addresses, or those of one datagram, or those of a call that can be pending; nothing is said of widths
 abbrev pub AreLike : FieldKinds → List Field → Type 0
 AreLike (Each kinds) fields = EachLike kinds fields
 AreLike AnAddress fields = (a : IpSocketAddress) × (fields ≡ address_values a)
@@ -63,7 +67,8 @@ AreLike AnIpOrNone fields = (found : Option IpAddress) × (fields ≡ found_valu
 AreLike ADatagramList fields = (ds : List IncomingDatagram) × (fields ≡ datagram_values ds)
 AreLike SomeNumbers fields = LikeNumbers fields
 AreLike SomeIps fields = LikeIps fields
-AreLike OfAPolledCall fields = LikeOneOf polled_kinds fields ⊎ (LikeNumbers fields ⊎ LikeIps fields)
+AreLike OneDatagram fields = LikeADatagram fields
+AreLike OfAPolledCall fields = LikeOneOf polled_kinds fields ⊎ (LikeNumbers fields ⊎ (LikeIps fields ⊎ LikeADatagram fields))
 
 -- == the words of refusals
 -- The word of a code that the network may tell, or a test of the host's own answers.
@@ -116,6 +121,8 @@ MayRefuse (step.Call ctx (guest.P3TcpListen socket)) w = IsP3Word w
 MayRefuse (step.Call ctx (guest.P3Accept listener remaining)) w = w ≡ word.InvalidState
 MayRefuse (step.Call ctx (guest.P3Result slot)) w = IsP3Word w
 MayRefuse (step.Call ctx (guest.P3UdpConnect socket a)) w = IsP3Word w
+MayRefuse (step.Call ctx (guest.P3UdpSend socket d)) w = IsP3Word w
+MayRefuse (step.Call ctx (guest.P3UdpReceive socket)) w = IsP3Word w
 MayRefuse (step.Call ctx (guest.P3UdpDisconnect socket)) w = IsP3Word w
 MayRefuse (step.Call ctx (guest.P3UdpLocalAddress socket)) w = IsP3Word w
 MayRefuse (step.Call ctx (guest.P3UdpRemoteAddress socket)) w = w ≡ word.InvalidState
@@ -189,6 +196,8 @@ MayWait line (step.Call ctx (guest.P3UdpCreate family)) n = n ≡ line
 MayWait line (step.Call ctx (guest.P3UdpBind socket a)) n = n ≡ line
 MayWait line (step.Call ctx (guest.P3TcpListen socket)) n = n ≡ line
 MayWait line (step.Call ctx (guest.P3UdpConnect socket a)) n = n ≡ line
+MayWait line (step.Call ctx (guest.P3UdpSend socket d)) n = n ≡ line
+MayWait line (step.Call ctx (guest.P3UdpReceive socket)) n = n ≡ line
 MayWait line (step.Call ctx (guest.P3Resolve name)) n = n ≡ line
 MayWait line (step.Call ctx (guest.UdpStartBind socket network a)) n = n ≡ line
 MayWait line (step.Call ctx (guest.UdpStream socket remote)) n = n ≡ line

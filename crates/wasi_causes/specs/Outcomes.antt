@@ -51,7 +51,7 @@ use Rattle.wasi_walks.specs.Answered.{open_udp_at, outgoing_in, CheckFails, clos
 use Rattle.wasi_machine.specs.Machine.{first_ids, context_at}
 use Rattle.wasi_steps.specs.Replies.{kinds_of}
 use Rattle.wasi_steps.specs.Reply.{family_fields, no_fields, number_fields, triple_fields, truth_fields}
-use Rattle.wasi_walks.specs.Waiting.{call_over, IsPoll, IsUnready, left_missing, MayStand, OfWatched, OutputWaits, pollable_mark, StandingWaits, PendingCallsFit, WatchesAccept, WatchesConnect, WatchesIdle}
+use Rattle.wasi_walks.specs.Waiting.{IsPoll, IsUnready, left_missing, MayStand, OfWatched, OutputWaits, pollable_mark, StandingWaits, PendingCallsFit, WatchesAccept, WatchesConnect, WatchesIdle}
 use Rattle.wasi_causes.specs.GivenUp.{HasLiveChildren, HasNoStreams, shut_down, shutdown_entries}
 use Rattle.wasi_world.specs.declared.call.Call.TheVariants as call
 use Rattle.wasi_world.specs.declared.call.Entry.{Entry}
@@ -70,6 +70,7 @@ use Rattle.wasi_host.specs.Store.{with_record}
 use Rattle.wasi_walks.specs.Licence.{entry, Has, marks_in}
 use Rattle.wasi_walks.specs.Listens.{AcceptsAt, closed_by_listen, AcceptTakes, HasNoListenInProgress, RefusedAccept, RefusedListen}
 use Rattle.wasi_steps.specs.Settings.{chosen, udp_opt}
+use Rattle.wasi_causes.specs.P3Datagrams.{P3ReceiveRefusal, P3SendRefusal, ReceivesOne, ReceiveStands, SendsOne, SendStands}
 use Rattle.wasi_causes.specs.P3Lookups.{FindsAddresses, LookupStands}
 use Rattle.wasi_causes.specs.Lookups.{found_lookup, HandsOut, LookedOn, LookupWaits, LosesLookup, OfLookup, RefusesNames, ResolveRefusal, Resolves, TellsNext, WatchesLookup}
 use Rattle.wasi_causes.specs.Options.{GetsOption, P3RefusedGet, P3RefusedSet, RefusedGet, RefusedSet, SetsChosen}
@@ -126,10 +127,10 @@ pub record Turns (m : Machine) (es : List Entry) (r : Reply) (after : Machine) :
 abbrev pub BlockedGoesOn : List WasiSocketsCtx → Machine → ℕ → List Entry → Reply → Machine → Type 0
 BlockedGoesOn contexts m n es r after = (c : ℕ) (ids : Ids) (call : BlockingCall) → m.store.standing ≡ Some (standing_as ids (standing.Blocking call)) → ids.line ≡ n → IsShort call → BlocksAs contexts (nothing_stands m) c ids call es r after
 
--- a cancel finds no call exactly where none is pending under its number, and is done exactly where one is; of one that stands beside
--- others it asks nothing, and the call is over
+-- a cancel finds no call exactly where none is pending under its number, and is done exactly where one is; one that stands beside
+-- others is given up then
 abbrev pub Cancels : Machine → ℕ → List Entry → Reply → Machine → Type 0
-Cancels m n es r after = ((r ≡ reply.NoSuchCall) ↔ (stands_under m.store n ≡ false)) × ((r ≡ reply.Ok no_fields) ↔ (stands_under m.store n ≡ true)) × (IsBeside m n → (es ≡ []) × (after ≡ call_over m n))
+Cancels m n es r after = ((r ≡ reply.NoSuchCall) ↔ (stands_under m.store n ≡ false)) × ((r ≡ reply.Ok no_fields) ↔ (stands_under m.store n ≡ true)) × (IsBeside m n → BesideCancelled m n es after)
 
 -- one reply comes of this and of nothing else; or some of these things stay
 abbrev pub Always : List WasiSocketsCtx → Machine → ℕ → Step → List Entry → Reply → Machine → Type 0
@@ -267,6 +268,8 @@ Done contexts m line (step.Call c (guest.P3Read h len)) es fields after = OfEnd 
 Done contexts m line (step.Call c (guest.P3Write h bytes)) es fields after = OfEnd (send3_at m h) (λ end. EndWrites m (own_of line) bytes end es fields after)
 Done contexts m line (step.Call c (guest.P3Result h)) es fields after = WentWell m h es after
 Done contexts m line (step.Call c (guest.P3UdpConnect s a)) es fields after = OfUdp3 m s (λ place o. ConnectsUdp m (own_of line) place o a es after)
+Done contexts m line (step.Call c (guest.P3UdpSend s d)) es fields after = OfUdp3 m s (λ place o. SendsOne m (own_of line) place o d es after)
+Done contexts m line (step.Call c (guest.P3UdpReceive s)) es fields after = OfUdp3 m s (λ place o. ReceivesOne m (own_of line) place o es fields after)
 Done contexts m line (step.Call c (guest.P3UdpBind s a)) es fields after = OfUdp3 m s (λ place o. binds.BindsUdp m (own_of line) place o a es after)
 Done contexts m line (step.Call c (guest.P3UdpDisconnect s)) es fields after = OfUdp3 m s (λ place o. Disconnects m (own_of line) place o es after)
 Done contexts m line (step.Call c (guest.P3UdpLocalAddress s)) es fields after = OfUdp3 m s (λ place o. TellsUdpLocal m (own_of line) place o es fields after)
@@ -321,6 +324,8 @@ Refused contexts m line (step.Call c (guest.P3TcpListen s)) es w after = P3Liste
 Refused contexts m line (step.Call c (guest.P3Accept s remaining)) es w after = AcceptRefusal m s es w after
 Refused contexts m line (step.Call c (guest.P3Result h)) es w after = WentIll m h es w after
 Refused contexts m line (step.Call c (guest.P3UdpConnect s a)) es w after = UdpConnectRefusal m (own_of line) s a es w after
+Refused contexts m line (step.Call c (guest.P3UdpSend s d)) es w after = P3SendRefusal m (own_of line) s d es w after
+Refused contexts m line (step.Call c (guest.P3UdpReceive s)) es w after = P3ReceiveRefusal m (own_of line) s es w after
 Refused contexts m line (step.Call c (guest.P3UdpBind s a)) es w after = P3UdpBindRefusal m (own_of line) s a es w after
 Refused contexts m line (step.Call c (guest.P3UdpDisconnect s)) es w after = P3DisconnectRefusal m (own_of line) s es w after
 Refused contexts m line (step.Call c (guest.P3UdpLocalAddress s)) es w after = P3UdpLocalRefusal m (own_of line) s es w after × ((after ≡ m) ⊎ KnowsUdp3Bound m s after)
@@ -365,10 +370,13 @@ IsOver m line (step.Call c (guest.P3Write h bytes)) es after = OfEnd (send3_at m
 IsOver m line s es after = ⊥
 
 -- == pending
--- a call is pending under this number afterwards: a TCP connect and a lookup of 0.3 beside others, and that of a poll where it stood
+-- a call is pending under this number afterwards: a TCP connect, a lookup and a datagram of 0.3 beside others, and that of a poll where
+-- it stood
 abbrev pub PendsUnder : Step → ℕ → Machine → Type 0
 PendsUnder (step.Call c (guest.P3TcpConnect s a)) n after = IsSome (beside_of after.store n)
 PendsUnder (step.Call c (guest.P3Resolve name)) n after = IsSome (beside_of after.store n)
+PendsUnder (step.Call c (guest.P3UdpSend s d)) n after = IsSome (beside_of after.store n)
+PendsUnder (step.Call c (guest.P3UdpReceive s)) n after = IsSome (beside_of after.store n)
 PendsUnder (step.Poll k) n after = IsSomeAnd after.store.standing (λ call. call.ids.line ≡ n) ⊎ IsSome (beside_of after.store n)
 PendsUnder s n after = IsSomeAnd after.store.standing (λ call. call.ids.line ≡ n)
 
@@ -382,6 +390,8 @@ Pends contexts m line (step.Call c (guest.P3TcpBind s a)) es after = OfTcp3 m s 
 Pends contexts m line (step.Call c (guest.P3TcpConnect s a)) es after = OfTcp3 m s (λ place r. ConnectStands m line place r a es after)
 Pends contexts m line (step.Call c (guest.P3TcpListen s)) es after = OfTcp3 m s (λ place r. ListenStands m line s place r es after)
 Pends contexts m line (step.Call c (guest.P3UdpConnect s a)) es after = OfUdp3 m s (λ place o. UdpConnectStands m line place o a es after)
+Pends contexts m line (step.Call c (guest.P3UdpSend s d)) es after = OfUdp3 m s (λ place o. SendStands m line place o d es after)
+Pends contexts m line (step.Call c (guest.P3UdpReceive s)) es after = OfUdp3 m s (λ place o. ReceiveStands m line place o es after)
 Pends contexts m line (step.Call c (guest.P3Resolve name)) es after = LookupStands m line (context_at contexts c) name es after
 Pends contexts m line (step.Call c (guest.P3UdpBind s a)) es after = OfUdp3 m s (λ place o. binds.UdpBindStands m line place o a es after)
 Pends contexts m line (step.Call c (guest.UdpStartBind s n a)) es after = OfUdp m s (λ place o. UdpBindStands m line (own_of line) place o a es after)

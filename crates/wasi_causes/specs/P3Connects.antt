@@ -1,6 +1,6 @@
 -- Why connects of 0.3 sockets are refused, what they ask and leave, and what a poll of one that is pending answers: it stands
 -- beside other calls.
-use Rattle.std.specs.Prelude.{◌≡◌, ◌⊎◌, ℕ, Bool, true, false, List, [], ◌∷◌, ◌++◌, Some, None, IsSome, IsSomeAnd}
+use Rattle.std.specs.Prelude.{◌≡◌, ℕ, Bool, true, false, List, [], ◌∷◌, ◌++◌, Some, None, IsSome, IsSomeAnd}
 use Rattle.wasi_addr.specs.declared.address.IpAddress.{IpAddress}
 use Rattle.wasi_addr.specs.declared.address.IpSocketAddress.{IpSocketAddress}
 use Rattle.wasi_addr.specs.declared.address.SocketAddrUse.{SocketAddrUse}
@@ -12,6 +12,7 @@ use Rattle.wasi_world.specs.declared.call.Call.TheVariants as call
 use Rattle.wasi_world.specs.declared.call.Entry.{Entry}
 use Rattle.wasi_world.specs.declared.call.Told.{Told}
 use Rattle.wasi_world.specs.declared.call.Told.TheVariants as told
+use Rattle.wasi_world.specs.declared.datagram.IncomingDatagram.{IncomingDatagram}
 use Rattle.wasi_world.specs.declared.ids.OpId.{OpId}
 use Rattle.wasi_world.specs.declared.outcome.TrapKind.TheVariants.{NoSuchHandle}
 use Rattle.wasi_world.specs.Operation.{Check, Item, Operation, Who}
@@ -26,23 +27,25 @@ use Rattle.wasi_records.specs.declared.socket.TcpRecord.{TcpRecord}
 use Rattle.wasi_records.specs.Binding.{left_of}
 use Rattle.wasi_records.specs.InProgress.{is_nothing}
 use Rattle.wasi_records.specs.Names.{own_of}
-use Rattle.wasi_records.specs.Records.{tcp2_at}
+use Rattle.wasi_records.specs.Records.{open_at, tcp2_at}
+use Rattle.wasi_records.specs.declared.udp.OpenUdp.{OpenUdp}
 use Rattle.wasi_records.specs.Sockets.{with_inner}
 use Rattle.wasi_host.specs.declared.beside.BesideCall.{BesideCall}
-use Rattle.wasi_host.specs.declared.beside.BesideCall.TheVariants.{Connect, Resolve}
+use Rattle.wasi_host.specs.declared.beside.BesideCall.TheVariants.{Connect, Receive, Resolve, Send}
 use Rattle.wasi_host.specs.declared.machine.Machine.{Machine}
-use Rattle.wasi_host.specs.Beside.{beside_as, beside_of, beside_without}
+use Rattle.wasi_host.specs.Beside.{beside_as, beside_of, beside_with, beside_without}
 use Rattle.wasi_host.specs.Standing.{stands_as}
 use Rattle.wasi_steps.specs.declared.reply.CodeWord.{CodeWord}
 use Rattle.wasi_steps.specs.declared.reply.CodeWord.TheVariants as word
 use Rattle.wasi_steps.specs.declared.reply.Field.{Field}
 use Rattle.wasi_steps.specs.declared.reply.Reply.{Reply}
 use Rattle.wasi_steps.specs.declared.reply.Reply.TheVariants as reply
-use Rattle.wasi_steps.specs.Reply.{ips_values, no_fields}
+use Rattle.wasi_steps.specs.Reply.{ips_values, no_fields, received_values}
 use Rattle.wasi_walks.specs.Answered.{ClosedBy, ConnectsOn, EndsPending, IsBound, IsFoundUnbound, IsPastDefault}
 use Rattle.wasi_walks.specs.Answered.{knowing_bound, putting}
 use Rattle.wasi_walks.specs.Licence.{entry}
 use Rattle.wasi_walks.specs.Waiting.{call_over}
+use Rattle.wasi_causes.specs.P3Datagrams.{DatagramIsLost, DatagramOver, IsRestOfReceive, IsRestOfSend, ReceivePolled, SendPolled}
 use Rattle.wasi_causes.specs.P3Lookups.{LookupPolled}
 use Rattle.wasi_causes.specs.Refusals.{OfTcp3, SaidBy, p3_word}
 
@@ -180,33 +183,68 @@ GoesOnBeside m n es r after (Connect place) =
     × ((q : TcpRecord) → tcp2_at m.store.records place ≡ Some q → ConnectsOn q.inner.state
     → SocketPolled m n place q es r after)
 GoesOnBeside m n es r after (Resolve host) = LookupPolled m n host es r after
+GoesOnBeside m n es r after (Send place op) =
+    (open_at m.store.records place ≡ None → DatagramIsLost m es r after)
+    × ((o : OpenUdp) → open_at m.store.records place ≡ Some o → IsRestOfSend op → SendPolled m n place o op es r after)
+GoesOnBeside m n es r after (Receive place op) =
+    (open_at m.store.records place ≡ None → DatagramIsLost m es r after)
+    × ((o : OpenUdp) → open_at m.store.records place ≡ Some o → IsRestOfReceive op → ReceivePolled m n place o op es r after)
 
--- it is over by this answer, which gives nothing, or the addresses of a lookup
+-- it is over by this answer, which gives nothing, or the addresses of a lookup, or a datagram
 pub data IsOver : Reply → Type 0 where
   OverDone : IsOver (reply.Ok no_fields)
   OverFound : (addresses : List IpAddress) → IsOver (reply.Ok (ips_values addresses))
+  OverReceived : (d : IncomingDatagram) → IsOver (reply.Ok (received_values d))
   OverUnresolved : IsOver (reply.Err word.NameUnresolvable)
   OverRefused : (c : ErrorCode) → IsOver (reply.Err (p3_word c))
   OverGone : IsOver (reply.Trap NoSuchHandle)
 
--- what it gives where it is done: a connect nothing, a lookup addresses
+-- what it gives where it is done: a connect and a send nothing, a lookup addresses, a receive a datagram
 abbrev pub BesideGives : List Field → BesideCall → Type 0
 BesideGives fields (Connect place) = fields ≡ no_fields
 BesideGives fields (Resolve host) = (addresses : List IpAddress) × (fields ≡ ips_values addresses)
+BesideGives fields (Send place op) = fields ≡ no_fields
+BesideGives fields (Receive place op) = (d : IncomingDatagram) × (fields ≡ received_values d)
 
--- What a poll of such a call leaves: the handles and the exclusive call as they were, and the call where it stood while it is
--- pending; else it is over.
+-- the call stands where it stood: a connect and a lookup as they were, a datagram by what is left of it
+abbrev pub StandsStill : Machine → ℕ → Machine → BesideCall → Type 0
+StandsStill m n after (Connect place) = after.store.beside ≡ m.store.beside
+StandsStill m n after (Resolve host) = after.store.beside ≡ m.store.beside
+StandsStill m n after (Send place op) = (now : Operation) × (after.store.beside ≡ beside_with m.store.beside n (Send place now))
+StandsStill m n after (Receive place op) = (now : Operation) × (after.store.beside ≡ beside_with m.store.beside n (Receive place now))
+
+-- it is a datagram whose record isn't there, which no run has
+abbrev pub HasNoRecord : Machine → BesideCall → Type 0
+HasNoRecord m (Connect place) = ⊥
+HasNoRecord m (Resolve host) = ⊥
+HasNoRecord m (Send place op) = open_at m.store.records place ≡ None
+HasNoRecord m (Receive place op) = open_at m.store.records place ≡ None
+
+-- How a poll of such a call ends: it stands where it stood while it is pending; or it is over; or it is lost.
+pub data BesideEnds (m : Machine) (n : ℕ) (its : BesideCall) : Reply → Machine → Type 0 where
+  StaysPending : (after : Machine) → StandsStill m n after its → BesideEnds m n its (reply.Pending n) after
+  EndsOver : (r : Reply) (after : Machine) → IsOver r → after.store.beside ≡ beside_without m.store.beside n
+      → BesideEnds m n its r after
+  IsLost : HasNoRecord m its → BesideEnds m n its (reply.Trap NoSuchHandle) m
+
+-- What a poll of such a call leaves: the handles and the exclusive call as they were; and how it ends, and why.
 pub record BesidePolled (m : Machine) (n : ℕ) (es : List Entry) (r : Reply) (after : Machine) : Type 0 where
   pub handles : after.table ≡ m.table
   pub exclusive : after.store.standing ≡ m.store.standing
-  pub ends : ((r ≡ reply.Pending n) × (after.store.beside ≡ m.store.beside))
-      ⊎ (IsOver r × (after.store.beside ≡ beside_without m.store.beside n))
+  pub ends : IsSomeAnd (beside_of m.store n) (λ b. BesideEnds m n b.call r after)
   pub why : IsSomeAnd (beside_of m.store n) (λ b. GoesOnBeside m n es r after b.call)
 
 -- the call of this number stands beside others, and the exclusive call, if there is one, has another number
 abbrev pub IsBeside : Machine → ℕ → Type 0
 IsBeside m n = (stands_as m.store.standing n ≡ false) × IsSome (beside_of m.store n)
 
--- one that is given up is over; nothing is asked, and the socket of a connect keeps connecting
+-- one that is given up is over; nothing is asked for a connect, whose socket keeps connecting, and for a lookup; and the socket of a
+-- datagram goes with the last that holds it
+abbrev pub LeavesBeside : Machine → ℕ → List Entry → Machine → BesideCall → Type 0
+LeavesBeside m n es after (Connect place) = (es ≡ []) × (after ≡ call_over m n)
+LeavesBeside m n es after (Resolve host) = (es ≡ []) × (after ≡ call_over m n)
+LeavesBeside m n es after (Send place op) = (o : OpenUdp) → open_at m.store.records place ≡ Some o → DatagramOver m n place o es after
+LeavesBeside m n es after (Receive place op) = (o : OpenUdp) → open_at m.store.records place ≡ Some o → DatagramOver m n place o es after
+
 abbrev pub BesideCancelled : Machine → ℕ → List Entry → Machine → Type 0
-BesideCancelled m n es after = IsBeside m n × (es ≡ []) × (after ≡ call_over m n)
+BesideCancelled m n es after = IsBeside m n × IsSomeAnd (beside_of m.store n) (λ b. LeavesBeside m n es after b.call)

@@ -150,7 +150,8 @@ pub fn pending_calls_have_their_streams()
 ///   or a create closes its network socket, and leaves the socket closed or no handle. The drop of
 ///   an outgoing datagram stream loses its datagram. The drop of an output, a call of a stream and
 ///   a wait for pollables leave all as it was. Or the call stands beside others: it is over, and
-///   nothing is asked.
+///   nothing is asked, but that the network socket of a datagram is closed where nothing else holds
+///   it.
 /// - `none_stands`: the exclusive call is pending no more after an `ok`, and the handles are
 ///   unchanged.
 pub fn cancels_give_up_their_call()

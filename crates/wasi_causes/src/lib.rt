@@ -14,6 +14,7 @@ pub mod options;
 pub mod p3;
 pub mod p3_binds;
 pub mod p3_connects;
+pub mod p3_datagrams;
 pub mod p3_listens;
 pub mod p3_lookups;
 pub mod p3_streams;

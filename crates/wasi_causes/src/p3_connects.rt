@@ -57,7 +57,8 @@ pub fn p3_connects()
 /// - `polled`: the socket still connects, and the last call was answered pending; or it is connected;
 ///   or a check said no, or the connect was answered with a code: then its network socket was closed
 ///   last, and the socket is closed with that code. Only the first leaves the call pending.
-/// - `cancelled`: nothing is asked; the call is over, and the socket keeps connecting.
+/// - `cancelled`: nothing is asked; the call is over, and the socket keeps connecting. So is a lookup,
+///   and a datagram (`polls_of_sends`, `polls_of_receives`).
 ///
 /// `polled` assumes that the socket connects by a connect.
 pub fn polls_of_connects()

@@ -2,7 +2,7 @@
 //! the definitions of specs/. Each is a function that does nothing, whose contract is the law. The
 //! causes are those of the 0.2 calls; a base code has its 0.3 name.
 
-ghost use Rattle.std.specs.Prelude.{◌≡◌, ◌⊎◌, ℕ, List, [], Some, None};
+ghost use Rattle.std.specs.Prelude.{◌≡◌, ◌⊎◌, ℕ, true, false, List, [], Some, None};
 ghost use Rattle.wasi_addr.specs.declared.address.SocketAddressFamily.{SocketAddressFamily};
 ghost use Rattle.wasi_world.specs.declared.call.Entry.{Entry};
 ghost use Rattle.wasi_world.specs.declared.outcome.TrapKind.{TrapKind};
@@ -12,8 +12,11 @@ ghost use Rattle.wasi_host.specs.declared.kind.Kind.{Kind};
 ghost use Rattle.wasi_host.specs.declared.machine.Machine.{Machine};
 ghost use Rattle.wasi_host.specs.Kinds.{kind_at};
 ghost use Rattle.wasi_host.specs.Machine.{own_of};
+ghost use Rattle.wasi_host.specs.SocketDatagrams.{has_datagram};
 ghost use Rattle.wasi_machine.specs.Machine.{context_at};
+ghost use Rattle.wasi_records.specs.declared.udp.OpenUdp.{OpenUdp};
 ghost use Rattle.wasi_records.specs.declared.udp.UdpRecord.{UdpRecord};
+ghost use Rattle.wasi_records.specs.Udp.{without_udp_socket};
 ghost use Rattle.wasi_records.specs.Records.{udp2_at};
 ghost use Rattle.wasi_steps.specs.declared.guest_call.GuestCall.{GuestCall};
 ghost use Rattle.wasi_steps.specs.declared.reply.CodeWord.{CodeWord};
@@ -33,7 +36,7 @@ ghost use Rattle.wasi_causes.specs.P3Udp.{P3DisconnectRefusal, P3UdpCreateRefusa
 ghost use Rattle.wasi_causes.specs.P3Udp.{P3UdpGetRefusal, P3UdpLocalRefusal, P3UdpSetRefusal};
 ghost use Rattle.wasi_causes.specs.Udp.{CreatesUdpFor, CreateStandsFor, GetsUdpOption};
 ghost use Rattle.wasi_causes.specs.Udp.{SetsUdpOption, TellsUdpLocal, TellsUdpRemote};
-ghost use Rattle.wasi_causes.specs.Udp.{udp_given_up, udp_left};
+ghost use Rattle.wasi_causes.specs.Udp.{putting_udp, udp_given_up, udp_left};
 
 /// Why a create of a 0.3 UDP socket is refused; there is no handle then.
 ///
@@ -214,12 +217,14 @@ pub fn p3_udp_options_are_read_and_set()
         → OfUdp3 m handle (λ place o. SetsUdpOption (own_of line) setting o entries) }
 {}
 
-/// What the drop of a 0.3 UDP socket releases, as that of a 0.2 socket
-/// ([`udp_drops_close`](crate::udp::udp_drops_close)).
+/// What the drop of a 0.3 UDP socket releases: what that of a 0.2 socket does
+/// ([`udp_drops_close`](crate::udp::udp_drops_close)), unless a datagram in progress holds it.
 ///
 /// - `done`: where it has no live children it is done; that is said where no call is pending.
-/// - `closed`: it closes the network socket of an open socket, and asks nothing else.
-/// - `left`: nothing is left of its record, and its handle isn't live any more.
+/// - `closed`: without a datagram in progress it closes the network socket of an open socket, and
+///   asks nothing else.
+/// - `left`: nothing is left of its record then, and its handle isn't live any more.
+/// - `held`: with one nothing is asked, and its record stays, which knows that its handle is gone.
 pub fn p3_udp_drops_close()
     ensures done { (contexts : List WasiSocketsCtx) (m : Machine) (line ctx handle place : ℕ)
         (entries : List Entry) (reply : Reply) (after : Machine)
@@ -232,6 +237,7 @@ pub fn p3_udp_drops_close()
         (u : UdpRecord) (entries : List Entry) (fields : List Field) (after : Machine)
         → kind_at m.table handle ≡ Some (Kind.Udp3 place)
         → udp2_at m.store.records place ≡ Some u
+        → has_datagram m.store.beside place ≡ false
         → Answered contexts m line (Step.Call ctx (GuestCall.Drop handle)) entries
         (Reply.Ok fields) after
         → entries ≡ udp_given_up (own_of line) u }
@@ -239,7 +245,17 @@ pub fn p3_udp_drops_close()
         (u : UdpRecord) (entries : List Entry) (fields : List Field) (after : Machine)
         → kind_at m.table handle ≡ Some (Kind.Udp3 place)
         → udp2_at m.store.records place ≡ Some u
+        → has_datagram m.store.beside place ≡ false
         → Answered contexts m line (Step.Call ctx (GuestCall.Drop handle)) entries
         (Reply.Ok fields) after
         → after ≡ udp_left (without m handle) place u }
+    ensures held { (contexts : List WasiSocketsCtx) (m : Machine) (line ctx handle place : ℕ)
+        (o : OpenUdp) (entries : List Entry) (fields : List Field) (after : Machine)
+        → kind_at m.table handle ≡ Some (Kind.Udp3 place)
+        → udp2_at m.store.records place ≡ Some (UdpRecord.Open o)
+        → has_datagram m.store.beside place ≡ true
+        → Answered contexts m line (Step.Call ctx (GuestCall.Drop handle)) entries
+        (Reply.Ok fields) after
+        → (entries ≡ [])
+        × (after ≡ putting_udp (without m handle) place (without_udp_socket o)) }
 {}

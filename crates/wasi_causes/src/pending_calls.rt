@@ -37,8 +37,8 @@ ghost use Rattle.wasi_table.specs.Table.{is_full};
 /// - `only_polls`: no other step but a cancel answers that.
 /// - `ends`: a poll of the exclusive call leaves it pending, or leaves none pending.
 /// - `beside`: so does one of a call that stands beside others, unless it is busy, and leaves the
-///   handles and the exclusive call unchanged (`polls_of_connects` and `polls_of_lookups` say which
-///   answer comes of what).
+///   handles and the exclusive call unchanged (`polls_of_connects`, `polls_of_lookups`,
+///   `polls_of_sends` and `polls_of_receives` say which answer comes of what).
 /// - `refused`: a code is the one by which the bind, the listen, the create or the connect failed:
 ///   a check said no, or the network answered with it. A listen and a create closed their network
 ///   socket last; a connect that was answered asked for the remote address. The operation is in
@@ -46,7 +46,7 @@ ghost use Rattle.wasi_table.specs.Table.{is_full};
 ///   call stands beside others.
 /// - `traps`: in a run a poll traps with `Full` alone, for the handle of a create or of a listener,
 ///   the two of datagram streams, or that of a stream's error; or with `NoSuchHandle`, where the
-///   socket of a call beside others was dropped.
+///   socket of a connect beside others was dropped.
 ///
 /// `refused` assumes `PendingCallsFit`: the pending call and the operation in its record are of one
 /// kind. Every run keeps that (`runs_keep_their_pending_calls`).
@@ -91,8 +91,8 @@ pub fn polls_find_their_call()
 
 /// When a step may be pending.
 ///
-/// - `step`: a bind or a listen, or the start of one, a connect of 0.3, a create of a UDP socket or
-///   of its datagram streams, the drop of an output or of an outgoing datagram stream, and a call
+/// - `step`: a bind or a listen, or the start of one, a connect, a lookup or a datagram of 0.3, a
+///   create of a UDP socket or of its datagram streams, the drop of an output or of an outgoing datagram stream, and a call
 ///   that blocks, all under their line's number; and a poll, under the number that it polls.
 /// - `stands`: a call is pending under that number then: the exclusive call, or one beside others.
 /// - `told`, `listen`: the last call of a bind, or of a listen, was answered pending.

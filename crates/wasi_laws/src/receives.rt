@@ -13,10 +13,10 @@ ghost use Rattle.wasi_steps.specs.declared.step.Step.{Step};
 ghost use Rattle.wasi_laws.specs.Receivers.{ReceivesOnOne};
 
 /// At every point of a run, an operation receives on one network socket alone: any two `recv` that
-/// it asked are of the same one. It has a later name of its line than the first, which creates,
-/// binds, connects, listens and writes have.
+/// it asked are of the same one. A receive of a stream has a later name of its line than the first,
+/// which creates, binds, connects, listens and writes have; that of a `p3-udp-receive` has the first.
 pub fn operations_receive_on_one_socket()
     ensures { (contexts : List WasiSocketsCtx) (steps : List Step) (log : List Entry)
         (rest : Asks (List Reply × Machine))
-        → Left (run contexts [] first_state 1 steps) log rest → ReceivesOnOne log }
+        → Left (run contexts [] first_state 1 steps) log rest → ReceivesOnOne steps log }
 {}

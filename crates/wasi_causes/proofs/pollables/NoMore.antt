@@ -6,7 +6,9 @@ use Rattle.wasi_causes.proofs.Words.{Some, TcpRecord}
 use Rattle.wasi_causes.proofs.Words.{ap, inl, inr}
 use Rattle.wasi_causes.proofs.Words.{refl, subst, sym}
 use Rattle.wasi_records.specs.Looks.{socket_begins}
-use Rattle.wasi_records.specs.Records.{open_at, open_of, open_put, tcp2_at, tcp2_put, udp2_at}
+use Rattle.wasi_causes.proofs.Words.{None, [], slice_get, suc, zero, ◌∷◌, ◌⊎◌}
+use Rattle.wasi_records.specs.Numbered.{record_gone}
+use Rattle.wasi_records.specs.Records.{open_at, open_of, open_put, tcp2_at, tcp2_of, tcp2_put, udp2_at, udp2_of}
 use Rattle.wasi_records.specs.declared.records.Record.{Record}
 use Rattle.wasi_records.specs.declared.udp.OpenUdp.{OpenUdp}
 use Rattle.wasi_records.specs.declared.udp.UdpRecord.{UdpRecord}
@@ -65,3 +67,23 @@ module _ (xs : List Record) (i : ℕ) (o now : OpenUdp) (at : open_at xs i ≡ S
   pub open_fits : AcceptsFit xs → AcceptsFit (open_put xs i now)
   open_fits all k x e = all k x
       (sym (other_put udp_sort tcp_sort (λ t. refl) xs i (Open o) (Open now) k (open_is (udp2_at xs i) o at)) ∙ e)
+
+-- nothing begins in a record that is given back
+udp_none : (o : Option UdpRecord) (k : Option UdpRecord) → (o ≡ k) ⊎ (o ≡ None) → udp_begins (open_of k) ≡ false → udp_begins (open_of o) ≡ false
+udp_none o k (inl same) none = ap (λ (u : Option UdpRecord). udp_begins (open_of u)) same ∙ none
+udp_none o k (inr gone) none = ap (λ (u : Option UdpRecord). udp_begins (open_of u)) gone
+
+tcp_none : (o : Option TcpRecord) (k : Option TcpRecord) → (o ≡ k) ⊎ (o ≡ None) → tcp_begins k ≡ false → tcp_begins o ≡ false
+tcp_none o k (inl same) none = ap tcp_begins same ∙ none
+tcp_none o k (inr gone) none = ap tcp_begins gone
+
+module _ {A : Type 0} (f : Option Record → Option A) (none : f (Some Record.Gone) ≡ None) where
+  or_none : (xs : List Record) (i k : ℕ) → (f (slice_get (record_gone xs i) k) ≡ f (slice_get xs k)) ⊎ (f (slice_get (record_gone xs i) k) ≡ None)
+  or_none [] i k = inl refl
+  or_none (z ∷ xs) zero zero = inr none
+  or_none (z ∷ xs) zero (suc k) = inl refl
+  or_none (z ∷ xs) (suc i) zero = inl refl
+  or_none (z ∷ xs) (suc i) (suc k) = or_none xs i k
+
+pub no_more_gone : (xs : List Record) (i : ℕ) → BeginsNoMore xs (record_gone xs i)
+no_more_gone xs i = record { tcp = λ k none. tcp_none _ _ (or_none tcp2_of refl xs i k) none; udp = λ k none. udp_none _ _ (or_none udp2_of refl xs i k) none }

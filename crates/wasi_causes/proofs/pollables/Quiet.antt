@@ -18,7 +18,20 @@ use Rattle.wasi_steps.specs.declared.guest_call.GuestCall.TheVariants as guest
 use Rattle.wasi_steps.specs.declared.step.Step.TheVariants as step
 use Rattle.wasi_walks.proofs.Lists.{has_front}
 use Rattle.wasi_walks.proofs.fits.Law.{Fit, whatever}
-use Rattle.wasi_walks.proofs.fits.Lines.{first_fit}
+use Rattle.wasi_causes.proofs.Fitted.{Fitted, beside_fits, first_fitted, line_fitted}
+use Rattle.wasi_walks.proofs.fits.Datagrams.{FitBeside}
+use Rattle.wasi_records.specs.Records.{open_of}
+use Rattle.wasi_records.specs.declared.udp.OpenUdp.{OpenUdp}
+use Rattle.wasi_host.specs.Beside.{beside_of}
+use Rattle.wasi_host.specs.declared.beside.Beside.{Beside}
+use Rattle.wasi_host.specs.declared.beside.BesideCall.{BesideCall}
+use Rattle.wasi_host.specs.declared.beside.BesideCall.TheVariants.{Connect, Receive, Resolve, Send}
+use Rattle.wasi_causes.proofs.pollables.NoMore.{no_more_gone}
+use Rattle.wasi_causes.specs.GivenUp.{giving_back}
+use Rattle.wasi_causes.specs.P3Connects.{BesideCancelled, LeavesBeside}
+use Rattle.wasi_causes.specs.P3Datagrams.{DatagramOver, IsHeldNoMore, IsStillHeld}
+use Rattle.wasi_walks.specs.Waiting.{call_over}
+use Rattle.std.specs.Prelude.{IsSomeAnd}
 use Rattle.wasi_walks.proofs.fits.Polls.{Anything}
 use Rattle.wasi_walks.proofs.received.Handles.{polled_same}
 use Rattle.wasi_walks.proofs.walks.Law.{InCall}
@@ -34,7 +47,6 @@ use Rattle.wasi_walks.proofs.walks.Runs.{run_ends}
 use Rattle.wasi_walks.proofs.walks.States.{Over}
 use Rattle.wasi_walks.proofs.walks.Steps.{machine_walks}
 use Rattle.wasi_causes.proofs.ReceivesGo.{AllGo, first_go, line_goes}
-use Rattle.wasi_causes.proofs.Runs.{line_fits}
 use Rattle.wasi_causes.proofs.pollables.AsReady.{first_so}
 use Rattle.wasi_causes.proofs.pollables.Begins.{AcceptsFit, BeginsNoMore, MayBegin, StaysQuiet, finds_none, still_none}
 use Rattle.wasi_causes.proofs.pollables.Begins.{turn_no_more, turn_none}
@@ -112,7 +124,7 @@ module _ (contexts : List WasiSocketsCtx) (line : ℕ) (origin : Step) (plain : 
   moves_none _ _ (Unstands h over) i = (tt, i.1)
   moves_none _ _ (Stands h ids call r quiet at g k) i = (goes_none r call k, i.1)
   moves_none _ _ (StandsUdpBind h ids place face o op quiet at g e) i = (tt, i.1)
-  moves_none _ _ (StandsUdpCreate h ids place face create quiet made g) i = (tt, i.1)
+  moves_none _ _ (StandsUdpCreate h ids place face create quiet made g its) i = (tt, i.1)
   moves_none _ _ (StandsDropOutgoing h ids place o quiet at g e) i = (tt, i.1)
   moves_none _ _ (RemembersStreams h c handle place remote is of o g none) i = (i.0, tt)
   moves_none _ _ (RecallsStreams h ids place handle e own) i = (i.0, tt)
@@ -230,7 +242,7 @@ module _ (m : Machine) (fits : AcceptsFit m.store.records) (free : m.store.stand
   begun_quiet line ps (on.AllPollables es r after some all k) = list_quiet (first_ids line) ps {look = First} tt k
 
 -- == of a step
-module _ (contexts : List WasiSocketsCtx) (m : Machine) (line : ℕ) (fits : AcceptsFit m.store.records)
+module _ (contexts : List WasiSocketsCtx) (m : Machine) (line : ℕ) (fits : AcceptsFit m.store.records) (fitted : Fitted m)
     (go : AllGo m.store.records) (quiet : Quiet m) where
   nothing_pending : (s : Step) → IsSome (context_of s) → (IsHeldUp contexts m line s → ⊥) → (o : Option Standing) →
       m.store.standing ≡ o → m.store.standing ≡ None
@@ -269,6 +281,28 @@ module _ (contexts : List WasiSocketsCtx) (m : Machine) (line : ℕ) (fits : Acc
       by_standing None k = tt
       by_standing (Some s) k = λ p has. still_none m after no_more row.0.handles p (k p has)
 
+  -- a call beside others is given up
+  over_quiet : (n place : ℕ) (o : OpenUdp) {es : List Entry} {after : Machine} → DatagramOver m n place o es after → Quiet after
+  over_quiet n place o (IsStillHeld held) = quiet
+  over_quiet n place o (IsHeldNoMore held) = by_standing m.store.standing quiet
+    where
+      by_standing : (s : Option Standing) → IfSome s (λ s. BeginsNone m (waits_for s.call)) → IfSome s (λ s. BeginsNone (giving_back (call_over m n) place) (waits_for s.call))
+      by_standing None k = tt
+      by_standing (Some s) k = λ p has. still_none m (giving_back (call_over m n) place) (no_more_gone m.store.records place) refl p (k p has)
+
+  beside_quiet : (n : ℕ) (es : List Entry) (after : Machine) → BesideCancelled m n es after → Quiet after
+  beside_quiet n es after left = by_beside (beside_of m.store n) refl left.1
+    where
+      by_call : (b : Beside) (call : BesideCall) → FitBeside m.store.records b.line call → LeavesBeside m n es after call → Quiet after
+      by_call b (Connect place) fit k = subst Quiet (sym k.1) quiet
+      by_call b (Resolve host) fit k = subst Quiet (sym k.1) quiet
+      by_call b (Send place op) fit k = over_quiet n place fit.0.was (k fit.0.was (ap open_of fit.0.at))
+      by_call b (Receive place op) fit k = over_quiet n place fit.0.was (k fit.0.was (ap open_of fit.0.at))
+
+      by_beside : (o : Option Beside) → beside_of m.store n ≡ o → IsSomeAnd o (λ b. LeavesBeside m n es after b.call) → Quiet after
+      by_beside None e k = absurd k
+      by_beside (Some b) e k = by_call b b.call (beside_fits m fitted n b e).0 k
+
   -- a cancel
   cancel_quiet : (n : ℕ) (es : List Entry) (r : Reply) (after : Machine) → Outcome contexts m line (step.Cancel n) es r
       after → Quiet after
@@ -279,7 +313,7 @@ module _ (contexts : List WasiSocketsCtx) (m : Machine) (line : ℕ) (fits : Acc
           let k = subst (λ (x : Reply). Outcome contexts m line (step.Cancel n) es x after) (row.0.1.1 e) row in
           elim k.1.1 [
             | inl left ↦ free_quiet after left.1
-            | inr beside ↦ subst Quiet (sym beside.2) quiet
+            | inr beside ↦ beside_quiet n es after beside
           ]
       by_under false e = let k = subst (λ (x : Reply). Outcome contexts m line (step.Cancel n) es x after)
           (row.0.0.1 e) row in subst Quiet (sym k.1.1.1) quiet
@@ -343,24 +377,24 @@ module _ (contexts : List WasiSocketsCtx) (m : Machine) (line : ℕ) (fits : Acc
 
 -- == of a run
 abbrev Between : ℕ → List Entry → Machine → Type 0
-Between line es m = Fit (Over m) × (AllGo m.store.records × Quiet m)
+Between line es m = Fitted m × (AllGo m.store.records × Quiet m)
 
-accepts_of : (m : Machine) → Fit (Over m) → AcceptsFit m.store.records
-accepts_of m f k r at = (f.records k r at).1
+accepts_of : (m : Machine) → Fitted m → AcceptsFit m.store.records
+accepts_of m f k r at = (f.2.records k r at).1
 
 line_quiet : (contexts : List WasiSocketsCtx) (line : ℕ) (s : Step) (m : Machine) (es : List Entry) → Between line es m
     → Allows Anything (λ fs done. Between (line + 1) fs done.1) es (machine_asks contexts m line s)
 line_quiet contexts line s m es i =
-    (both (record { along = line_fits contexts line s m es i.0 }) (both (record {
+    (both (record { along = line_fitted contexts line s m es i.0 }) (both (record {
       along = line_goes contexts line s m es
           i.1.0;
     })
-    (widen (λ gs done k. k.row) (shifted es (lasts contexts m line (accepts_of m i.0) i.1.0 i.1.1 s))))).along
+    (widen (λ gs done k. k.row) (shifted es (lasts contexts m line (accepts_of m i.0) i.0 i.1.0 i.1.1 s))))).along
 
 module _ (contexts : List WasiSocketsCtx) (steps : List Step) (log : List Entry) (replies : List Reply) (m : Machine)
     (w : Left (run contexts [] first_state 1 steps) log (Give (replies, m))) where
   holds : Between 0 log m
-  holds = (run_ends contexts Anything Between (line_quiet contexts) (first_fit, (first_go, tt)) steps log replies m w).1
+  holds = (run_ends contexts Anything Between (line_quiet contexts) (first_fitted, (first_go, tt)) steps log replies m w).1
 
   module _ (ids : Ids) (call : StandingCall) (stands : m.store.standing ≡ Some (standing_as ids call)) where
     -- no pollable of what is pending would begin anything

@@ -1,6 +1,6 @@
 -- The law that of what the stream of a handle received all was handed out but what waits: by each line but one that receives on it.
 use Rattle.wasi_walks.proofs.walks.Law.{BeginsWrites, Rests, begins_by}
-use Rattle.wasi_walks.proofs.walks.Asked.{Asked, Questions, SetsBacklog, Learns, Closes, MarksOne, AsksCreate, MarksAccepted, MarksListener, MarksPlain, Polls, Turns, GivesUp, UdpQuestions, UdpDisconnects, UdpLearns, UdpPeers, UdpCloses, UdpBegins, MarksUdp, MarksStream, MarksError, UdpGivesUp, Resolves, Looks}
+use Rattle.wasi_walks.proofs.walks.Asked.{BeginsDatagram, PollsBeside, Asked, Questions, SetsBacklog, Learns, Closes, MarksOne, AsksCreate, MarksAccepted, MarksListener, MarksPlain, Polls, Turns, GivesUp, UdpQuestions, UdpDisconnects, UdpLearns, UdpPeers, UdpCloses, UdpBegins, MarksUdp, MarksStream, MarksError, UdpGivesUp, Resolves, Looks}
 use Rattle.std.specs.Prelude.{length, take}
 use Rattle.wasi_tcp.specs.Halves.{write_asks}
 unfoldable use Rattle.wasi_causes.proofs.Words.{bind}
@@ -22,7 +22,7 @@ use Rattle.wasi_records.specs.Udp.{udp_bind_progress, udp_create_left, udp_side,
 use Rattle.wasi_host.specs.UdpCreates.{udp_side_at}
 use Rattle.wasi_records.specs.declared.datagrams.Incoming.{Incoming as IncomingStream}
 use Rattle.wasi_records.specs.declared.datagrams.Receiving.{Receiving}
-use Rattle.wasi_host.specs.declared.kind.Kind.TheVariants.{Incoming, Listen3, Result3, Tcp3}
+use Rattle.wasi_host.specs.declared.kind.Kind.TheVariants.{Incoming, Listen3, Result3, Tcp3, Udp3}
 use Rattle.wasi_records.specs.declared.tcp_listening.Listening.TheVariants as listening
 use Rattle.wasi_records.specs.declared.udp.OpenUdp.{OpenUdp}
 use Rattle.wasi_records.specs.declared.udp.UdpRecord.{UdpRecord}
@@ -31,8 +31,8 @@ use Rattle.wasi_walks.proofs.fits.Polls.{Anything}
 use Rattle.wasi_walks.proofs.fits.Records.{FitConnecting, FitListening, FitProgress, FitSending, FitReceiving, FitUdpProgress, SendOn, UdpBindOn, UdpConnectOn}
 use Rattle.wasi_walks.proofs.fits.UdpFits.{learnt_side}
 use Rattle.wasi_walks.proofs.received.Handles.{MakesUnder, Under, was_or_new}
-use Rattle.wasi_walks.proofs.received.Polls.{AreSilent, Elsewhere, IsApart}
-use Rattle.wasi_walks.proofs.received.Silent.{WritesApart, accept_silent, bind_silent, cancelled_silent, connect_silent, given_up_silent, listen_silent, new_silent, send_silent, turn_silent, udp_bind_silent, udp_connect_silent}
+use Rattle.wasi_walks.proofs.received.Polls.{AreSilent, Elsewhere, IsApart, silent_poll}
+use Rattle.wasi_walks.proofs.received.Silent.{WritesApart, accept_silent, apart_silent, bind_silent, cancelled_silent, connect_silent, given_up_silent, listen_silent, new_silent, send_silent, turn_silent, udp_bind_silent, udp_connect_silent}
 use Rattle.wasi_walks.proofs.remotes.State.{OpenKeeps, WritesBy}
 use Rattle.wasi_walks.proofs.walks.Moves as walk
 use Rattle.wasi_walks.proofs.walks.Moves.{Interface, tcp_kind, Found, FoundUdp, HasNewStream, Held, Here, MarksNext, Move, Names, StreamMoves, UdpPlain, joined, listen_after, part_of, put, put_udp, receive_op, receiving_in, send_op, sending_in, udp_begun}
@@ -46,11 +46,22 @@ use Rattle.wasi_causes.proofs.receiving.Along.{Along, HandName, along_named}
 use Rattle.wasi_causes.proofs.receiving.Named.{GivesLater, IsFirst, job_name, name_of_op, streams_name}
 use Rattle.wasi_causes.proofs.receiving.Polled.{Exact, hand_of}
 use Rattle.wasi_causes.proofs.GivenBack.{open_stays}
-use Rattle.wasi_causes.proofs.receiving.Older.{question_else, udp_question_else}
-use Rattle.wasi_causes.proofs.receiving.Polls.{Mine, Rest, apart_of, begun_none, connecting_none, no_stream, not_first, polled_tcp, polled_udp, quietly, receives, same_open}
-use Rattle.wasi_causes.proofs.receiving.Unmarked.{Unmarked, cancels_unmarked, creates_unmarked, releases_unmarked, turns_unmarked}
+use Rattle.wasi_causes.proofs.receiving.Older.{polls_first, polls_side, question_else, starts_first, starts_side, udp_question_else}
+use Rattle.wasi_causes.proofs.Beside.{datagram_has, find_has}
+use Rattle.wasi_host.specs.SocketDatagrams.{has_datagram, is_datagram_of}
+use Rattle.wasi_causes.proofs.Words.{eq-eqb, false, is_some, true}
+use Rattle.wasi_host.specs.Beside.{beside_of}
+use Rattle.wasi_host.specs.declared.beside.Beside.{Beside}
+use Rattle.wasi_host.specs.declared.beside.BesideCall.{BesideCall}
+use Rattle.wasi_causes.proofs.receiving.Polls.{Mine, Rest, apart_of, begun_none, connecting_none, no_stream, not_first, other_side, polled_tcp, polled_udp, quietly, receives, same_open}
+use Rattle.wasi_causes.proofs.receiving.Unmarked.{Unmarked, polls_unmarked, cancels_unmarked, creates_unmarked, releases_unmarked, turns_unmarked}
 use Rattle.wasi_causes.proofs.receiving.Streams.{Becomes, IsElse, IsFresh, Knows, StreamAt, StreamIs, at_more, fresh_with, mark_else, put_at, stays_so, stream_more, stream_push, stream_push_tcp, stream_put, stream_put_tcp, stream_same, stream_stays, stream_with, stream_without, tcp_at}
 use Rattle.wasi_walks.proofs.Places.{put_finds, udp_sort}
+
+-- a call that is polled so is a datagram of this socket
+polls_datagram : {k : ℕ} {o : OpenUdp} {was : BesideCall} {call : Operation → BesideCall} {op polls : Operation} → walk.PollsDatagram k o was call op polls → is_datagram_of k was ≡ true
+polls_datagram {k} (walk.PollsSend op) = eq-eqb k k refl
+polls_datagram {k} (walk.PollsReceive op) = eq-eqb k k refl
 
 module _ (handle : ℕ) (list : List IncomingDatagram) (contexts : List WasiSocketsCtx) (line : ℕ) (origin : Step) where
   abbrev pub B : List Entry → Here → Type 0
@@ -95,7 +106,7 @@ module _ (handle : ℕ) (list : List IncomingDatagram) (contexts : List WasiSock
       where
         by_move : (old new : Option IncomingStream) → StreamMoves origin h k old new → o.incoming ≡ old → now.incoming ≡ new → Becomes handle list es (UdpRecord.Open o) (UdpRecord.Open now)
         by_move _ _ (walk.StreamStays inc) e f = stays_so handle list es o now p.side (f ∙ sym e)
-        by_move _ _ (walk.StreamIsMade inc) e f = λ q stream is has knows. let none : None ≡ Some stream = sym e ∙ (ap (λ (x : OpenUdp). x.incoming) (same_open o q is) ∙ has) in absurd (cc)
+        by_move _ _ (walk.StreamIsMade inc under) e f = λ q stream is has knows. let none : None ≡ Some stream = sym e ∙ (ap (λ (x : OpenUdp). x.incoming) (same_open o q is) ∙ has) in absurd (cc)
         by_move _ _ (walk.StreamIsTaken inc takes) e f = absurd (taken_other es h b k takes live)
         by_move _ _ (walk.StreamGoes inc gone) e f = absurd (still_there es h b k o now g m live f)
 
@@ -155,6 +166,7 @@ module _ (handle : ℕ) (list : List IncomingDatagram) (contexts : List WasiSock
     moves_exact es _ _ (walk.Finds h records s) b i = (stream_same handle list es h.machine.table h.machine.store.records records s i.0, i.1)
     moves_exact es _ _ (walk.Empties h gone kind q e none) b i = (stream_without handle list es h.machine.table h.machine.store.records gone i.0, i.1)
     moves_exact es _ _ (walk.Takes h gone q made none) b i = (stream_without handle list es h.machine.table h.machine.store.records gone i.0, i.1)
+    moves_exact es _ _ (walk.DropsUdp h place o idle made g) b i = udp_same es h place o _ g refl refl i
     moves_exact es _ _ _ b i = i
 
     -- == polls
@@ -298,13 +310,42 @@ module _ (handle : ℕ) (list : List IncomingDatagram) (contexts : List WasiSock
         by_writer (WriteState.Closed c) made first = tt
 
     -- a socket that is closed has no live stream
-    pub closed_none : (es : List Entry) (h : Here) (b : B es h) (k : ℕ) (o : OpenUdp) (q : walk.ReleasesUdp h k) (g : FoundUdp h k (UdpRecord.Open o)) (told : Told) → Fits (Call.Close o.inner.side) told → kind_at h.machine.table handle ≡ Some (Incoming k) → ⊥
-    closed_none es h b k o q g told f live =
+    pub closed_none : (es : List Entry) (h : Here) (b : B es h) (k n : ℕ) (o : OpenUdp) (q : walk.ReleasesUdp h k) (g : FoundUdp h k (UdpRecord.Open o)) (told : Told) → Fits (Call.Close o.inner.side) told → kind_at h.machine.table handle ≡ Some (Incoming k) → ⊥
+    closed_none es h b k n o q g told f live =
         let after : Here = put_udp h k (UdpRecord.Closed o.inner.side) in
         let s : SlotOf h.machine.table.live handle (Incoming k) = slot_of h.machine.table.live handle (Incoming k) live in
-        let has = (apart_of handle list contexts line origin _ after (((streams_law contexts line origin).asks es h _ _ _ (UdpCloses k o q g) tt b.1.0).1 told f)).there s.slot k s.live_one s.value in
+        let has = (apart_of handle list contexts line origin _ after (((streams_law contexts line origin).asks es h _ _ _ (UdpCloses k n o q g) tt b.1.0).1 told f)).there s.slot k s.live_one s.value in
         let p : Some (UdpRecord.Closed o.inner.side) ≡ Some (UdpRecord.Open has.socket) = sym (put_finds udp_sort h.machine.store.records k (UdpRecord.Open o) (UdpRecord.Closed o.inner.side) g) ∙ has.at in
         absurd (cc)
+
+    -- no stream is of the socket of a datagram of 0.3
+    old_handle : (es : List Entry) (h : Here) (b : B es h) (k its place : ℕ) (s : StreamAt handle list es h.machine.store.records place) → kind_at h.machine.table its ≡ Some (Udp3 k) → k ≡ place → ⊥
+    old_handle es h b k its place s at same =
+        let live = slot_of h.machine.table.live its (Udp3 k) at in
+        (b.0.0.3.streams place s.socket s.at (ap is_some s.has)).handle live.slot live.live_one (live.value ∙ ap Udp3 same)
+
+    starts_alone : (es : List Entry) (h : Here) (b : B es h) (k : ℕ) (o : OpenUdp) {call : Operation → BesideCall} {op polls : Operation} → walk.StartsDatagram line origin h.machine.table k o call op polls → FoundUdp h k (UdpRecord.Open o)
+        → (place : ℕ) (s : StreamAt handle list es h.machine.store.records place) → k ≡ place → ⊥
+    starts_alone es h b k o (walk.StartsSend c its d bound is at known) g place s same = old_handle es h b k its place s at same
+    starts_alone es h b k o (walk.StartsReceive c its bound is at known) g place s same = old_handle es h b k its place s at same
+
+    polls_alone : (es : List Entry) (h : Here) (b : B es h) (n k : ℕ) (o : OpenUdp) (was : Beside) {call : Operation → BesideCall} {op polls : Operation} → walk.PollsDatagram k o was.call call op polls → beside_of h.machine.store n ≡ Some was → FoundUdp h k (UdpRecord.Open o)
+        → (place : ℕ) (s : StreamAt handle list es h.machine.store.records place) → k ≡ place → ⊥
+    polls_alone es h b n k o was its at g place s same =
+        let none : has_datagram h.machine.store.beside place ≡ false = (b.0.0.3.streams place s.socket s.at (ap is_some s.has)).none in
+        let some : has_datagram h.machine.store.beside k ≡ true = datagram_has h.machine.store.beside k was (find_has h.machine.store.beside n was at).0 (polls_datagram its) in
+        let both : has_datagram h.machine.store.beside place ≡ true = ap (has_datagram h.machine.store.beside) (sym same) ∙ some in
+        absurd (cc)
+
+    -- a datagram of 0.3
+    datagram_exact : (es : List Entry) (h : Here) (b : B es h) (k : ℕ) (o : OpenUdp) (op : Operation) → FoundUdp h k (UdpRecord.Open o) → {n : ℕ} → op.who.id ≡ own_of n → op.who.side ≡ o.inner.side
+        → ((place : ℕ) (s : StreamAt handle list es h.machine.store.records place) → k ≡ place → ⊥) → Inv es h → Allows Anything (λ fs ended. Inv fs h) es (poll_asks op)
+    datagram_exact es h b k o op g first side alone i =
+        quietly handle list contexts line origin h (λ ended. h.machine.store.records) es (poll_asks op) i (λ fs ended place live s. s)
+        (λ place live s. silent_poll s.socket.inner.side ⊤ (HandName (hand_of s.stream.receiving)) op es
+        (apart_silent s.socket.inner.side ⊤ (HandName (hand_of s.stream.receiving)) op.who
+        (λ x. (λ d. other_side handle list contexts line origin es h b k o place s g (alone place s) (sym side ∙ d), not_first handle list contexts line origin es h b place s op.who.id (ap (λ (y : OpId). y.part) first))) op.left))
+        (polls_unmarked op es)
 
     -- one write is asked
     wrote : (es : List Entry) (h : Here) (side : OpId) (bytes : List ℕ) → Inv es h → Allows Anything (λ fs x. Inv fs h) es (write_asks (own_of line) side bytes)
@@ -333,7 +374,7 @@ module _ (handle : ℕ) (list : List IncomingDatagram) (contexts : List WasiSock
     exacts_asks es h _ _ _ (UdpLearns place part o at g) b i = (tt, λ told f. udp_same _ h place o _ g (learnt_side o.inner (told_addr told)) refl (asked es h (part_of line part) (Call.Local o.inner.side) told tt i))
     exacts_asks es h _ _ _ (UdpDisconnects place o at g is) b i = (tt, λ told f. udp_same _ h place o _ g refl refl (asked es h (own_of line) (Call.UdpDisconnect o.inner.side) told tt i))
     exacts_asks es h _ _ _ (UdpPeers place o at g) b i = (tt, λ told f. udp_same _ h place o _ g refl refl (asked es h (own_of line) (Call.Peer o.inner.side) told tt i))
-    exacts_asks es h _ _ _ (UdpCloses place o q g) b i = (tt, λ told f. udp _ h place (UdpRecord.Open o) (UdpRecord.Closed o.inner.side) g (λ live. absurd (closed_none es h b place o q g told f live)) (asked es h (own_of line) (Call.Close o.inner.side) told tt i))
+    exacts_asks es h _ _ _ (UdpCloses place n o q g) b i = (tt, λ told f. udp _ h place (UdpRecord.Open o) (UdpRecord.Closed o.inner.side) g (λ live. absurd (closed_none es h b place n o q g told f live)) (asked es h (own_of n) (Call.Close o.inner.side) told tt i))
     exacts_asks es h _ _ _ (UdpBegins face ctx family c may a o m) b i = (tt, λ told f. begun _ h (udp_after_create (own_of line) ctx.name family (told_done told)) (asked es h (own_of line) (Call.UdpCreate ctx.name family) told tt i))
     exacts_asks es h _ _ _ (MarksUdp face place u g) b i = marks_other es h (udp_side u) (udp_kind face place) None (Some (udp_side u)) (udp_other face place) i
     exacts_asks es h _ _ _ (MarksStream place n socket reached kind next new of) b i = marks_next es h b place n socket reached kind next new of i
@@ -341,6 +382,11 @@ module _ (handle : ℕ) (list : List IncomingDatagram) (contexts : List WasiSock
     exacts_asks es h _ _ _ (UdpGivesUp place create q g) b i = quietly handle list contexts line origin h (λ done. udp2_put h.machine.store.records place (UdpRecord.Closed create.operation.who.side)) es (create_cancel_asks create) i (λ fs done p live st. put_at handle list fs h.machine.table h.machine.store.records place p (UdpRecord.Creating create) (UdpRecord.Closed create.operation.who.side) g live (λ same. no_stream handle list contexts line origin fs create (UdpRecord.Closed create.operation.who.side)) st) (λ p live st. cancelled_silent st.socket.inner.side ⊤ (HandName (hand_of st.stream.receiving)) es create) (cancels_unmarked es create)
     exacts_asks es h _ _ _ (Resolves host records l same) b i = (tt, λ told f. (stream_same handle list _ h.machine.table h.machine.store.records (records told) (same told) (asked es h (own_of line) (Call.Lookup host) told tt i).0, i.1))
     exacts_asks es h _ _ _ (Looks place op g) b i = (tt, λ told f. asked es h op.id (Call.Lookup op.host) told tt i)
+    exacts_asks es h _ _ _ (BeginsDatagram place o call op polls at g starts m own) b i =
+        datagram_exact es h b place o polls g (starts_first line origin starts) (starts_side line origin starts) (starts_alone es h b place o starts g) i
+    exacts_asks es h _ _ _ (PollsBeside n was place o call op polls is at g its) b i =
+        let fit = b.0.0.3.besides was (find_has h.machine.store.beside n was at).0 in
+        datagram_exact es h b place o polls g (polls_first h.machine.store.records its fit) (polls_side h.machine.store.records was.line its fit o g) (polls_alone es h b n place o was its at g) i
     exacts_asks es h _ _ _ (ResolvesBeside host l) b i = (tt, λ told f. asked es h (own_of line) (Call.Lookup host) told tt i)
     exacts_asks es h _ _ _ (LooksBeside n call host g e) b i = (tt, λ told f. asked es h (own_of n) (Call.Lookup host) told tt i)
 

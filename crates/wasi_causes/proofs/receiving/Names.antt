@@ -15,7 +15,7 @@ use Rattle.wasi_walks.proofs.walks.Here.{grows_to, next_given, next_grows, next_
 use Rattle.wasi_walks.proofs.walks.Moves as walk
 use Rattle.wasi_walks.proofs.walks.Moves.{FoundUdp, Held, Here, Move, Names, Own, ToConnect, Unused, Used, joined, part_of, put, put_udp, udp_begun}
 use Rattle.wasi_causes.proofs.receiving.Named.{GivesLater, IsFirst, NamesApart, begins_apart, connect_name, job_name, kept_name, moves_first, name_of_op, owns_apart, polled_name, push_tcp, push_udps, put_tcp, put_udps, receive_name, same_apart, fewer_apart, streams_name}
-use Rattle.wasi_walks.proofs.walks.OfState.{Becomes, Created, CreatedWith, GivenUp, IsClosed, Learnt, OfState, Resolved, UdpBegun}
+use Rattle.wasi_walks.proofs.walks.OfState.{DatagramBegan, Becomes, Created, CreatedWith, GivenUp, IsClosed, Learnt, OfState, Resolved, UdpBegun}
 use Rattle.wasi_walks.proofs.walks.OfState.{UdpGivenUp, UdpIsClosed, UdpLearnt, Writing, begins_state, of_state}
 use Rattle.wasi_records.specs.Records.{tcp2_pushed}
 use Rattle.wasi_causes.proofs.Words.{Streams}
@@ -99,6 +99,7 @@ module _ (contexts : List WasiSocketsCtx) (line : ℕ) (origin : Step) where
   moves_apart _ _ (walk.CancelsUdpConnect h place o q g) i = put_udps line h.own h.machine.store.records place (UdpRecord.Open o) (UdpRecord.Open _) g (inl refl) i tt
   moves_apart _ _ (walk.GivesBack h place idle left) i = fewer_apart line h.own h.machine.store.records place i
   moves_apart _ _ (walk.Finds h records s) i = same_apart line h.own h.machine.store.records records s i
+  moves_apart _ _ (walk.DropsUdp h place o idle made g) i = udp_stays h place o _ g refl refl i
   moves_apart _ _ _ i = record { later = i.later; apart = i.apart; connects = i.connects; writes = i.writes; gives = i.gives }
 
   -- a create leaves a socket that does nothing
@@ -165,6 +166,7 @@ module _ (contexts : List WasiSocketsCtx) (line : ℕ) (origin : Step) where
   becomes_apart h _ (CreatedWith face ctx family c u m) i = created h _ refl i
   becomes_apart h _ (Writing _ (InCall place n r s half permit bytes at g e w within own)) i =
       used (put h place _) (put_tcp line h.own h.machine.store.records place _ refl i)
+  becomes_apart h _ (DatagramBegan place o call op polled ended at g starts m own left) i = used h i
   becomes_apart h _ _ i = record { later = i.later; apart = i.apart; connects = i.connects; writes = i.writes; gives = i.gives }
 
   -- a turn of a writer

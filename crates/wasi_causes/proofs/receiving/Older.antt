@@ -3,7 +3,7 @@ use Rattle.wasi_walks.proofs.walks.Law.{BeginsWrites, Rests, begins_by}
 use Rattle.std.specs.Prelude.{length, take}
 use Rattle.wasi_tcp.specs.Halves.{write_asks}
 unfoldable use Rattle.wasi_causes.proofs.Words.{bind}
-use Rattle.wasi_walks.proofs.walks.Asked.{MarksResult, WritesOnce}
+use Rattle.wasi_walks.proofs.walks.Asked.{BeginsDatagram, PollsBeside, MarksResult, WritesOnce}
 use Rattle.wasi_walks.proofs.walks.Asked.{Asked, Questions, SetsBacklog, Learns, Closes, MarksOne, AsksCreate, MarksAccepted, MarksListener, MarksPlain, Polls, Turns, GivesUp, UdpQuestions, UdpDisconnects, UdpLearns, UdpPeers, UdpCloses, UdpBegins, MarksUdp, MarksStream, MarksError, UdpGivesUp, Resolves, Looks}
 use Rattle.wasi_walks.proofs.walks.Asked.{ResolvesBeside, LooksBeside}
 use Rattle.wasi_host.specs.declared.kind.Kind.TheVariants.{Listen3, Result3, Tcp3}
@@ -33,6 +33,13 @@ use Rattle.wasi_walks.proofs.received.Polls.{AreSilent, Elsewhere, NoName, Spare
 use Rattle.wasi_walks.proofs.received.Silent.{accept_silent, bind_silent, cancelled_silent, connect_silent, given_up_silent, listen_silent, made_silent, new_silent, send_silent, udp_bind_silent, udp_connect_silent}
 use Rattle.wasi_walks.proofs.walks.Here.{IsOlder, Grows, grows_to, next_grows, older_unused, older_used}
 use Rattle.wasi_walks.proofs.walks.Moves as walk
+use Rattle.wasi_walks.proofs.fits.Datagrams.{DatagramOn, FitBeside}
+use Rattle.wasi_records.specs.Records.{udp2_at}
+use Rattle.wasi_records.specs.declared.records.Record.{Record}
+use Rattle.wasi_records.specs.declared.udp.OpenUdp.{OpenUdp}
+use Rattle.wasi_host.specs.declared.beside.BesideCall.{BesideCall}
+use Rattle.wasi_causes.proofs.Beside.{find_has}
+use Rattle.wasi_causes.proofs.Words.{HandleTable}
 use Rattle.wasi_walks.proofs.walks.Moves.{Interface, tcp_kind, Held, Here, IsQuestionOf, IsUdpQuestionOf, Move, Names, Own, ToConnect, Unused, Used, receive_op, receiving_in, send_op, sending_in, udp_begun}
 use Rattle.wasi_causes.proofs.receiving.Named.{IsFirst, NamesApart, job_name, name_of_op, streams_name}
 use Rattle.wasi_causes.proofs.receiving.Streams.{IsElse}
@@ -141,6 +148,31 @@ module _ (line : ℕ) (own : Own) where
   turned es (WriteState.Writing job) i f = allows_then Anything (λ fs j. AllOlder line own fs) (λ fs done. AllOlder line own fs) es (job_asks job) _ (job_older es job i f) (λ fs j k. k)
   turned es (WriteState.Closing job) i f = allows_then Anything (λ fs j. AllOlder line own fs) (λ fs done. AllOlder line own fs) es (job_asks job) _ (job_older es job i f) (λ fs j k. k)
   turned es _ i f = i
+
+-- a datagram of 0.3 is polled by the first name of its line
+of_first : (op : OpId) (n : ℕ) → op ≡ own_of n → 1 ≤ op.part → ⊥
+of_first op n e l = let first : op.part ≡ 0 = ap (λ (x : OpId). x.part) e in omega (arith, first, l)
+
+pub starts_first : (line : ℕ) (origin : Step) {t : HandleTable} {place : ℕ} {o : OpenUdp} {call : Operation → BesideCall} {op polls : Operation} → walk.StartsDatagram line origin t place o call op polls → polls.who.id ≡ own_of line
+starts_first line origin (walk.StartsSend c s d bound is at known) = refl
+starts_first line origin (walk.StartsReceive c s bound is at known) = refl
+
+pub polls_first : (records : List Record) {n place : ℕ} {o : OpenUdp} {was : BesideCall} {call : Operation → BesideCall} {op polls : Operation} → walk.PollsDatagram place o was call op polls → FitBeside records n was → polls.who.id ≡ own_of n
+polls_first records (walk.PollsSend op) fit = fit.0.of_line
+polls_first records (walk.PollsReceive op) fit = fit.0.of_line
+
+-- and is on the network socket of its record
+pub starts_side : (line : ℕ) (origin : Step) {t : HandleTable} {place : ℕ} {o : OpenUdp} {call : Operation → BesideCall} {op polls : Operation} → walk.StartsDatagram line origin t place o call op polls → polls.who.side ≡ o.inner.side
+starts_side line origin (walk.StartsSend c s d bound is at known) = refl
+starts_side line origin (walk.StartsReceive c s bound is at known) = refl
+
+same_side : (records : List Record) (n place : ℕ) (op : Operation) (o : OpenUdp) → udp2_at records place ≡ Some (UdpRecord.Open o) → DatagramOn records n place op → op.who.side ≡ o.inner.side
+same_side records n place op o g on = let same : on.was ≡ o = (let p : Some (UdpRecord.Open on.was) ≡ Some (UdpRecord.Open o) = sym on.at ∙ g in cc) in on.of_side ∙ ap (λ (x : OpenUdp). x.inner.side) same
+
+pub polls_side : (records : List Record) (n : ℕ) {place : ℕ} {o : OpenUdp} {was : BesideCall} {call : Operation → BesideCall} {op polls : Operation} → walk.PollsDatagram place o was call op polls → FitBeside records n was
+    → (now : OpenUdp) → udp2_at records place ≡ Some (UdpRecord.Open now) → polls.who.side ≡ now.inner.side
+polls_side records n {place} (walk.PollsSend op) fit now g = same_side records n place op now g fit.0
+polls_side records n {place} (walk.PollsReceive op) fit now g = same_side records n place op now g fit.0
 
 module _ (contexts : List WasiSocketsCtx) (line : ℕ) (origin : Step) where
   -- what it rests on
@@ -253,7 +285,7 @@ module _ (contexts : List WasiSocketsCtx) (line : ℕ) (origin : Step) where
   older_asks es h _ _ _ (UdpLearns place part o at g) b i = (tt, λ told f. asked es h.own (walk.part_of line part) (Call.Local o.inner.side) told tt i)
   older_asks es h _ _ _ (UdpDisconnects place o at g is) b i = (tt, λ told f. asked es h.own (own_of line) (Call.UdpDisconnect o.inner.side) told tt i)
   older_asks es h _ _ _ (UdpPeers place o at g) b i = (tt, λ told f. asked es h.own (own_of line) (Call.Peer o.inner.side) told tt i)
-  older_asks es h _ _ _ (UdpCloses place o q g) b i = (tt, λ told f. asked es h.own (own_of line) (Call.Close o.inner.side) told tt i)
+  older_asks es h _ _ _ (UdpCloses place n o q g) b i = (tt, λ told f. asked es h.own (own_of n) (Call.Close o.inner.side) told tt i)
   older_asks es h _ _ _ (UdpBegins face ctx family c may a o m) b i = (tt, λ told f. begun _ h (udp_after_create (own_of line) ctx.name family (told_done told)) (asked es h.own (own_of line) (Call.UdpCreate ctx.name family) told tt i))
   older_asks es h _ _ _ (MarksUdp face place u g) b i = marks es h (udp_side u) (udp_kind face place) None (Some (udp_side u)) i
   older_asks es h _ _ _ (MarksStream place n socket reached kind next new of) b i = marks es h (own_of n) kind (Some socket) (udp_side_at (udp2_at h.machine.store.records place)) i
@@ -261,6 +293,12 @@ module _ (contexts : List WasiSocketsCtx) (line : ℕ) (origin : Step) where
   older_asks es h _ _ _ (UdpGivesUp place create q g) b i = silent line h.own es (create_cancel_asks create) i (λ side. cancelled_silent side ⊤ NoName es create)
   older_asks es h _ _ _ (Resolves host records l same) b i = (tt, λ told f. asked es h.own (own_of line) (Call.Lookup host) told tt i)
   older_asks es h _ _ _ (Looks place op g) b i = (tt, λ told f. asked es h.own op.id (Call.Lookup op.host) told tt i)
+  older_asks es h _ tree _ (BeginsDatagram place o call op polls at g starts m own) b i =
+      allows_weaker Anything (λ fs ended. AllOlder line h.own fs) (λ fs ended. AllOlder line Used fs) (λ fs ended k. all_grow line h.own Used fs (older_used line h.own) k) es tree
+      (polled line h.own polls es i (λ l. absurd (of_first polls.who.id line (starts_first line origin starts) l)))
+  older_asks es h _ _ _ (PollsBeside n call place o make op polls is at g its) b i =
+      let fit = find_has h.machine.store.beside n call at in
+      polled line h.own polls es i (λ l. absurd (of_first polls.who.id call.line (polls_first h.machine.store.records its (b.0.3.besides call fit.0)) l))
   older_asks es h _ _ _ (ResolvesBeside host l) b i = (tt, λ told f. asked es h.own (own_of line) (Call.Lookup host) told tt i)
   older_asks es h _ _ _ (LooksBeside n call host g e) b i = (tt, λ told f. asked es h.own (own_of n) (Call.Lookup host) told tt i)
 

@@ -20,7 +20,7 @@ use Rattle.wasi_causes.proofs.tables.Meets.{Meets, Rows, asks, ends}
 use Rattle.wasi_causes.proofs.tables.Routes.{apart}
 use Rattle.wasi_causes.specs.Lookups.{lookup_entry}
 use Rattle.wasi_causes.specs.Outcomes.{Always, BlockedGoesOn, Outcome}
-use Rattle.wasi_causes.specs.P3Connects.{BesidePolled, GoesOnBeside, IsBeside, IsOver, OverFound, OverUnresolved}
+use Rattle.wasi_causes.specs.P3Connects.{BesidePolled, EndsOver, GoesOnBeside, IsBeside, IsOver, OverFound, OverUnresolved, StaysPending}
 use Rattle.wasi_causes.specs.P3Lookups.{HasFailed, HasNames, LookupPolled, LooksStill}
 
 module _ (contexts : List WasiSocketsCtx) (m : Machine) (line n : ℕ) (other : stands_as m.store.standing n ≡ false)
@@ -43,15 +43,15 @@ module _ (contexts : List WasiSocketsCtx) (m : Machine) (line n : ℕ) (other : 
 
   -- it is over
   over : (es : List Entry) (r : Reply) → IsOver r → LookupPolled m n host es r (call_over m n) → BesidePolled m n es r (call_over m n)
-  over es r ended why = record { handles = refl; exclusive = refl; ends = inr (ended, refl); why = its_why es r (call_over m n) why }
+  over es r ended why = record { handles = refl; exclusive = refl; ends = rw is (EndsOver r (call_over m n) ended refl); why = its_why es r (call_over m n) why }
 
   waits : (es : List Entry) → LookupPolled m n host es (reply.Pending n) m → BesidePolled m n es (reply.Pending n) m
-  waits es why = record { handles = refl; exclusive = refl; ends = inl (refl, refl); why = its_why es (reply.Pending n) m why }
+  waits es why = record { handles = refl; exclusive = refl; ends = rw is (rw call (StaysPending m refl)); why = its_why es (reply.Pending n) m why }
 
   by_told : (t : Told) → IsNames t → GoneRow (lookup_entry (own_of n) host t ∷ []) (resolved_on (with_store m (beside_polled n (names_told (told_names t), m.store))))
   by_told told.Pending fits = (polled_so _ _ m (λ e. cc) (waits _ LooksStill), ((refl, inr (rw is refl)), (inr beside, refl, λ k. refl)))
   by_told (told.Names names) fits =
-      (polled_so _ _ (call_over m n) (λ e. cc) (over _ _ (OverFound (map canonical names)) (HasNames names)), (inr (inr (map canonical names, refl)), inr (beside, rw is (rw call (map canonical names, refl)))))
+      (polled_so _ _ (call_over m n) (λ e. cc) (over _ _ (OverFound (map canonical names)) (HasNames names)), (inr (inr (inl (map canonical names, refl))), inr (beside, rw is (rw call (map canonical names, refl)))))
   by_told (told.Code c) fits = (polled_so _ _ (call_over m n) (λ e. cc) (over _ _ OverUnresolved (HasFailed c)), (inr (inr refl), (inr beside, refl)))
   by_told _ fits = absurd fits
 

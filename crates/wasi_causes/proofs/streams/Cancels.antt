@@ -9,7 +9,7 @@ use Rattle.wasi_causes.proofs.Words.{Item, entry}
 use Rattle.socket_common.specs.Rounds.{is_going}
 use Rattle.wasi_world.specs.declared.call.Told.TheVariants as told
 use Rattle.wasi_walks.specs.Waiting.{HoldsCall, IsCreating}
-use Rattle.wasi_host.specs.Cancel.{cancel_asks, cancel_call, cancel_on, cancel_bind_at, cancel_create_at, cancel_drop_outgoing_at, cancel_listen_at, cancel_udp_bind_at, cancel_udp_connect_at, is_datagram_on, listen_gone, other_than_datagram}
+use Rattle.wasi_host.specs.Cancel.{cancel_asks, cancel_call, cancel_on, cancel_bind_at, cancel_create_at, cancel_drop_outgoing_at, cancel_listen_at, cancel_udp_bind_at, cancel_udp_connect_at, is_datagram_on, listen_gone, other_than_datagram, beside_cancelled, beside_given_up}
 use Rattle.wasi_jobs.specs.declared.job.HostJob.{HostJob}
 use Rattle.wasi_jobs.specs.declared.job.HostJob.TheVariants.{Datagram}
 use Rattle.wasi_records.specs.declared.tcp_listening.Listening.TheVariants as listening
@@ -21,12 +21,19 @@ use Rattle.wasi_machine.specs.Machine.{cancelled_reply}
 use Rattle.wasi_steps.specs.declared.step.Step.TheVariants as step
 use Rattle.wasi_walks.proofs.walks.States.{stands_so as stands_under_it}
 use Rattle.wasi_host.specs.declared.beside.Beside.{Beside}
-use Rattle.wasi_host.specs.Beside.{beside_cancelled, beside_of, stands_under}
+use Rattle.wasi_host.specs.declared.beside.BesideCall.{BesideCall}
+use Rattle.wasi_host.specs.declared.beside.BesideCall.TheVariants as beside
+use Rattle.wasi_host.specs.Beside.{beside_of, stands_under}
 use Rattle.wasi_causes.proofs.Beside.{beside_call, exclusive_call, is_beside, no_call, not_beside, not_both}
 use Rattle.wasi_causes.proofs.Words.{IsSome}
 use Rattle.wasi_walks.specs.Licence.{Has}
 use Rattle.wasi_causes.proofs.Releases.{listening_up}
-use Rattle.wasi_causes.proofs.tables.Meets.{Meets, Rows, asks, branch, ends, onto, told_so, widen}
+use Rattle.wasi_host.specs.SocketDatagrams.{drop_datagram}
+use Rattle.wasi_causes.proofs.HeldUdp.{datagram_over}
+use Rattle.wasi_causes.proofs.Words.{with_store}
+use Rattle.wasi_causes.specs.P3Connects.{BesideCancelled, LeavesBeside}
+use Rattle.wasi_causes.specs.P3Datagrams.{DatagramOver}
+use Rattle.wasi_causes.proofs.tables.Meets.{Meets, Rows, asks, branch, ends, onto, told_so, whatever, widen}
 use Rattle.wasi_causes.proofs.tables.Routes.{Says, apart}
 use Rattle.wasi_causes.specs.Cancelled.{CancelsBy, CreateGivenUp, ListenGivenUp}
 use Rattle.wasi_host.specs.GivingBack.{given_back}
@@ -137,14 +144,28 @@ module _ (contexts : List WasiSocketsCtx) (m : Machine) (line n : ℕ) where
   CancelRow es done = Outcome contexts m line (step.Cancel n) es (cancelled_reply done.0) done.1
 
   -- no exclusive call has the number
-  by_beside : stands_as m.store.standing n ≡ false → (o : Option Beside) → beside_of m.store n ≡ o → CancelRow [] (let done = beside_cancelled m.store n o in (done.0, record m { store = done.1 }))
-  by_beside other None e = let none = no_call m n other e in (((λ same. none, λ k. refl), apart (λ e. cc) (λ k. not_both (stands_under m.store n) k none), λ beside. absurd (let k : IsSome {T = Beside} None = rw e at beside.1 in cc)), (inr tt, (refl, refl)))
+  abbrev GivenUp : BesideCall → Rows (Unit {0} × Records)
+  GivenUp its es done = LeavesBeside m n es (record m { store = done.1 }) its
+
+  -- the socket of a datagram goes with the last that holds it
+  datagram_goes : (place : ℕ) (o : Option OpenUdp) → open_at m.store.records place ≡ o → Meets (λ es done. (q : OpenUdp) → open_at m.store.records place ≡ Some q → DatagramOver m n place q es (record m { store = done.1 })) [] (drop_datagram n place m.store)
+  datagram_goes place None at = widen (λ es done k q there. absurd (cc)) (whatever (drop_datagram n place m.store))
+  datagram_goes place (Some o) at = widen (λ es done k q there. let its : o ≡ q = cc in subst (λ (x : OpenUdp). DatagramOver m n place x es (record m { store = done.1 })) its k) (datagram_over m n place o at)
+
+  gives_up : (its : BesideCall) → Meets (GivenUp its) [] (beside_given_up n m.store its)
+  gives_up (beside.Connect place) = ends (refl, refl)
+  gives_up (beside.Resolve host) = ends (refl, refl)
+  gives_up (beside.Send place op) = datagram_goes place (open_at m.store.records place) refl
+  gives_up (beside.Receive place op) = datagram_goes place (open_at m.store.records place) refl
+
+  by_beside : stands_as m.store.standing n ≡ false → (o : Option Beside) → beside_of m.store n ≡ o → Meets (λ es done. CancelRow es (with_store m done)) [] (beside_cancelled m.store n o)
+  by_beside other None e = let none = no_call m n other e in ends (((λ same. none, λ k. refl), apart (λ e. cc) (λ k. not_both (stands_under m.store n) k none), λ beside. absurd (let k : IsSome {T = Beside} None = rw e at beside.1 in cc)), (inr tt, (refl, refl)))
   by_beside other (Some b) e =
       let on = beside_call m n e in
-      ((apart (λ e. cc) (λ k. not_both (stands_under m.store n) on k), (λ e. on, λ e. refl), λ beside. (refl, refl)), (tt, inr (is_beside m n other e, refl, refl)))
+      onto _ (widen (λ es done k. let up : BesideCancelled m n es (record m { store = done.1 }) = (is_beside m n other e, rw e k) in ((apart (λ e. cc) (λ k. not_both (stands_under m.store n) on k), (λ e. on, λ e. refl), λ beside. up), (tt, inr up))) (gives_up b.call))
 
   by_call : (o : Option Standing) → call_of m.store.standing n ≡ o → Meets CancelRow [] (cancel_call m n o)
-  by_call None e = ends (by_beside (none_so m.store.standing e) (beside_of m.store n) refl)
+  by_call None e = onto _ (by_beside (none_so m.store.standing e) (beside_of m.store n) refl)
   by_call (Some s) e =
       let k = stands_under_it m.store.standing n s e in
       let same : stands_as m.store.standing n ≡ true = ap (λ (o : Option Standing). stands_as o n) k.0 ∙ eq-eqb s.ids.line n k.1 in

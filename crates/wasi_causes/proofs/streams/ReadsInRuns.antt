@@ -26,7 +26,14 @@ use Rattle.wasi_causes.proofs.streams.Read.{ends_by_read}
 use Rattle.wasi_causes.proofs.Beside.{one_of_three}
 use Rattle.wasi_causes.proofs.tables.Steps.{busy_exactly, its_own, while_free}
 use Rattle.wasi_addr.specs.declared.address.IpAddress.TheVariants as ip
-use Rattle.wasi_causes.specs.P3Connects.{IsOver, OverDone, OverFound, OverGone, OverRefused, OverUnresolved}
+use Rattle.wasi_addr.specs.declared.address.IpSocketAddress.{IpSocketAddress}
+use Rattle.wasi_addr.specs.declared.address.IpSocketAddress.TheVariants as address
+use Rattle.wasi_steps.specs.Reply.{address_values}
+use Rattle.wasi_steps.specs.declared.reply.Field.TheVariants as field
+use Rattle.wasi_host.specs.Beside.{beside_of}
+use Rattle.wasi_host.specs.declared.beside.Beside.{Beside}
+use Rattle.wasi_host.specs.declared.beside.BesideCall.{BesideCall}
+use Rattle.wasi_causes.specs.P3Connects.{BesideEnds, EndsOver, IsLost, StaysPending, IsOver, OverDone, OverFound, OverGone, OverRefused, OverReceived, OverUnresolved}
 use Rattle.wasi_causes.specs.Blocking.{EndsByRead, GivesOf}
 use Rattle.wasi_causes.specs.HandedBytes.{HandsOutBytes, LastReadTold}
 use Rattle.wasi_causes.specs.HandedBytes as handed
@@ -182,14 +189,24 @@ module _ (contexts : List WasiSocketsCtx) (steps : List Step) (log : List Entry)
       none_over _ (OverFound (ip.Ipv4 a ∷ addresses)) e = cc
       none_over _ (OverFound (ip.Ipv6 a ∷ addresses)) e = cc
       none_over _ OverUnresolved e = cc
+      none_over _ (OverReceived d) e = by_address d.remote_address e
+        where
+          by_address : (a : IpSocketAddress) → reply.Ok (address_values a ++ field.Bytes d.bytes ∷ []) ≡ reply.Ok (bytes_fields (b ∷ bytes)) → ⊥
+          by_address (address.Ipv4 a) e = cc
+          by_address (address.Ipv6 a) e = cc
 
       none_other : stands_as m.store.standing n ≡ false → ⊥
       none_other other = one_of_three m n (λ on. let off = other in cc) (λ none. let k = row.0.0.1 none in cc)
-          (λ beside. elim (row.0.3 beside).ends [
-            | inl waits ↦ (let k = waits.0 in cc)
-            | inr over ↦ none_over (reply.Ok
-                (bytes_fields (b ∷ bytes))) over.0 refl
-          ])
+          (λ beside. by_beside (beside_of m.store n) (row.0.3 beside).ends)
+        where
+          by_end : {its : BesideCall} {said : Reply} {now : Machine} → BesideEnds m n its said now → said ≡ reply.Ok (bytes_fields (b ∷ bytes)) → ⊥
+          by_end (StaysPending now still) e = cc
+          by_end (EndsOver said now over gone) e = none_over said over e
+          by_end (IsLost none) e = cc
+
+          by_beside : (o : Option Beside) → IsSomeAnd o (λ c. BesideEnds m n c.call (reply.Ok (bytes_fields (b ∷ bytes))) after) → ⊥
+          by_beside None k = k
+          by_beside (Some c) k = by_end k refl
 
       by_stands : (o : Option Standing) → m.store.standing ≡ o → IsSomeAnd o
           (λ s. GivesBy m (bytes_fields (b ∷ bytes)) after s.call) → HandsOutBytes log (own_of n) input (b ∷ bytes) es

@@ -1,6 +1,9 @@
 -- The table of replies on replies that no step gives.
-use Rattle.wasi_causes.proofs.Words.{List, None, ◌≡◌, inl, inr, ℕ, [], ◌∷◌, IpSocketAddress, SocketAddressFamily, NoSuchHandle, HasChildren, Full, NotPermitted, Reply, Step}
+use Rattle.wasi_causes.proofs.Words.{List, None, ◌≡◌, ◌++◌, inl, inr, ℕ, [], ◌∷◌, IpSocketAddress, SocketAddressFamily, NoSuchHandle, HasChildren, Full, NotPermitted, Reply, Step}
 use Rattle.wasi_addr.specs.declared.address.IpAddress.{IpAddress}
+use Rattle.wasi_addr.specs.declared.address.IpSocketAddress.TheVariants as address
+use Rattle.wasi_world.specs.declared.datagram.IncomingDatagram.{IncomingDatagram}
+use Rattle.wasi_steps.specs.Reply.{address_values, received_values}
 use Rattle.wasi_addr.specs.declared.address.IpAddress.TheVariants as ip
 use Rattle.wasi_steps.specs.Reply.{ips_values}
 use Rattle.wasi_steps.specs.declared.reply.CodeWord.TheVariants as word
@@ -35,9 +38,17 @@ no_addresses [] e = cc
 no_addresses (ip.Ipv4 a ∷ addresses) e = cc
 no_addresses (ip.Ipv6 a ∷ addresses) e = cc
 
+-- and so is the first field of a datagram
+no_datagram : (d : IncomingDatagram) → field.True ∷ [] ≡ received_values d → ⊥
+no_datagram d e = by_address d.remote_address e
+  where
+    by_address : (a : IpSocketAddress) → field.True ∷ [] ≡ address_values a ++ field.Bytes d.bytes ∷ [] → ⊥
+    by_address (address.Ipv4 a) e = cc
+    by_address (address.Ipv6 a) e = cc
+
 -- a poll answers for the call that it polls
 of_no_poll : Never 7 (step.Poll 3) (reply.Pending 7) × Never 7 (step.Poll 3) (reply.Ok (field.True ∷ [])) × Never 7 (step.Poll 3) (reply.Trap NotPermitted)
-of_no_poll = (λ h. absurd (let e : 7 ≡ 3 = h in cc), λ h. elim h [ inl g ↦ elim g [ inl k ↦ k | inr k ↦ elim k [ inl j ↦ j.0 | inr j ↦ elim j [ inl i ↦ i.0 | inr i ↦ elim i [ inl l ↦ l.0 | inr l ↦ l ] ] ] ] | inr g ↦ elim g [ inl k ↦ absurd (let e = k.2 in cc) | inr k ↦ no_addresses k.0 k.1 ] ], λ h. elim h [ inl w ↦ w | inr s ↦ s ])
+of_no_poll = (λ h. absurd (let e : 7 ≡ 3 = h in cc), λ h. elim h [ inl g ↦ elim g [ inl k ↦ k | inr k ↦ elim k [ inl j ↦ j.0 | inr j ↦ elim j [ inl i ↦ i.0 | inr i ↦ elim i [ inl l ↦ l.0 | inr l ↦ l ] ] ] ] | inr g ↦ elim g [ inl k ↦ absurd (let e = k.2 in cc) | inr k ↦ elim k [ inl ips ↦ no_addresses ips.0 ips.1 | inr d ↦ no_datagram d.0 d.1 ] ] ], λ h. elim h [ inl w ↦ w | inr s ↦ s ])
 
 -- a cancel is never pending, traps for nothing, gives nothing but that it is done, and ends no stream
 of_no_cancel : (n : ℕ) → Never 7 (step.Cancel 3) (reply.Pending n) × Never 7 (step.Cancel 3) (reply.Trap NoSuchHandle) × Never 7 (step.Cancel 3) (reply.Ok (field.Number n ∷ [])) × Never 7 (step.Cancel 3) reply.Closed

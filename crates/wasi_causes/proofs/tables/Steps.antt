@@ -7,6 +7,7 @@ use Rattle.wasi_causes.proofs.sockets.Makes.{network, create, finish_connect_row
 use Rattle.wasi_causes.proofs.sockets.Questions.{get, set, local_address_row, remote_address_row, is_listens, family}
 use Rattle.wasi_causes.proofs.sockets.P3Binds.{p3_tcp_bind, p3_udp_bind}
 use Rattle.wasi_causes.proofs.sockets.P3UdpConnects.{p3_udp_connect}
+use Rattle.wasi_causes.proofs.sockets.P3Datagrams.{p3_udp_receive, p3_udp_send}
 use Rattle.wasi_causes.proofs.sockets.P3Listens.{p3_tcp_listen}
 use Rattle.wasi_causes.proofs.sockets.P3Accepts.{p3_accept}
 use Rattle.wasi_causes.proofs.sockets.P3Ends.{p3_receive, p3_send}
@@ -129,6 +130,8 @@ module _ (contexts : List WasiSocketsCtx) (m : Machine) (line : ℕ) where
   rows (step.Call c (guest.P3Write h bytes)) = p3_write contexts m line c h bytes
   rows (step.Call c (guest.P3Result h)) = p3_result contexts m line c h
   rows (step.Call c (guest.P3UdpConnect s a)) = p3_udp_connect contexts m line c s a
+  rows (step.Call c (guest.P3UdpSend s d)) = p3_udp_send contexts m line c s d
+  rows (step.Call c (guest.P3UdpReceive s)) = p3_udp_receive contexts m line c s
   rows (step.Call c (guest.P3UdpDisconnect s)) = p3_udp_disconnect contexts m line c s
   rows (step.Call c (guest.P3UdpLocalAddress s)) = p3_udp_local_address contexts m line c s
   rows (step.Call c (guest.P3UdpRemoteAddress s)) = p3_udp_remote_address contexts m line c s
@@ -233,6 +236,8 @@ waits m line n (step.Call ctx (guest.P3UdpCreate _)) h = h
 waits m line n (step.Call ctx (guest.P3UdpBind _ _)) h = h
 waits m line n (step.Call ctx (guest.P3UdpConnect _ _)) h = h
 waits m line n (step.Call ctx (guest.P3TcpListen _)) h = h
+waits m line n (step.Call ctx (guest.P3UdpSend _ _)) h = h
+waits m line n (step.Call ctx (guest.P3UdpReceive _)) h = h
 waits m line n (step.Call ctx (guest.P3Resolve _)) h = h
 waits m line n (step.Call ctx (guest.UdpStartBind socket _ a)) h = h
 waits m line n (step.Call ctx (guest.UdpStream socket remote)) h = h
@@ -252,6 +257,8 @@ waits m line n _ h = absurd h
 pub pends_under : (s : Step) (n : ℕ) (after : Machine) → PendsUnder s n after → IsSomeAnd after.store.standing (λ call. call.ids.line ≡ n) ⊎ IsSome (beside_of after.store n)
 pends_under (step.Call c (guest.P3TcpConnect socket a)) n after h = inr h
 pends_under (step.Call c (guest.P3Resolve name)) n after h = inr h
+pends_under (step.Call c (guest.P3UdpSend socket d)) n after h = inr h
+pends_under (step.Call c (guest.P3UdpReceive socket)) n after h = inr h
 pends_under (step.Poll k) n after h = h
 pends_under _ n after h = inl h
 

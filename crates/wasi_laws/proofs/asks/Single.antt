@@ -12,9 +12,12 @@ use Rattle.wasi_tcp.specs.Halves.{write_asks}
 use Rattle.wasi_tcp.specs.declared.halves.TcpSendStream.{TcpSendStream}
 use Rattle.wasi_walks.proofs.claims.Law.{begins_on_names}
 use Rattle.wasi_walks.proofs.walks.Runs.{each_entry}
+use Rattle.wasi_walks.proofs.Words.{allows_at, is_trap}
+use Rattle.std.specs.Prelude.{slice_get, suc}
+use Rattle.std.proofs.Common.{arith}
 use Rattle.wasi_laws.proofs.Words.{made_to, false, ErrorValue, BeginsWrites, Accepts, Allows, Asks, Base, BaseBetween, Begins, Call, End, Entry, Err, ErrorCode, FitListening, Found, HandleTable, Held, Here, HoldsAccept, IpSocketAddress, IsAcceptOn, IsDoneOrCode, Item, Job, Kind, Law, Left, List, Listener, Machine, Made, Move, None, Not, Ok, OpId, Operation, Option, Over, Own, Reply, Result, Socket, SocketAddressFamily, Some, Spends, Starts, Step, Streams, Tcp2, TcpRecord, Told, Unused, Used, Walks, WasiSocketsCtx, WriteState, [], after_create, allows_if, allows_then, allows_weaker, ap, base_over, base_starts, bind, closed_record, entry, first_base, first_state, job_after, length, machine_asks, machine_walks, made_so, make_asks, may_while, new_asks, new_socket, on_along, on_names, own_of, poll_asks, put, refl, run, side_at, side_in, side_of, socket_of, subst, sym, told_addr, told_done, told_same, true, with_listening, with_writer, ℕ, ◌++◌, ◌+◌, ◌∙◌, ◌∷◌, ◌≡◌}
 use Rattle.wasi_walks.proofs.walks.Asked.{Asked, Questions, SetsBacklog, Learns, Closes, UdpQuestions, UdpDisconnects, UdpLearns, UdpPeers, UdpCloses, UdpBegins, Resolves, Looks, MarksOne, MarksAccepted, MarksListener, MarksPlain, MarksResult, WritesOnce, MarksUdp, MarksStream, MarksError, AsksCreate, Polls, Turns, GivesUp, UdpGivesUp}
-use Rattle.wasi_walks.proofs.walks.Asked.{ResolvesBeside, LooksBeside}
+use Rattle.wasi_walks.proofs.walks.Asked.{ResolvesBeside, LooksBeside, BeginsDatagram, PollsBeside}
 use Rattle.wasi_walks.proofs.walks.Layers.{begins_layer, layer}
 use Rattle.wasi_walks.proofs.walks.OfState.{begins_state, creating, of_state}
 use Rattle.wasi_laws.proofs.Words.{BeginsIn, Rests}
@@ -26,7 +29,12 @@ use Rattle.wasi_laws.proofs.asks.Trees.{GoesOn, Undoes, Then, makes_by, turns_by
 use Rattle.wasi_laws.proofs.shapes.Shape.{ListenerShape, on_socket, Same, SocketsStay, sockets_stay, UdpLives}
 use Rattle.wasi_laws.proofs.shapes.Law.{Shaped, shapes}
 use Rattle.wasi_records.specs.Records.{tcp2_at, udp2_at}
+use Rattle.wasi_host.specs.Beside.{beside_as, beside_of}
+use Rattle.wasi_host.specs.Resolves.{begun_lookup}
 use Rattle.wasi_host.specs.declared.beside.Beside.{Beside}
+use Rattle.wasi_host.specs.declared.beside.BesideCall.{BesideCall}
+use Rattle.wasi_host.specs.declared.beside.BesideCall.TheVariants.{Resolve}
+use Rattle.wasi_world.specs.Typed.{told_names}
 use Rattle.wasi_host.specs.Kinds.{udp_kind}
 use Rattle.wasi_records.specs.declared.records.Record.{Record}
 use Rattle.wasi_records.specs.declared.udp.OpenUdp.{OpenUdp}
@@ -37,7 +45,7 @@ use Rattle.wasi_udp.specs.Create.{Create, create_cancel_asks, new_create, after_
 use Rattle.wasi_udp.specs.Shape.{Socket as UdpShape}
 use Rattle.wasi_udp.specs.Socket.{after_local as udp_after_local, after_peer}
 use Rattle.wasi_walks.proofs.fits.UdpFits.{learnt_side}
-use Rattle.wasi_walks.proofs.walks.Moves.{Interface, tcp_kind, Past, ToSend, put_udp, FoundUdp, part_of, udp_begun, with_beside, with_records}
+use Rattle.wasi_walks.proofs.walks.Moves.{PollsDatagram, StartsDatagram, datagram_begun, datagram_polled, Interface, tcp_kind, Past, ToSend, put_udp, FoundUdp, part_of, udp_begun, with_beside, with_records}
 
 -- a close of this network socket leaves the record so
 pub data Closing (r : TcpRecord) : TcpRecord → OpId → Type 0 where
@@ -72,10 +80,15 @@ module _ (contexts : List WasiSocketsCtx) (line : ℕ) (origin : Step) where
     pub udp_closes : (es : List Entry) (h : Here) (place : ℕ) (u : UdpRecord) (op : OpId) → FoundUdp h place u → UdpLives u → Grounds h → Inv es h → Then P (λ fs. Inv fs (put_udp h place (UdpRecord.Closed (udp_side u)))) es op (call.Close (udp_side u))
     -- a lookup changes: other records, with the same sockets among them
     pub lookups : (es : List Entry) (h : Here) (records : List Record) → SocketsStay h.machine.store.records records → Inv es h → Inv es (with_records h records)
-    -- other calls stand beside others
-    pub beside : (es : List Entry) (h : Here) (calls : List Beside) → Inv es h → Inv es (with_beside h calls)
+    -- a lookup stands beside others, or is answered
+    pub stands : (es : List Entry) (h : Here) (host : List ℕ) (told : Told) → Inv es h → Inv es (with_beside h (begun_lookup h.machine.store.beside (beside_as line (Resolve host)) (Ok (told_names told))))
     -- what is in progress: an operation, and a write
     pub polls : (es : List Entry) (h : Here) (op : Operation) (after : End × List Item → Here) → Held h op after → Grounds h → Inv es h → Allows P (λ fs ended. Inv fs (after ended)) es (poll_asks op)
+    -- a datagram of 0.3 begins; it is polled again
+    pub datagrams : (es : List Entry) (h : Here) (place : ℕ) (o : OpenUdp) (call : Operation → BesideCall) (op polled : Operation) → h.at ≡ Some (place, line) → FoundUdp h place (UdpRecord.Open o) → StartsDatagram line origin h.machine.table place o call op polled → h.own ≡ Unused → Grounds h → Inv es h
+        → Allows P (λ fs ended. Inv fs (record (with_beside h (datagram_begun h.machine.store.beside line call op ended)) { own = Used })) es (poll_asks polled)
+    pub repolls : (es : List Entry) (h : Here) (n : ℕ) (b : Beside) (place : ℕ) (o : OpenUdp) (call : Operation → BesideCall) (op polled : Operation) → origin ≡ Step.Poll n → beside_of h.machine.store n ≡ Some b → FoundUdp h place (UdpRecord.Open o) → PollsDatagram place o b.call call op polled → Grounds h → Inv es h
+        → Allows P (λ fs ended. Inv fs (with_beside h (datagram_polled h.machine.store.beside n call op ended))) es (poll_asks polled)
     pub turns : (es : List Entry) (h : Here) (place : ℕ) (r : TcpRecord) (s : Streams) (job : Job) (now : Job → WriteState) → Found h place r → r.streams ≡ Some s → GoesOn s.writer job now → Grounds h → Inv es h
         → Allows P (λ fs ended. Inv fs (put h place (with_writer r s (now (job_after job.write.who ended))))) es (poll_asks job.write)
     -- a write of 0.3, which offers its bytes once
@@ -170,11 +183,11 @@ module _ (contexts : List WasiSocketsCtx) (line : ℕ) (origin : Step) where
     single_asks es h _ _ _ (UdpLearns place part o at g) b i = let x = udp_told es h place o (part_of line part) (call.Local o.inner.side) (λ told. (udp_after_local o.inner (told_addr told)).1) (record { calm = refl; quiet = tt; on = refl }) (λ told. learnt_side o.inner (told_addr told)) g b i in (x.0, λ told f. x.1 told)
     single_asks es h _ _ _ (UdpDisconnects place o at g is) b i = let x = udp_told es h place o (own_of line) (call.UdpDisconnect o.inner.side) (λ told. let now : UdpShape = record o.inner { bound = true } in now) (record { calm = refl; quiet = tt; on = refl }) (λ told. refl) g b i in (x.0, λ told f. x.1 told)
     single_asks es h _ _ _ (UdpPeers place o at g) b i = let x = udp_told es h place o (own_of line) (call.Peer o.inner.side) (λ told. after_peer o.inner (told_addr told)) (record { calm = refl; quiet = tt; on = refl }) (λ told. refl) g b i in (x.0, λ told f. x.1 told)
-    single_asks es h _ _ _ (UdpCloses place o q g) b i = let x = a.udp_closes es h place (UdpRecord.Open o) (own_of line) g tt b i in (x.0, λ told f. x.1 told)
+    single_asks es h _ _ _ (UdpCloses place n o q g) b i = let x = a.udp_closes es h place (UdpRecord.Open o) (own_of n) g tt b i in (x.0, λ told f. x.1 told)
     single_asks es h _ _ _ (UdpBegins face ctx family c may at u m) b i = ((a.asks es h (own_of line) (call.UdpCreate ctx.name family) refl (OnNone refl) i).0, λ told f. udp_created es h ctx family u b i told f)
     single_asks es h _ _ _ (Resolves host records l s) b i = let x = a.asks es h (own_of line) (call.Lookup host) refl (OnNone refl) i in (x.0, λ told f. a.lookups _ h (records told) (sockets_stay (s told)) (x.1 told))
     single_asks es h _ _ _ (Looks place op g) b i = let x = a.asks es h op.id (call.Lookup op.host) refl (OnNone refl) i in (x.0, λ told f. x.1 told)
-    single_asks es h _ _ _ (ResolvesBeside host l) b i = let x = a.asks es h (own_of line) (call.Lookup host) refl (OnNone refl) i in (x.0, λ told f. a.beside _ h _ (x.1 told))
+    single_asks es h _ _ _ (ResolvesBeside host l) b i = let x = a.asks es h (own_of line) (call.Lookup host) refl (OnNone refl) i in (x.0, λ told f. a.stands _ h host told (x.1 told))
     single_asks es h _ _ _ (LooksBeside n b host g e) c i = let x = a.asks es h (own_of n) (call.Lookup host) refl (OnNone refl) i in (x.0, λ told f. x.1 told)
     single_asks es h _ _ _ (MarksOne kind parent sock m) b i = made_by es h (own_of line) kind parent sock (λ made. h.made) i
     single_asks es h _ _ _ (MarksAccepted c listener place r is e o g) b i = made_by es h (own_of line) (Tcp2 place) (Some listener) (side_at (tcp2_at h.machine.store.records place)) (λ made. made_so place made.0) i
@@ -187,6 +200,8 @@ module _ (contexts : List WasiSocketsCtx) (line : ℕ) (origin : Step) where
     single_asks es h _ _ _ (MarksError n handle place handles m k e f) b i = made_by es h (own_of n) ErrorValue (Some handle) (side_at (tcp2_at h.machine.store.records place)) (λ made. h.made) i
     single_asks es h _ _ _ (AsksCreate tells fails face ctx family c at u m) b i = allows_then P (Created h ctx family) (λ fs done. Inv fs (record h { machine = done.1; own = Used })) es (new_asks (own_of line) ctx family) (made_to tells fails (tcp_kind face) h.machine (own_of line)) (created es h ctx family u b i) (λ fs made k. joins tells fails face fs h ctx family made u k b)
     single_asks es h _ _ _ (Polls op after k) b i = a.polls es h op after k b i
+    single_asks es h _ _ _ (BeginsDatagram place o call op polled at g starts m own) b i = a.datagrams es h place o call op polled at g starts own b i
+    single_asks es h _ _ _ (PollsBeside n call place o make op polled is at g polls) b i = a.repolls es h n call place o make op polled is at g polls b i
     single_asks es h _ _ _ (Turns place r s g e) b i = turns_by P (λ fs w. Inv fs (put h place (with_writer r s w))) es s.writer (a.same es h place r (with_writer r s s.writer) g (record { side = refl; streams = sym e; listening = refl; does = refl; doing = refl }) i) (λ job now on. a.turns es h place r s job now g e on b i)
     single_asks es h _ _ _ (GivesUp place r q goes g) b i = gives_up_by P (λ fs. Inv fs (put h place (with_listening r Not))) es (a.stops es h place r g i) r.inner.state r.listening (b.1 place r g).1 (λ op c u. undoes es h place r op c g u b i)
     single_asks es h _ _ _ (UdpGivesUp place create q g) b i = udp_gone es h place create g b i
@@ -225,3 +240,31 @@ module _ (contexts : List WasiSocketsCtx) {P : List Entry → OpId → Call → 
 
     pub each_ask : Inv 1 [] (Starts first_state Unused) → (steps : List Step) (log : List Entry) (rest : Asks (List Reply × Machine)) → Left (run contexts [] first_state 1 steps) log rest → (before : List Entry) (e : Entry) (after : List Entry) → log ≡ before ++ e ∷ after → P before e.op e.call
     each_ask first steps log rest w before e after cut = each_entry contexts P Between line_kept (record { base = first_base; shaped = λ place r e. absurd (cc); kept = first }) steps log rest w before e after cut
+
+-- The same, where the law of a line may rest on what its step meets.
+module _ (contexts : List WasiSocketsCtx) {P : List Entry → OpId → Call → Type 0} (Inv : ℕ → List Entry → Here → Type 0) (Meets : ℕ → Step → Type 0) (law : (line : ℕ) (origin : Step) → Meets line origin → Single contexts line origin P (Inv line)) (writes : (line : ℕ) (origin : Step) → KeepsWrites contexts line origin (Inv line)) where
+  -- Before the line of this number.
+  record BetweenMet (line : ℕ) (es : List Entry) (m : Machine) : Type 0 where
+    pub base : BaseBetween line m
+    pub shaped : Shaped (Over m)
+    pub kept : Inv line es (Starts m Unused)
+
+  abbrev KeepsMet : List Entry → List Reply × Machine → Type 0
+  KeepsMet es done = (line : ℕ) × BetweenMet line es done.1
+
+  module _ (starts : (line : ℕ) (es : List Entry) (m : Machine) (own : Own) → GivesLater own → Inv line es (Starts m Unused) → Inv line es (Starts m own)) (next : (line : ℕ) (es : List Entry) (m : Machine) → Inv line es (Over m) → Inv (line + 1) es (Starts m Unused)) where
+    met_kept : (line : ℕ) (s : Step) → Meets line s → (m : Machine) (es : List Entry) → BetweenMet line es m → Allows P (λ fs done. BetweenMet (line + 1) fs done.1) es (machine_asks contexts m line s)
+    met_kept line s met m es i =
+        let own = may_while m s m.store.standing in
+        allows_weaker P _ (λ fs done. BetweenMet (line + 1) fs done.1) (λ fs done k. record { base = base_over contexts line s done.1 k.0; shaped = k.1.0; kept = next line fs done.1 k.1.1 }) es (machine_asks contexts m line s)
+        (single_along contexts line s (law line s met) (machine_walks line s (single_begins contexts line s (law line s met) (writes line s)) m m.store.standing refl) es (base_starts contexts line s m own i.base) i.shaped (starts line es m own (may_later m s m.store.standing) i.kept))
+
+    run_met : (replies : List Reply) (line : ℕ) (todo : List Step) (m : Machine) (es : List Entry) → ((i : ℕ) (s : Step) → slice_get todo i ≡ Some s → Meets (line + i) s) → BetweenMet line es m → Allows P KeepsMet es (run contexts replies m line todo)
+    run_met replies line [] m es met i = (line, i)
+    run_met replies line (s ∷ todo) m es met i =
+        allows_then P (λ fs done. BetweenMet (line + 1) fs done.1) KeepsMet es (machine_asks contexts m line s) _ (met_kept line s (subst (λ (n : ℕ). Meets n s) (let z : line + 0 ≡ line = omega arith in z) (met 0 s refl)) m es i)
+        (λ fs done k. allows_if P KeepsMet fs (is_trap done.0) _ _ (λ trap. (line + 1, k)) (λ on. run_met (replies ++ done.0 ∷ []) (line + 1) todo done.1 fs (λ j x e. subst (λ (n : ℕ). Meets n x) (let z : line + suc j ≡ (line + 1) + j = omega arith in z) (met (suc j) x e)) k))
+
+    pub each_met : Inv 1 [] (Starts first_state Unused) → (steps : List Step) → ((i : ℕ) (s : Step) → slice_get steps i ≡ Some s → Meets (1 + i) s) → (log : List Entry) (rest : Asks (List Reply × Machine)) → Left (run contexts [] first_state 1 steps) log rest → (before : List Entry) (e : Entry) (after : List Entry) → log ≡ before ++ e ∷ after → P before e.op e.call
+    each_met first steps met log rest w before e after cut =
+        allows_at P KeepsMet [] (run contexts [] first_state 1 steps) rest before e after (run_met [] 1 steps first_state [] met (record { base = first_base; shaped = λ place r e. absurd (cc); kept = first })) (subst (λ (es : List Entry). Left (run contexts [] first_state 1 steps) es rest) cut w)

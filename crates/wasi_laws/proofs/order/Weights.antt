@@ -14,13 +14,19 @@ use Rattle.wasi_records.specs.declared.tcp_binding.InProgress.{InProgress}
 use Rattle.wasi_records.specs.declared.tcp_binding.InProgress.TheVariants as progress
 use Rattle.wasi_addr.specs.declared.address.SocketAddressFamily.{SocketAddressFamily}
 use Rattle.wasi_addr.specs.declared.code.ErrorCode.{ErrorCode}
+use Rattle.wasi_host.specs.declared.beside.Beside.{Beside as BesideOthers}
+use Rattle.wasi_host.specs.declared.beside.BesideCall.{BesideCall}
+use Rattle.wasi_host.specs.declared.beside.BesideCall.TheVariants as beside_call
+use Rattle.wasi_host.specs.Beside.{beside_in, beside_with, beside_without}
+use Rattle.wasi_walks.proofs.BesideLists.{replaced, with_replaced}
+use Rattle.std.specs.Prelude.{not, ◌==◌}
 use Rattle.wasi_udp.specs.Connect.{connect_first, connect_left}
 use Rattle.wasi_udp.specs.Receive as receive
 use Rattle.wasi_udp.specs.Receive.{receive_first, wanted_in}
 use Rattle.wasi_udp.specs.Send.{send_first, send_left}
 use Rattle.wasi_udp.specs.declared.send.Destination.{Destination}
 use Rattle.wasi_walks.proofs.walks.Moves.{receiving_in, sending_in}
-use Rattle.wasi_laws.proofs.Words.{Accept, Accepting, Bind, Bool, Check, CheckArrival, CheckLocal, CheckPeer, Connect, Err, Here, IpSocketAddress, Item, List, Listen, Listening, None, Ok, OpId, Operation, Option, Receive, Refuse, Result, Some, TcpRecord, TcpState, [], ap, arith, false, refl, suc, sym, true, zero, ℕ, ◌+◌, ◌∙◌, ◌∷◌, ◌≡◌, ◌≤◌}
+use Rattle.wasi_laws.proofs.Words.{Accept, Accepting, Bind, Bool, Check, CheckArrival, CheckLocal, CheckPeer, Connect, Err, Here, IpSocketAddress, Item, List, Listen, Listening, None, Ok, OpId, Operation, Option, Receive, Refuse, Result, Some, TcpRecord, TcpState, [], ap, arith, false, refl, suc, sym, true, zero, ℕ, ◌+◌, ◌∙◌, ◌∷◌, ◌++◌, if◌then◌else◌, ◌≡◌, ◌≤◌}
 
 -- == the checks that are left
 -- what an item is to the checks of an operation: one, what they come before, or nothing
@@ -135,6 +141,16 @@ udp_progress_ops _ = []
 abbrev pub op_in : Option Operation → List Operation
 op_in (Some op) = op ∷ []
 op_in None = []
+
+-- a datagram of 0.3, which its call keeps
+abbrev pub call_ops : BesideCall → List Operation
+call_ops (beside_call.Send place op) = op ∷ []
+call_ops (beside_call.Receive place op) = op ∷ []
+call_ops _ = []
+
+abbrev in_call : BesideCall → Option BesideOthers → BesideCall
+in_call call None = call
+in_call call (Some b) = b.call
 
 module _ (ours : OpId → Bool) where
   abbrev pub total : List Operation → Bool → ℕ
@@ -257,6 +273,62 @@ module _ (ours : OpId → Bool) where
         now = λ q i. (let e = k.now q i in omega (arith, e));
       }
 
+  -- == calls beside others
+  abbrev pub calls_weight : List BesideOthers → Bool → ℕ
+  calls_weight [] i = 0
+  calls_weight (b ∷ calls) i = total (call_ops b.call) i + calls_weight calls i
+
+  pub half_calls : (calls : List BesideOthers) → calls_weight calls true ≤ calls_weight calls false + calls_weight calls false
+  half_calls [] = omega arith
+  half_calls (b ∷ calls) = let a = half (call_ops b.call) in let k = half_calls calls in omega (arith, a, k)
+
+  pub calls_push : (calls : List BesideOthers) (b : BesideOthers) (i : Bool) → calls_weight (calls ++ b ∷ []) i ≡ calls_weight calls i + total (call_ops b.call) i
+  calls_push [] b i = omega arith
+  calls_push (x ∷ calls) b i = let k = calls_push calls b i in omega (arith, k)
+
+  -- those but one weigh no more
+  pub calls_fewer : (calls : List BesideOthers) (n : ℕ) (i : Bool) → calls_weight (beside_without calls n) i ≤ calls_weight calls i
+  calls_fewer [] n i = omega arith
+  calls_fewer (x ∷ calls) n i = by_line (x.line == n) (calls_fewer calls n i)
+    where
+      by_line : (same : Bool) → calls_weight (beside_without calls n) i ≤ calls_weight calls i → calls_weight (if not same then x ∷ beside_without calls n else beside_without calls n) i ≤ total (call_ops x.call) i + calls_weight calls i
+      by_line true k = omega (arith, k)
+      by_line false k = omega (arith, k)
+
+  -- The calls but that of a number, which weighs so much wherever it changes.
+  pub record CallAt (calls : List BesideOthers) (n : ℕ) (b : BesideOthers) : Type 0 where
+    pub others : Bool → ℕ
+    pub halved : others true ≤ others false + others false
+    pub was : (i : Bool) → calls_weight calls i ≡ others i + total (call_ops b.call) i
+    pub put : (call : BesideCall) (i : Bool) → calls_weight (replaced calls n call) i ≡ others i + total (call_ops call) i
+    pub gone : (i : Bool) → calls_weight (beside_without calls n) i ≤ others i
+
+  pub call_at : (calls : List BesideOthers) (n : ℕ) (b : BesideOthers) → beside_in calls n ≡ Some b → CallAt calls n b
+  unfolding replaced
+  call_at [] n b e = absurd (cc)
+  call_at (x ∷ calls) n b e = by_line (x.line == n) refl e (λ q. call_at calls n b q)
+    where
+      by_line : (same : Bool) → (x.line == n) ≡ same → (if same then Some x else beside_in calls n) ≡ Some b → (beside_in calls n ≡ Some b → CallAt calls n b) → CallAt (x ∷ calls) n b
+      by_line true s q k = record {
+        others = λ i. calls_weight calls i;
+        halved = half_calls calls;
+        was = λ i. (let z : total (call_ops x.call) i ≡ total (call_ops b.call) i = ap (λ (o : Option BesideOthers). total (call_ops (in_call x.call o)) i) q in omega (arith, z));
+        put = λ call i. rw s (omega arith);
+        gone = λ i. (let l = calls_fewer calls n i in rw s (omega (arith, l)));
+      }
+      by_line false s q k =
+          let c = k q in
+          record {
+            others = λ i. total (call_ops x.call) i + c.others i;
+            halved = (let a = half (call_ops x.call) in let h = c.halved in omega (arith, a, h));
+            was = λ i. (let w = c.was i in omega (arith, w));
+            put = λ call i. (let w = c.put call i in rw s (omega (arith, w)));
+            gone = λ i. (let w = c.gone i in rw s (omega (arith, w)));
+          }
+
+  pub with_weighs : (calls : List BesideOthers) (n : ℕ) (b : BesideOthers) (at : CallAt calls n b) (call : BesideCall) (i : Bool) → calls_weight (beside_with calls n call) i ≡ at.others i + total (call_ops call) i
+  with_weighs calls n b at call i = rw (with_replaced calls n call) (at.put call i)
+
   -- what a line weighs
   abbrev pub weight : Here → Bool → ℕ
-  weight h i = sockets_weight h.machine.store.records i
+  weight h i = sockets_weight h.machine.store.records i + calls_weight h.machine.store.beside i

@@ -136,7 +136,7 @@ module _ (contexts : List WasiSocketsCtx) (side : OpId) (line : ℕ) (origin : S
     to_write : (given : List ℕ) (es : List Entry) (at : Option (ℕ × ℕ)) (m : Machine) (where_to : OpId) (bytes : List ℕ) → So contexts side line origin n handles given es at m → Holds contexts side line origin (given ++ let_own side (ToWrite where_to bytes)) es (Calling n handles at (ToWrite where_to bytes) m)
     to_write given es at m where_to bytes i =
         let f = i.0.0 in let k = i.0.1 in let p = i.1.1 in (
-          (record { records = f.records; udps = f.udps; stands = f.stands }, record { one = k.one; apart = k.apart; older = k.older; named = k.named; held = k.held; udps = record { one = k.udps.one; apart = k.udps.apart; older = k.udps.older } }, (i.0.2.0, tt, i.0.2.2)),
+          (record { records = f.records; udps = f.udps; stands = f.stands }, record { one = k.one; apart = k.apart; older = k.older; named = k.named; held = k.held; udps = record { one = k.udps.one; apart = k.udps.apart; older = k.udps.older } }, (i.0.2.0, tt, i.0.2.2), i.0.3),
           (i.1.0, record { held = given; stands = agrees_over side (taken_in side es) given m.store.records (spent_own side line Used (ToWrite where_to bytes) m.store.records (λ x o. o)) (subst (λ (held : List ℕ). Agreeing side (IsSpent side line (Over m)) (taken_in side es) held m.store.records) p.owes p.stands); owes = refl }),
         )
 

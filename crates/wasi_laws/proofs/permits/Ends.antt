@@ -35,6 +35,8 @@ use Rattle.wasi_host.specs.declared.machine.Machine.{Machine}
 use Rattle.wasi_host.specs.Block.{after_call, give as ends_with, last, or_trap}
 use Rattle.wasi_host.specs.EndPolls.{ends_by, looked, write_end, write_of, write_open, write_told}
 use Rattle.wasi_host.specs.BaseStops.{BaseStop, renamed}
+use Rattle.wasi_walks.proofs.fits.Datagrams.{at_kept}
+use Rattle.wasi_walks.proofs.fits.DatagramFacts.{tcp_held}
 use Rattle.wasi_host.specs.Lines.{same_stop, storing}
 use Rattle.wasi_addr.specs.Code.{p3_of_code}
 use Rattle.wasi_host.specs.Machine.{send3_at}
@@ -134,6 +136,7 @@ module _ (contexts : List WasiSocketsCtx) (side : OpId) (line : ℕ) (s : Step) 
           record { records = f.records; udps = f.udps; stands = f.stands },
           record { one = n.one; apart = n.apart; older = n.older; named = n.named; held = n.held; udps = record { one = n.udps.one; apart = n.udps.apart; older = n.udps.older } },
           spent.0.2,
+          at_kept m.store.records place line (tcp_held m.store.records place r g) spent.0.3,
         )
 
     looks : (half : TcpSendStream) → WritesBy r half → Along (λ gs. []) (write_open (own_of line) true [] slot place (Some half) m.store)

@@ -15,7 +15,19 @@ use Rattle.wasi_tcp.specs.Connect as connect
 use Rattle.wasi_tcp.specs.Listen as listen
 use Rattle.wasi_udp.specs.Bind as udp
 use Rattle.wasi_udp.specs.Create.{new_create}
-use Rattle.wasi_udp.specs.Receive.{wanted_in}
+use Rattle.wasi_udp.specs.Receive as receive
+use Rattle.wasi_udp.specs.Receive.{receive_start, wanted_in, wanting}
+use Rattle.wasi_udp.specs.Send as send
+use Rattle.wasi_udp.specs.Send.{send_first, send_left, send_to}
+use Rattle.wasi_udp.specs.declared.send.Destination.{Destination}
+use Rattle.wasi_records.specs.declared.udp.OpenUdp.{OpenUdp}
+use Rattle.wasi_host.specs.Beside.{beside_of}
+use Rattle.wasi_host.specs.declared.beside.Beside.{Beside}
+use Rattle.wasi_host.specs.declared.beside.BesideCall.{BesideCall}
+use Rattle.wasi_walks.proofs.BesideLists.{found_has}
+use Rattle.wasi_addr.specs.declared.address.SocketAddressFamily.{SocketAddressFamily}
+use Rattle.wasi_laws.proofs.Words.{Err, ErrorCode, HandleTable, Result}
+use Rattle.wasi_walks.proofs.fits.Datagrams.{Datagrams, FitBeside}
 use Rattle.wasi_records.specs.declared.udp.UdpRecord.{UdpRecord}
 use Rattle.wasi_records.specs.Udp.{udp_create_left, udp_side}
 use Rattle.wasi_walks.proofs.walks.Moves.{JoinsFault, JoinsPlain, faulted, joined_plain}
@@ -23,7 +35,7 @@ use Rattle.wasi_walks.proofs.claims.Polls.{send_plain, receive_plain, udp_connec
 use Rattle.wasi_walks.proofs.fits.DatagramPolls.{wanted_left}
 use Rattle.wasi_walks.proofs.fits.Records.{FitConnecting, FitUdpProgress, ReceiveOn, SendOn, UdpBindOn, UdpConnectOn}
 use Rattle.wasi_walks.proofs.fits.UdpFits.{receives_on, sends_on}
-use Rattle.wasi_walks.proofs.walks.Moves.{CancelsBind, EndsConnect, RecallsConnect, RecallsStreams, CancelsUdpBind, CancelsUdpConnect, Names, put_udp, with_records, Finds, FoundUdp, UdpChanges, BeginsUdpBind, BeginsUdpConnect, Counts, SpendsNames, BeginsSend, BeginsReceive, UdpCreates, UdpBindsOn, UdpConnectsOn, UdpReconnectsOn, SendsOn, ReceivesOn}
+use Rattle.wasi_walks.proofs.walks.Moves.{CancelsBind, EndsConnect, RecallsConnect, RecallsStreams, CancelsUdpBind, CancelsUdpConnect, DropsUdp, StartsDatagram, StartsSend, StartsReceive, PollsDatagram, PollsSend, PollsReceive, with_beside, Names, put_udp, with_records, Finds, FoundUdp, UdpChanges, BeginsUdpBind, BeginsUdpConnect, Counts, SpendsNames, BeginsSend, BeginsReceive, UdpCreates, UdpBindsOn, UdpConnectsOn, UdpReconnectsOn, SendsOn, ReceivesOn}
 use Rattle.wasi_walks.specs.Waiting.{IsLeftOfBind}
 use Rattle.wasi_walks.specs.Waiting as binding
 use Rattle.wasi_laws.proofs.Words.{Allows, ArePlain, Asks, Awaits, Begins, BeginsAccept, BeginsBind, BeginsConnect, BeginsListen, BeginsWrite, BindsOn, Bool, Call, Changes, ClosesReader, Connects, Done, End, Entry, Fit, FitListening, FitProgress, Forgets, Found, Held, Here, HoldsAccept, HoldsConnect, IsAcceptOn, IsConnect, IsFrontOf, IsGone, IsLeftOfConnect, IsLeftOfListen, IsListen, Item, Job, Joins, List, Listens, Move, Named, NoWrite, None, Not, OpId, Opens, Operation, Option, Own, Quiet, Reconnects, Refused, SocketAddressFamily, Some, Spends, Step, Streams, TcpRecord, TcpState, ToConnect, ToWrite, Told, Unlistens, Unused, Used, Waits, WasiSocketsCtx, WriteState, Writes, [], accept_ended, accept_name, accept_plain, accepting_now, allows_keep, allows_weaker, ap, append-nil, append_assoc, bytes_left, closed_record, connect_ended, entry, false, fresh, if◌then◌else◌, inl, inr, is_same, job_after, joined, name_in, new_accept, new_job, new_record, new_socket, no_some, none_taken, opened_by, own_of, part_of, poll_asks, put, refl, rules, side_in, side_of, subst, sym, taken_fresh, taken_in, true, with_inner, with_listening, with_reader, with_state, with_writer, ℕ, ⊤, ◌+◌, ◌++◌, ◌∙◌, ◌∷◌, ◌≡◌, Ok, length}
@@ -35,7 +47,7 @@ use Rattle.wasi_laws.proofs.shapes.Shape.{same_side, not_same, some_same, Writer
 use Rattle.wasi_laws.proofs.shapes.Law.{goes_used, job_of}
 use Rattle.wasi_laws.proofs.permits.Agreeing.{JobAgrees, Agrees, Agree, IsFree, AgreeIn, Agreeing, agrees_put, agrees_moved, agrees_push, writer_agrees, agrees_beside, agrees_fewer, agrees_over}
 use Rattle.wasi_laws.proofs.permits.Spent.{IsSpent, moves_spent, polls_spent, spent_by, spent_fewer, spent_own, spent_push, spent_put}
-use Rattle.wasi_walks.proofs.claims.Polls.{GivesOwn, own_poll}
+use Rattle.wasi_walks.proofs.claims.Polls.{GivesOwn, own_poll, plain_poll}
 use Rattle.wasi_walks.proofs.walks.Here.{older_used, own_not_given}
 use Rattle.wasi_walks.proofs.walks.Moves.{GivesBack, udp_begun}
 use Rattle.wasi_laws.proofs.permits.Taken.{After, write_law, taken_push, Fronts, quiet_keep, Accounts}
@@ -72,6 +84,27 @@ held_plain h _ _ (UdpReconnectsOn place o op q g e) f = let its : UdpConnectOn o
 held_plain h _ _ (SendsOn place o out op left g e s settles) f = let its : SendOn o.inner.side op = sends_on o out op e s (f.udps place (UdpRecord.Open o) g) in send_plain ⊤ op.left its.send.left
 held_plain h _ _ (ReceivesOn place o inc op g e r) f =
     let its : ReceiveOn o.inner.side op = receives_on o inc op e r (f.udps place (UdpRecord.Open o) g) in receive_plain ⊤ (wanted_in inc.remote op.left) (wanted_left inc.remote op.left its.receive.left)
+
+-- nor does a datagram of 0.3, nor its receive
+starts_left : (family : SocketAddressFamily) (bytes : List ℕ) (to : Result Destination ErrorCode) (bound : Bool) → ArePlain (send_left family bytes (send_first to bound))
+starts_left family bytes (Err c) bound = send_plain ⊤ _ (send.ToRefuse c)
+starts_left family bytes (Ok to) true = send_plain ⊤ _ (send.Unchecked to.kept to.addr bytes)
+starts_left family bytes (Ok to) false = send_plain ⊤ _ (send.Unbound family to.kept to.addr bytes)
+
+receives_left : (own : OpId) (o : OpenUdp) (bound : Bool) → ArePlain (wanting None (receive_start own o.inner bound)).left
+receives_left own o true = receive_plain ⊤ _ (receive.Unreceived None)
+receives_left own o false = receive_plain ⊤ _ (receive.ToRefuse ErrorCode.InvalidState)
+
+starts_plain : {line : ℕ} {origin : Step} {t : HandleTable} {place : ℕ} {o : OpenUdp} {call : Operation → BesideCall} {op by : Operation} → StartsDatagram line origin t place o call op by → ArePlain by.left
+starts_plain {o = o} (StartsSend c s d bound is at known) = starts_left o.inner.family d.bytes (send_to o.inner d.bytes d.remote_address) bound
+starts_plain {line} {o = o} (StartsReceive c s bound is at known) = receives_left (own_of line) o bound
+
+repolled_plain : (records : List Record) (n place : ℕ) (o : OpenUdp) (was : BesideCall) (call : Operation → BesideCall) (op by : Operation) → PollsDatagram place o was call op by → FitBeside records n was → ArePlain by.left
+repolled_plain records n place o _ _ _ _ (PollsSend op) fit = send_plain ⊤ op.left fit.1.left
+repolled_plain records n place o _ _ _ _ (PollsReceive op) fit = receive_plain ⊤ (wanted_in None op.left) (wanted_left None op.left fit.1.left)
+
+polls_plain : (h : Here) (n : ℕ) (b : Beside) {place : ℕ} {o : OpenUdp} {call : Operation → BesideCall} {op by : Operation} → beside_of h.machine.store n ≡ Some b → PollsDatagram place o b.call call op by → Datagrams h → ArePlain by.left
+polls_plain h n b {place} {o} {call} {op} {by} at polls d = repolled_plain h.machine.store.records b.line place o b.call call op by polls (d.besides b (found_has h.machine.store.beside n b at).0)
 
 -- what becomes of a listen in progress
 listen_follows : (r now : TcpRecord) (op : Operation) → r.listening ≡ Begins op → now.side ≡ r.side → Follows r now
@@ -276,6 +309,7 @@ module _ (side : OpId) (given : List ℕ) where
         moves es _ _ (CancelsBind h place r op q g e) says makes b k = put_same es h place r _ g (record { side = refl; lives = λ x v. v }) refl (λ o. o) k
         moves es _ _ (CancelsUdpBind h place o op q g e) says makes b k = put_udp_kept es h place (UdpRecord.Open o) (UdpRecord.Open _) g k
         moves es _ _ (CancelsUdpConnect h place o q g) says makes b k = put_udp_kept es h place (UdpRecord.Open o) (UdpRecord.Open _) g k
+        moves es _ _ (DropsUdp h place o idle made g) says makes b k = put_udp_kept es h place (UdpRecord.Open o) (UdpRecord.Open _) g k
         moves es _ _ (Finds h records s) says makes b k = looked es h records (sockets_stay s) k
         moves es _ _ (GivesBack h place idle left) says makes b k =
             record { held = k.held; stands = agrees_fewer side (taken_in side es) k.held h.machine.store.records place (λ r g its. makes (spent_fewer side line h place r b.0.1 g its)) k.stands; owes = k.owes }
@@ -285,6 +319,11 @@ module _ (side : OpId) (given : List ℕ) where
         -- what writes nothing leaves it so
         quiet_kept : {A : Type 0} (Q : A → Type 0) (es : List Entry) (h : Here) (asks : Asks A) → KeptBy over es h → Quiet Q es asks → Allows (Fronts side given) (λ fs a. KeptBy over fs h × Q a) es asks
         quiet_kept Q es h asks k q = allows_weaker (Fronts side given) (λ fs a. (taken_in side fs ≡ taken_in side es) × Q a) (λ fs a. KeptBy over fs h × Q a) (λ fs a x. (took es fs h x.0 k, x.1)) es asks (quiet_keep side given Q (taken_in side es) es asks (front es h k) refl q)
+
+        -- a datagram of 0.3 writes nothing
+        datagram_polled : (es : List Entry) (h : Here) (op : Operation) → ArePlain op.left → KeptBy over es h → Allows (Fronts side given) (λ fs ended. KeptBy over fs h) es (poll_asks op)
+        datagram_polled es h op plain k =
+            allows_weaker (Fronts side given) (λ fs ended. KeptBy over fs h × ArePlain ended.1) (λ fs ended. KeptBy over fs h) (λ fs ended y. y.0) es (poll_asks op) (quiet_kept (λ ended. ArePlain ended.1) es h (poll_asks op) k (plain_poll op es plain))
 
         -- what becomes of what is polled
         ended_kept : (es : List Entry) (h : Here) (op : Operation) (after : End × List Item → Here) (ended : End × List Item) → Held h op after → Named line h → KeptBy over es h → KeptBy over es (after ended)
@@ -395,7 +434,12 @@ module _ (side : OpId) (given : List ℕ) where
             let now = put_udp h place (UdpRecord.Closed (udp_side u)) in
             (front (IsSpent side line h) es h k, λ told. asked (IsSpent side line now) es now op (call.Close (udp_side u)) told tt (put_udp_kept (IsSpent side line now) es h place u (UdpRecord.Closed (udp_side u)) g (on es h now (udp_spent h place (UdpRecord.Closed (udp_side u))) k)));
         lookups = λ es h records s k. looked (IsSpent side line (with_records h records)) es h records s (on es h (with_records h records) (λ i. spent_by side line h.own _ _ (λ n r e. sym (s.tcp n) ∙ e) i) k);
-        beside = λ es h calls i. i;
+        stands = λ es h host told k. k;
+        datagrams = λ es h place o call op polled at g starts own b k.
+            let now = record h { own = Used } in
+            let over = IsSpent side line now in
+            datagram_polled over line contexts origin es now polled (starts_plain starts) (spends over _ _ h.own own (on es h now (λ i. spent_own side line h.own Used _ (older_used line h.own) i) k));
+        repolls = λ es h n x place o call op polled is at g polls b k. datagram_polled (IsSpent side line h) line contexts origin es h polled (polls_plain h n x at polls b.0.3) k;
         polls = λ es h op after x b k. allows_weaker (Fronts side given) (λ fs ended. Kept fs h × (ArePlain ended.1 × GivesOwn op.who.id ended.0)) (λ fs ended. Kept fs (after ended))
             (λ fs ended y. ended_kept (IsSpent side line (after ended)) line contexts origin fs h op after ended x b.0.1 (on fs h (after ended) (polls_spent side line contexts origin h op after x ended y.1.1) y.0)) es (poll_asks op)
             (quiet_kept (IsSpent side line h) line contexts origin (λ ended. ArePlain ended.1 × GivesOwn op.who.id ended.0) es h (poll_asks op) k (own_poll op es (held_plain h op after x b.0.0)));

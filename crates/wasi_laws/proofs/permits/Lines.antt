@@ -115,15 +115,15 @@ module _ (contexts : List WasiSocketsCtx) (side : OpId) where
           along contexts side line s no_offer given {end = λ x. Recalled ids.line call None x.1} {asks = Give done} (move (RecallsCall _ ids call e) (move (Unstands _ (takes_none m.store.standing ids (Blocking call) Unused e tt)) (gives _ (Spends _ refl)))) es begins
 
       -- one beside others, or none
-      missing : (n : ℕ) → Resumes n None
-      missing n = over contexts side line s no_offer given (resume_beside_walks m n (beside_of m.store n) refl) es begins
+      missing : (n : ℕ) → s ≡ step.Poll n → Resumes n None
+      missing n is = over contexts side line s no_offer given (resume_beside_walks m n is (beside_of m.store n) refl) es begins
 
       -- it is resumed, where it has that number
-      found : (n : ℕ) (c : Standing) → m.store.standing ≡ Some c → Resumes n (Some c) → Along (let_resumed side m (call_of m.store.standing n)) (bind (resume_call m n (call_of m.store.standing n)) (λ done. Give (resumed_reply n done.0, done.1)))
-      found n c e h = replied (resumed_reply n) (let_resumed side m (call_of m.store.standing n)) (resume_call m n (call_of m.store.standing n)) (by_number (call_of m.store.standing n) refl)
+      found : (n : ℕ) (c : Standing) → s ≡ step.Poll n → m.store.standing ≡ Some c → Resumes n (Some c) → Along (let_resumed side m (call_of m.store.standing n)) (bind (resume_call m n (call_of m.store.standing n)) (λ done. Give (resumed_reply n done.0, done.1)))
+      found n c is e h = replied (resumed_reply n) (let_resumed side m (call_of m.store.standing n)) (resume_call m n (call_of m.store.standing n)) (by_number (call_of m.store.standing n) refl)
         where
           by_number : (o : Option Standing) → call_of m.store.standing n ≡ o → Resumes n o
-          by_number None q = missing n
+          by_number None q = missing n is
           by_number (Some x) q = let its : c ≡ x = some_same c x (sym e ∙ (stands_so m.store.standing n x q).0) in subst (λ (y : Standing). Resumes n (Some y)) its h
 
   module _ (line : ℕ) (given : List ℕ) (es : List Entry) (m : Machine) (i : LetSo line given es m) where
@@ -156,10 +156,10 @@ module _ (contexts : List WasiSocketsCtx) (side : OpId) where
     poll_lets : (n : ℕ) (ids : Ids) (call : StandingCall) → (let o = Some (standing_as ids call) in m.store.standing ≡ o → Along line (step.Poll n) given es m i (permitted_in m side line o (step.Poll n)) (asks_while contexts m line (step.Poll n) o))
     poll_lets n ids (Blocking (blocking.Write output rest)) e =
         let now : Machine = record m { store = unstood m.store } in
-        poll_held n (standing_as ids (Blocking (blocking.Write output rest))) (found line (step.Poll n) given es m i tt n _ e (unblocked line (step.Poll n) given es m i nothing_given (let_all side (own_of ids.line) output now rest) _ (all_lets contexts side line (step.Poll n) tt ids output given es None now rest (recalls line (step.Poll n) given es m i tt ids (blocking.Write output rest) e))))
+        poll_held n (standing_as ids (Blocking (blocking.Write output rest))) (found line (step.Poll n) given es m i tt n _ refl e (unblocked line (step.Poll n) given es m i nothing_given (let_all side (own_of ids.line) output now rest) _ (all_lets contexts side line (step.Poll n) tt ids output given es None now rest (recalls line (step.Poll n) given es m i tt ids (blocking.Write output rest) e))))
     poll_lets n ids (Blocking (blocking.Splice to from len)) e =
         let now : Machine = record m { store = unstood m.store } in
-        poll_held n (standing_as ids (Blocking (blocking.Splice to from len))) (found line (step.Poll n) given es m i tt n _ e (unblocked line (step.Poll n) given es m i outcome.Count (let_blocking_splice side now (own_of ids.line) to from len) _ (blocking_splice_lets contexts side line (step.Poll n) tt ids to from len given es None now (recalls line (step.Poll n) given es m i tt ids (blocking.Splice to from len) e))))
+        poll_held n (standing_as ids (Blocking (blocking.Splice to from len))) (found line (step.Poll n) given es m i tt n _ refl e (unblocked line (step.Poll n) given es m i outcome.Count (let_blocking_splice side now (own_of ids.line) to from len) _ (blocking_splice_lets contexts side line (step.Poll n) tt ids to from len given es None now (recalls line (step.Poll n) given es m i tt ids (blocking.Splice to from len) e))))
     poll_lets n ids call e = simple line (step.Poll n) given es m i tt (Some (standing_as ids call)) e tt (λ gs. none_held n gs (none_polled n (Some (standing_as ids call)) gs e (none_resumed n ids call gs refl)) (is_held_up m.store (step.Poll n)))
 
     -- while an exclusive call is pending every guest call is busy

@@ -100,6 +100,7 @@ module _ (side : OpId) (line : ℕ) where
     moves_spent _ _ (walk.BeginsReceive h place n o inc bound at g e is own) i = spent_own h.own (Own.Names (n + 1)) _ (next_grows line n h.own own) (spent_by h.own _ _ (put_was udp_sort tcp_sort (λ t. refl) h.machine.store.records place _) i)
     moves_spent _ _ (walk.CancelsUdpBind h place o op q g e) i = spent_by h.own _ _ (put_was udp_sort tcp_sort (λ t. refl) h.machine.store.records place _) i
     moves_spent _ _ (walk.CancelsUdpConnect h place o q g) i = spent_by h.own _ _ (put_was udp_sort tcp_sort (λ t. refl) h.machine.store.records place _) i
+    moves_spent _ _ (walk.DropsUdp h place o idle made g) i = spent_by h.own _ _ (put_was udp_sort tcp_sort (λ t. refl) h.machine.store.records place _) i
     moves_spent _ _ (walk.Finds h records s) i = spent_by h.own _ _ (λ k r e. sym (s.tcp k) ∙ e) i
     moves_spent _ _ (walk.GivesBack h place idle left) i = spent_by h.own _ _ (was_there tcp2_of refl h.machine.store.records place) i
     moves_spent _ _ _ i = i

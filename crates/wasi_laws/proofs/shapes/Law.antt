@@ -19,7 +19,7 @@ use Rattle.wasi_records.specs.Udp.{udp_create_left}
 use Rattle.wasi_udp.specs.Create.{Create}
 use Rattle.wasi_records.specs.Ends.{ends_of}
 use Rattle.wasi_walks.proofs.PipeLists.{slot_push_same}
-use Rattle.wasi_walks.proofs.walks.Moves.{AddsSlot, OfReceive, OfSend, TakesEnd, GivesBack, CancelsBind, CancelsUdpBind, CancelsUdpConnect, put_udp, udp_begun, with_records, Finds, UdpChanges, BeginsUdpBind, BeginsUdpConnect, BeginsSend, BeginsReceive, UdpCreates, UdpBindsOn, UdpConnectsOn, UdpReconnectsOn, SendsOn, ReceivesOn}
+use Rattle.wasi_walks.proofs.walks.Moves.{AddsSlot, OfReceive, OfSend, TakesEnd, GivesBack, CancelsBind, CancelsUdpBind, CancelsUdpConnect, DropsUdp, put_udp, udp_begun, with_records, Finds, UdpChanges, BeginsUdpBind, BeginsUdpConnect, BeginsSend, BeginsReceive, UdpCreates, UdpBindsOn, UdpConnectsOn, UdpReconnectsOn, SendsOn, ReceivesOn}
 use Rattle.wasi_records.specs.declared.records.Record.{Record}
 use Rattle.wasi_walks.proofs.Places.{push_new, push_was, put_found, put_was, tcp_sort, udp_sort}
 
@@ -191,6 +191,7 @@ module _ (contexts : List WasiSocketsCtx) (line : ℕ) (origin : Step) where
   moves_shape _ _ (CancelsBind h place r op q g e) i = put_shape h place _ (i place r g) i
   moves_shape _ _ (CancelsUdpBind h place o op q g e) i = udp_shape h place _ i
   moves_shape _ _ (CancelsUdpConnect h place o q g) i = udp_shape h place _ i
+  moves_shape _ _ (DropsUdp h place o idle made g) i = udp_shape h place _ i
   moves_shape _ _ (Finds h records s) i = lookup_shape h records (sockets_stay s) i
   moves_shape _ _ (GivesBack h place idle left) i = λ k r e. i k r (was_there tcp2_of refl h.machine.store.records place k r e)
   -- the others leave all that is looked at

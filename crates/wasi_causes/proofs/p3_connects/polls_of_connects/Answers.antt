@@ -16,7 +16,6 @@ returns c = record {
       (subst (λ (o : Option Beside). IsSomeAnd o (λ b. GoesOnBeside m n entries reply after b.call)) is
       ((its_own contexts m line (step.Poll n) entries reply after w free).0.3 beside).why).1 r at connects;
   cancelled = λ contexts m line n entries fields after beside w.
-      let left = (unheld contexts m line (step.Cancel n) (other_free contexts m line (step.Cancel n) refl refl) entries
-      (reply.Ok fields) after w).0.2 beside in
-      (beside, left.0, left.1);
+      (unheld contexts m line (step.Cancel n) (other_free contexts m line (step.Cancel n) refl refl) entries
+      (reply.Ok fields) after w).0.2 beside;
 }

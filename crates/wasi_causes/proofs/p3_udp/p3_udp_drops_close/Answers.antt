@@ -2,7 +2,7 @@ use Rattle.wasi_causes.proofs.p3_udp.p3_udp_drops_close.Goals as goal
 use Rattle.wasi_steps.specs.declared.guest_call.GuestCall.TheVariants as guest
 use Rattle.wasi_steps.specs.declared.step.Step.TheVariants as step
 use Rattle.wasi_steps.specs.declared.reply.Reply.TheVariants as reply
-use Rattle.wasi_causes.proofs.Ending.{udp3_gone, udp3_ok}
+use Rattle.wasi_causes.proofs.Ending.{udp3_free, udp3_held, udp3_ok}
 use Rattle.wasi_causes.proofs.tables.Steps.{its_own, while_free}
 
 pub returns : goal.returns
@@ -10,10 +10,13 @@ returns c = record {
   done = λ contexts m line ctx handle place entries reply after free is under w.
       udp3_ok contexts m line ctx handle place is under entries reply after
       (while_free contexts m line (step.Call ctx (guest.Drop handle)) free entries reply after w);
-  closed = λ contexts m line ctx handle place u entries fields after is at w.
-      (udp3_gone contexts m line ctx handle place u is at entries fields after
+  closed = λ contexts m line ctx handle place u entries fields after is at none w.
+      (udp3_free contexts m line ctx handle place u is at none entries fields after
       (its_own contexts m line (step.Call ctx (guest.Drop handle)) entries (reply.Ok fields) after w (λ e. cc))).0;
-  left = λ contexts m line ctx handle place u entries fields after is at w.
-      (udp3_gone contexts m line ctx handle place u is at entries fields after
+  left = λ contexts m line ctx handle place u entries fields after is at none w.
+      (udp3_free contexts m line ctx handle place u is at none entries fields after
       (its_own contexts m line (step.Call ctx (guest.Drop handle)) entries (reply.Ok fields) after w (λ e. cc))).1;
+  held = λ contexts m line ctx handle place o entries fields after is at some w.
+      udp3_held contexts m line ctx handle place o is at some entries fields after
+      (its_own contexts m line (step.Call ctx (guest.Drop handle)) entries (reply.Ok fields) after w (λ e. cc));
 }
