@@ -2,6 +2,7 @@
 
 use crate::same::same;
 use std::test::Fail;
+use wasi_run::drawn::Drawn;
 use wasi_run::generate::generate;
 
 /// The lines of the first block of seed 1, and the first line of the next. The number that is drawn
@@ -11,7 +12,7 @@ const LINES: &[u8] =
 
 #[test]
 fn a_seed_gives_its_lines(rt: HostRuntime) -> Result<(), Fail> {
-    let drawn = generate(rt.alloc(), 1, 11)?;
+    let drawn = generate(rt.alloc(), Drawn::OfTwo, 1, 11)?;
     same(&rt, drawn.as_slice(), LINES);
     Ok(())
 }

@@ -15,7 +15,7 @@ const RUN: Words = &["run", "1000"];
 
 /// The words, the scenario and the script; then the status, its line, the length of the log, and
 /// the replies.
-const RUNS: [(Words, &[u8], &[u8], &str); 29] = [
+const RUNS: [(Words, &[u8], &[u8], &str); 32] = [
     (RUN, b"", b"", "0 0 0: "),
     (&["run", "0"], b"", b"", "0 0 0: "),
     (&["run", "81"], b"", BIND, "0 0 6: ok 1\nok 2\nok\nok\n"),
@@ -62,6 +62,14 @@ const RUNS: [(Words, &[u8], &[u8], &str); 29] = [
         b"",
         "0 0 0: lines 1 replies 1 entries 1 bytes 0\n",
     ),
+    (
+        &["gen3", "1", "28"],
+        b"",
+        b"",
+        "0 0 0: lines 28 replies 28 entries 42 bytes 89\n",
+    ),
+    (&["gen3", "1", "100001"], b"", b"", "1 0 0: "),
+    (&["gen2", "1", "1"], b"", b"", "1 0 0: "),
     (&["gen", "1", "100001"], b"", b"", "1 0 0: "),
     (&["gen", "18446744073709551616", "1"], b"", b"", "1 0 0: "),
     (&["gen", "-1", "1"], b"", b"", "1 0 0: "),

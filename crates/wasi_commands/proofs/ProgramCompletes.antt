@@ -10,6 +10,7 @@ use Rattle.wasi_run.specs.declared.error.RunError.{RunError}
 use Rattle.wasi_run.specs.declared.error.RunError.TheVariants as error
 use Rattle.wasi_run.specs.declared.run.RunEnd.{RunEnd}
 use Rattle.wasi_commands.specs.declared.commands.Command.{Command}
+use Rattle.wasi_run.specs.declared.drawn.Drawn.{Drawn}
 use Rattle.wasi_commands.specs.declared.commands.Command.TheVariants.{Run, Pump, Generate}
 use Rattle.wasi_program.specs.declared.status.Status.{Status}
 use Rattle.wasi_program.specs.declared.status.Status.TheVariants as status
@@ -68,11 +69,11 @@ module _ {limit : ℕ} {c_old c_new s_old s_new : Reading} {k_old k_new : Writin
   run_ends status.ScenarioFault h = absurd (well.scenario_read h.because.0)
   run_ends end h = text_ends h.text end (read_whole well.scenario h.text c_old c_new well.scenario_left well.within h.read) h.ran
 
-generated_ends : (seed steps : ℕ) (k_old k_new : Writing) (end : Status) → ¬ CountRose k_old k_new → GeneratedEnds seed steps k_old k_new end → EndsOkOrMemory (number_of end)
-generated_ends seed steps k_old k_new status.Ok c h = inl refl
-generated_ends seed steps k_old k_new status.Memory c h = inr refl
-generated_ends seed steps k_old k_new status.WriteFault c h = absurd (c h.told.counts)
-generated_ends seed steps k_old k_new _ c h = absurd h
+generated_ends : (kind : Drawn) (seed steps : ℕ) (k_old k_new : Writing) (end : Status) → ¬ CountRose k_old k_new → GeneratedEnds kind seed steps k_old k_new end → EndsOkOrMemory (number_of end)
+generated_ends kind seed steps k_old k_new status.Ok c h = inl refl
+generated_ends kind seed steps k_old k_new status.Memory c h = inr refl
+generated_ends kind seed steps k_old k_new status.WriteFault c h = absurd (c h.told.counts)
+generated_ends kind seed steps k_old k_new _ c h = absurd h
 
 -- a pump that isn't refused, with no fault counted
 pump_ends : (budget : ℕ) (s_old s_new : Reading) (k_old k_new : Writing) (refused : Type 0) (outcome : Result ℕ PumpError) → IsWellPumped budget s_old s_new k_old k_new refused → (number_of (pump_status outcome) ≡ 10 → refused) → (outcome ≡ Err pump.NoBudget → budget ≡ 0) → PumpEnds s_old s_new k_old k_new outcome → EndsOkOrMemory (number_of (pump_status outcome))
@@ -90,7 +91,7 @@ module _ (c_old c_new s_old s_new : Reading) (k_old k_new : Writing) (log : List
   command_ends (Some (Pump budget)) end w worker h =
       let same : end ≡ pump_status h.outcome = h.status_is in
       rw same (pump_ends budget s_old s_new k_old k_new refused h.outcome w (rw same at (worker tt)) h.no_budget.0 h.ends)
-  command_ends (Some (Generate seed steps)) end w worker h = generated_ends seed steps k_old k_new end w h.1
+  command_ends (Some (Generate kind seed steps)) end w worker h = generated_ends kind seed steps k_old k_new end w h.1
 
 pub program_completes : {words : List (List ℕ)} {c_old c_new s_old s_new : Reading} {k_old k_new : Writing} {log : List Entry} {number line : ℕ} {refused : Type 0} → RanMain words c_old c_new s_old s_new k_old k_new log number line → (IsPump (command_in words) → number ≡ 10 → refused) → ProgramCompletes (command_in words) c_old c_new s_old s_new k_old k_new refused number
 program_completes {words} {c_old} {c_new} {s_old} {s_new} {k_old} {k_new} {log} {line = line} {refused} ran worker =

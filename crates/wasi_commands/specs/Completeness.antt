@@ -41,7 +41,7 @@ abbrev pub IsWell : Option Command → Reading → Reading → Reading → Readi
 IsWell None c_old c_new s_old s_new k_old k_new refused = ⊥
 IsWell (Some (Run limit)) c_old c_new s_old s_new k_old k_new refused = IsWellRun limit c_old c_new s_old s_new k_old k_new
 IsWell (Some (Pump budget)) c_old c_new s_old s_new k_old k_new refused = IsWellPumped budget s_old s_new k_old k_new refused
-IsWell (Some (Generate seed steps)) c_old c_new s_old s_new k_old k_new refused = ¬ CountRose k_old k_new
+IsWell (Some (Generate kind seed steps)) c_old c_new s_old s_new k_old k_new refused = ¬ CountRose k_old k_new
 
 -- what is well ends well
 abbrev pub ProgramCompletes : Option Command → Reading → Reading → Reading → Reading → Writing → Writing → Type 0 → ℕ → Type 0

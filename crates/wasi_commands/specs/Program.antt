@@ -14,6 +14,7 @@ use Rattle.wasi_program.specs.Status.{number_of, status_of, bad_line_of}
 use Rattle.wasi_program.specs.Scenario.{ReadScenario, HasBadLine}
 use Rattle.wasi_program.specs.Planned.{RanPlan}
 use Rattle.wasi_commands.specs.declared.commands.Command.{Command}
+use Rattle.wasi_run.specs.declared.drawn.Drawn.{Drawn}
 use Rattle.wasi_commands.specs.declared.commands.Command.TheVariants.{Run, Pump, Generate}
 use Rattle.wasi_commands.specs.Commands.{command_in}
 use Rattle.wasi_pump.specs.declared.error.PumpError.{PumpError}
@@ -76,19 +77,19 @@ RunEnds limit c_old c_new s_old s_new k_old k_new log line status.Memory =
     NoRun s_old s_new k_old k_new log (line ≡ 0) ⊎ ScriptRan limit c_old c_new s_old s_new k_old k_new log line status.Memory
 RunEnds limit c_old c_new s_old s_new k_old k_new log line end = ScriptRan limit c_old c_new s_old s_new k_old k_new log line end
 
--- == `gen SEED STEPS`
+-- == `gen SEED STEPS`, `gen3 SEED STEPS`
 -- The generated script was run over the empty scenario, and this holds of the line that reports its counts.
-pub record Told (seed steps : ℕ) (P : List ℕ → Type 0) : Type 0 where
+pub record Told (kind : Drawn) (seed steps : ℕ) (P : List ℕ → Type 0) : Type 0 where
   pub counts : Counts
-  pub ran : CountsRun seed steps counts
+  pub ran : CountsRun kind seed steps counts
   pub told : P (summary counts)
 
 -- the cause of each status: the sink took the line, or its front; or memory ran out, and nothing was written
-abbrev pub GeneratedEnds : ℕ → ℕ → Writing → Writing → Status → Type 0
-GeneratedEnds seed steps k_old k_new status.Ok = Told seed steps (λ line. TookAll k_old line k_new)
-GeneratedEnds seed steps k_old k_new status.WriteFault = Told seed steps (λ line. TookPart k_old line k_new)
-GeneratedEnds seed steps k_old k_new status.Memory = k_new ≡ k_old
-GeneratedEnds seed steps k_old k_new _ = ⊥
+abbrev pub GeneratedEnds : Drawn → ℕ → ℕ → Writing → Writing → Status → Type 0
+GeneratedEnds kind seed steps k_old k_new status.Ok = Told kind seed steps (λ line. TookAll k_old line k_new)
+GeneratedEnds kind seed steps k_old k_new status.WriteFault = Told kind seed steps (λ line. TookPart k_old line k_new)
+GeneratedEnds kind seed steps k_old k_new status.Memory = k_new ≡ k_old
+GeneratedEnds kind seed steps k_old k_new _ = ⊥
 
 -- Nothing was read, and there is no log.
 pub record ReadNothing (c_old c_new s_old s_new : Reading) (log : List Entry) (line : ℕ) : Type 0 where
@@ -117,8 +118,8 @@ CommandEnds (Some (Run limit)) c_old c_new s_old s_new k_old k_new log line end 
     RunEnds limit c_old c_new s_old s_new k_old k_new log line end
 CommandEnds (Some (Pump budget)) c_old c_new s_old s_new k_old k_new log line end =
     PumpRan budget c_old c_new s_old s_new k_old k_new log line end
-CommandEnds (Some (Generate seed steps)) c_old c_new s_old s_new k_old k_new log line end =
-    ReadNothing c_old c_new s_old s_new log line × GeneratedEnds seed steps k_old k_new end
+CommandEnds (Some (Generate kind seed steps)) c_old c_new s_old s_new k_old k_new log line end =
+    ReadNothing c_old c_new s_old s_new log line × GeneratedEnds kind seed steps k_old k_new end
 
 abbrev pub EndsBy : List (List ℕ) → Reading → Reading → Reading → Reading → Writing → Writing → List Entry → ℕ → Status → Type 0
 EndsBy words c_old c_new s_old s_new k_old k_new log line end = CommandEnds (command_in words) c_old c_new s_old s_new k_old k_new log line end

@@ -1,9 +1,10 @@
 //! What the words of the program `sockets` ask for.
 
 ghost use Rattle.std.specs.Prelude.{◌≡◌, map, string_bytes};
-ghost use Rattle.wasi_commands.specs.Commands.{run_in, pump_in, limited_in, generate_in};
-ghost use Rattle.wasi_commands.specs.Commands.{command_in};
+ghost use Rattle.wasi_commands.specs.Commands.{run_in, pump_in, limited_in, drawn_in};
+ghost use Rattle.wasi_commands.specs.Commands.{generate_in, command_in};
 
+use wasi_run::drawn::Drawn;
 use world_text::fields::number;
 
 /// The most lines that a script is generated with.
@@ -16,8 +17,9 @@ pub enum Command {
     Run(u32),
     /// `pump BUDGET`: the source's bytes go to the sink, by streams with this budget.
     Pump(u32),
-    /// `gen SEED STEPS`: a script that is generated from a seed, of so many lines.
-    Generate(u64, u32),
+    /// `gen SEED STEPS`: a script of calls of 0.2 that is generated from a seed, of so many lines;
+    /// `gen3 SEED STEPS`: one of calls of both generations.
+    Generate(Drawn, u64, u32),
 }
 
 /// The limit of `run LIMIT`.
@@ -53,16 +55,27 @@ fn limited_in(word: &str, most: &str) -> Option<Command>
     }
 }
 
-/// The seed and the number of lines of `gen SEED STEPS`.
+/// Which calls the word has drawn.
+fn drawn_in(word: &str) -> Option<Drawn>
+    ensures { result ≡ drawn_in word.now }
+{
+    if word == "gen" {
+        return Some(Drawn::OfTwo);
+    }
+    if word == "gen3" {
+        return Some(Drawn::OfBoth);
+    }
+    None
+}
+
+/// The calls, the seed and the number of lines of `gen SEED STEPS`, or of `gen3`.
 fn generate_in(word: &str, seed: &str, steps: &str) -> Option<Command>
     ensures { result ≡ generate_in word.now seed.now steps.now }
 {
-    if word != "gen" {
-        return None;
-    }
+    let kind = drawn_in(word)?;
     let seed = number(seed.as_bytes(), u64::MAX)?;
     let steps = number(steps.as_bytes(), MOST_STEPS)?;
-    Some(Command::Generate(seed, steps as u32))
+    Some(Command::Generate(kind, seed, steps as u32))
 }
 
 /// The command in the words.

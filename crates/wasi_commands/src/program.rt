@@ -21,6 +21,7 @@ use wasi_program::scenario::{Scenario, Unread, parse_scenario, read_scenario};
 use wasi_program::status::bad_line;
 use wasi_pump::{PumpError, pump};
 use wasi_run::counts::run_generated;
+use wasi_run::drawn::Drawn;
 use wasi_run::run_script;
 use wasi_spawn::Spawner;
 use wasi_world::{Entry, WasiSocketsCtx};
@@ -147,10 +148,16 @@ fn run_scenario<C: Source, S: Source, K: Sink>(
 }
 
 /// Runs a generated script, and writes the line that reports its counts.
-fn tell_generated<K: Sink>(alloc: Global, seed: u64, steps: u32, sink: &mut K) -> Status
-    ensures { GeneratedEnds seed steps (K.writing sink.old) (K.writing sink.new) result }
+fn tell_generated<K: Sink>(
+    alloc: Global,
+    kind: Drawn,
+    seed: u64,
+    steps: u32,
+    sink: &mut K,
+) -> Status
+    ensures { GeneratedEnds kind seed steps (K.writing sink.old) (K.writing sink.new) result }
 {
-    let Ok(counts) = run_generated(alloc, seed, steps) else {
+    let Ok(counts) = run_generated(alloc, kind, seed, steps) else {
         return Status::Memory;
     };
     let Ok(line) = counts.summary(alloc) else {
@@ -218,8 +225,8 @@ fn run_command<
             let status = pump_status(pumped.outcome);
             return Ended::without_run(alloc, status, 0).with(pumped.source, pumped.sink);
         }
-        Some(Command::Generate(seed, steps)) => {
-            let status = tell_generated(alloc, seed, steps, &mut sink);
+        Some(Command::Generate(kind, seed, steps)) => {
+            let status = tell_generated(alloc, kind, seed, steps, &mut sink);
             return Ended::without_run(alloc, status, 0).with(source, sink);
         }
     }
@@ -229,9 +236,9 @@ fn run_command<
 /// the source gives, of at most LIMIT bytes, over the scenario's world; replies go to the sink.
 /// `pump BUDGET` moves all bytes of the source to the sink, by streams with this budget and a
 /// worker each, which `readers` and `writers` start; it may wait for its workers. `gen SEED STEPS`
-/// runs the script that is generated from the seed, of at most 100000 lines, over the empty
-/// scenario, and writes one line to the sink, which says what it came to; it reads nothing. Other
-/// words are status 1.
+/// runs the script of calls of 0.2 that is generated from the seed, of at most 100000 lines, over
+/// the empty scenario, and writes one line to the sink, which says what it came to; it reads
+/// nothing. `gen3 SEED STEPS` does so with calls of both generations. Other words are status 1.
 ///
 /// The words are tested first, then the scenario is read whole (a failed read is status 8), then it
 /// is parsed (status 2).

@@ -8,8 +8,10 @@ use Rattle.wasi_steps.proofs.NameLaws.{text_unbroken}
 use Rattle.wasi_run.specs.Script.{IsValid}
 use Rattle.wasi_steps.proofs.SettingLaws.{◌and◌}
 use Rattle.wasi_steps.proofs.StepLaws.{step_of_line, step_line_text}
-use Rattle.wasi_steps.specs.declared.guest_call.GuestCall.{GuestCall}
-use Rattle.wasi_run.specs.Generate.{drawn, port_of, count_of, byte_of, block, step_in, generated_step, generated_steps, generated, script_text}
+use Rattle.wasi_run.specs.declared.drawn.Drawn.{Drawn}
+use Rattle.wasi_run.specs.declared.drawn.Block.{Block}
+use Rattle.wasi_run.specs.declared.drawn.Block.TheVariants as of
+use Rattle.wasi_run.specs.Generate.{block, block_at, byte_of, bytes_of, call, count_of, drawn, port_of, step_in, tcp2_block, tcp3_block, udp_block, generated_step, generated_steps, generated, script_text}
 
 -- == lines with no newline in them
 no_newline : (b : ℕ) → ends_no_line b ≡ true → (b == 10) ≡ false
@@ -57,62 +59,94 @@ are_bytes zero b h i = omega arith
 are_bytes (suc n) b h zero = h
 are_bytes (suc n) b h (suc i) = are_bytes n b h i
 
-AreCalls : List GuestCall → Type 0
-AreCalls [] = Unit {0}
-AreCalls (call ∷ calls) = IsStep 1 (Step.Call 0 call) × AreCalls calls
+wide_bytes : (x : ℕ) → x < 2 ^ 64 → AreBytes (bytes_of x)
+wide_bytes x wide = are_bytes (count_of x) (byte_of x) (omega (arith, wide))
 
-fits_in : (calls : List GuestCall) (i : ℕ) (d : GuestCall) → AreCalls calls → IsStep 1 (Step.Call 0 d) → IsStep 1 (Step.Call 0 (slice_index_or calls i d))
-unfolding AreCalls
+fits_in : (steps : List Step) (i : ℕ) (d : Step) → AreSteps steps → IsStep 1 d → IsStep 1 (slice_index_or steps i d)
+unfolding AreSteps
 fits_in [] i d h k = k
-fits_in (call ∷ calls) zero d h k = h.0
-fits_in (call ∷ calls) (suc i) d h k = fits_in calls i d h.1 k
+fits_in (s ∷ steps) zero d h k = h.0
+fits_in (s ∷ steps) (suc i) d h k = fits_in steps i d h.1 k
 
-drop_fits : (h : ℕ) → h ≤ 4294967295 → IsStep 1 (Step.Call 0 (Drop h))
+drop_fits : (h : ℕ) → h ≤ 4294967295 → IsStep 1 (call (Drop h))
 drop_fits h e = record { context = omega arith; width = omega arith; arguments = (e, tt) }
 
 port_fits : (x : ℕ) → port_of x ≤ 65535
 port_fits x = omega arith
 
-block_fits : (s x place : ℕ) → s + 2 ≤ 4294967295 → x < 2 ^ 64 → IsStep 1 (step_in s x place)
-unfolding AreCalls
-block_fits s x place room wide = fits_in (block s x) place (Drop s) calls (drop_fits s (omega (arith, room)))
-  where
-    calls : AreCalls (block s x)
-    calls =
-        record { context = omega arith; width = omega arith; arguments = (tt, tt) }
-        and record { context = omega arith; width = omega arith; arguments = (omega (arith, room), (omega arith, (((omega arith, omega arith, omega arith, omega arith), port_fits x), tt))) }
-        and record { context = omega arith; width = omega arith; arguments = (omega (arith, room), tt) }
-        and record { context = omega arith; width = omega arith; arguments = (room, tt) }
-        and record { context = omega arith; width = omega arith; arguments = (room, (are_bytes (count_of x) (byte_of x) (omega (arith, wide)), tt)) }
-        and record { context = omega arith; width = omega arith; arguments = (omega (arith, room), (tt, tt)) }
-        and drop_fits (s + 1) (omega (arith, room))
-        and drop_fits (s + 2) room
-        and drop_fits s (omega (arith, room))
-        and tt
+tcp2_fits : (s x : ℕ) → s + 2 ≤ 4294967295 → x < 2 ^ 64 → AreSteps (tcp2_block s x)
+unfolding AreSteps
+tcp2_fits s x room wide =
+    record { context = omega arith; width = omega arith; arguments = (tt, tt) }
+    and record { context = omega arith; width = omega arith; arguments = (omega (arith, room), (omega arith, (((omega arith, omega arith, omega arith, omega arith), port_fits x), tt))) }
+    and record { context = omega arith; width = omega arith; arguments = (omega (arith, room), tt) }
+    and record { context = omega arith; width = omega arith; arguments = (room, tt) }
+    and record { context = omega arith; width = omega arith; arguments = (room, (wide_bytes x wide, tt)) }
+    and record { context = omega arith; width = omega arith; arguments = (omega (arith, room), (tt, tt)) }
+    and drop_fits (s + 1) (omega (arith, room))
+    and drop_fits (s + 2) room
+    and drop_fits s (omega (arith, room))
+    and tt
+
+tcp3_fits : (s x : ℕ) → s + 2 ≤ 4294967295 → x < 2 ^ 64 → AreSteps (tcp3_block s x)
+unfolding AreSteps
+tcp3_fits s x room wide =
+    record { context = omega arith; width = omega arith; arguments = (tt, tt) }
+    and record { context = omega arith; width = omega arith; arguments = (omega (arith, room), (((omega arith, omega arith, omega arith, omega arith), port_fits x), tt)) }
+    and record { context = omega arith; width = omega arith; arguments = (omega (arith, room), tt) }
+    and record { context = omega arith; width = omega arith; arguments = (omega (arith, room), (wide_bytes x wide, tt)) }
+    and record { context = omega arith; width = omega arith; arguments = (omega (arith, room), tt) }
+    and drop_fits (s + 1) (omega (arith, room))
+    and record { context = omega arith; width = omega arith; arguments = (room, tt) }
+    and record { context = omega arith; width = omega arith; arguments = (omega (arith, room), tt) }
+    and drop_fits s (omega (arith, room))
+    and tt
+
+udp_fits : (s x before : ℕ) → s + 2 ≤ 4294967295 → x < 2 ^ 64 → before ≤ 4294967295 → AreSteps (udp_block s x before)
+unfolding AreSteps
+udp_fits s x before room wide few =
+    record { context = omega arith; width = omega arith; arguments = (tt, tt) }
+    and record { context = omega arith; width = omega arith; arguments = (omega (arith, room), ((((omega arith, omega arith, omega arith, omega arith), port_fits x), wide_bytes x wide), tt)) }
+    and record { context = omega arith; width = omega arith; arguments = (omega (arith, room), tt) }
+    and record { context = tt; width = tt; arguments = (few, tt) }
+    and record { context = omega arith; width = omega arith; arguments = (tt, tt) }
+    and record { context = omega arith; width = omega arith; arguments = (omega (arith, room), tt) }
+    and drop_fits (s + 2) room
+    and drop_fits (s + 1) (omega (arith, room))
+    and drop_fits s (omega (arith, room))
+    and tt
+
+block_fits : (kind : Block) (s x before : ℕ) → s + 2 ≤ 4294967295 → x < 2 ^ 64 → before ≤ 4294967295 → AreSteps (block kind s x before)
+block_fits of.Tcp2 s x before room wide few = tcp2_fits s x room wide
+block_fits of.Tcp3 s x before room wide few = tcp3_fits s x room wide
+block_fits of.Udp s x before room wide few = udp_fits s x before room wide few
 
 -- == the steps of a script
 drawn_fits : (seed n : ℕ) → seed < 2 ^ 64 → drawn seed n < 2 ^ 64
 drawn_fits seed zero h = h
 drawn_fits seed (suc n) h = omega arith
 
-step_fits : (seed k : ℕ) → seed < 2 ^ 64 → k < 2 ^ 32 → IsStep 1 (generated_step seed k)
-step_fits seed zero h few = record { context = omega arith; width = omega arith; arguments = tt }
-step_fits seed (suc k) h few = block_fits (2 + 3 * (k / 9)) (drawn seed (k / 9 + 1)) (k % 9) (omega (arith, few)) (drawn_fits seed (k / 9 + 1) h)
+step_fits : (kind : Drawn) (seed k : ℕ) → seed < 2 ^ 64 → k < 2 ^ 32 → IsStep 1 (generated_step kind seed k)
+step_fits kind seed zero h few = record { context = omega arith; width = omega arith; arguments = tt }
+step_fits kind seed (suc k) h few =
+    let room : 2 + 3 * (k / 9) + 2 ≤ 4294967295 = omega (arith, few) in
+    let are = block_fits (block_at kind (k / 9)) (2 + 3 * (k / 9)) (drawn seed (k / 9 + 1)) (suc k) room (drawn_fits seed (k / 9 + 1) h) (omega (arith, few)) in
+    fits_in _ (k % 9) _ are (drop_fits (2 + 3 * (k / 9)) (omega (arith, room)))
 
-are_generated : (seed n : ℕ) → seed < 2 ^ 64 → n < 2 ^ 32 → AreSteps (generated_steps seed n)
-are_generated seed zero h few = tt
-are_generated seed (suc n) h few = are_more (generated_steps seed n) (generated_step seed n) (are_generated seed n h (omega (arith, few))) (step_fits seed n h (omega (arith, few)))
+are_generated : (kind : Drawn) (seed n : ℕ) → seed < 2 ^ 64 → n < 2 ^ 32 → AreSteps (generated_steps kind seed n)
+are_generated kind seed zero h few = tt
+are_generated kind seed (suc n) h few = are_more (generated_steps kind seed n) (generated_step kind seed n) (are_generated kind seed n h (omega (arith, few))) (step_fits kind seed n h (omega (arith, few)))
 
 -- a generated script is valid, within its own length
-pub generated_valid : (seed n : ℕ) → seed < 2 ^ 64 → n < 2 ^ 32 → IsValid 1 (length (generated seed n)) (generated seed n)
-generated_valid seed n h few =
-    let all = text_steps (generated_steps seed n) (are_generated seed n h few) in
+pub generated_valid : (kind : Drawn) (seed n : ℕ) → seed < 2 ^ 64 → n < 2 ^ 32 → IsValid 1 (length (generated kind seed n)) (generated kind seed n)
+generated_valid kind seed n h few =
+    let all = text_steps (generated_steps kind seed n) (are_generated kind seed n h few) in
     record { within = omega arith; ended = all.1; steps = all.0 }
 
-step_count : (seed n : ℕ) → length (generated_steps seed n) ≡ n
-step_count seed zero = refl
-step_count seed (suc n) = length-append (generated_steps seed n) (generated_step seed n ∷ []) ∙ rw (step_count seed n) (add-one n)
+step_count : (kind : Drawn) (seed n : ℕ) → length (generated_steps kind seed n) ≡ n
+step_count kind seed zero = refl
+step_count kind seed (suc n) = length-append (generated_steps kind seed n) (generated_step kind seed n ∷ []) ∙ rw (step_count kind seed n) (add-one n)
 
 -- it has so many lines
-pub generated_lines : (seed n : ℕ) → seed < 2 ^ 64 → n < 2 ^ 32 → length (lines_of (generated seed n)) ≡ n
-generated_lines seed n h few = text_count (generated_steps seed n) (are_generated seed n h few) ∙ step_count seed n
+pub generated_lines : (kind : Drawn) (seed n : ℕ) → seed < 2 ^ 64 → n < 2 ^ 32 → length (lines_of (generated kind seed n)) ≡ n
+generated_lines kind seed n h few = text_count (generated_steps kind seed n) (are_generated kind seed n h few) ∙ step_count kind seed n

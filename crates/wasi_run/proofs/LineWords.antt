@@ -18,7 +18,7 @@ pub use Rattle.wasi_host.specs.KnownSides.{KnowsSides}
 pub use Rattle.wasi_host.specs.declared.machine.Machine.{Machine}
 pub use Rattle.wasi_steps.specs.Replies.{text_of}
 pub use Rattle.wasi_steps.specs.Reply.{address_values, bytes_fields, datagram_values, family_fields, is_trap, no_values, number_fields, pair_values, triple_values}
-pub use Rattle.wasi_steps.specs.Reply.{truth_fields}
+pub use Rattle.wasi_steps.specs.Reply.{received_values, truth_fields}
 pub use Rattle.wasi_steps.specs.declared.reply.Reply.{Reply}
 pub use Rattle.wasi_steps.specs.declared.step.Step.{Step}
 pub use Rattle.wasi_machine.specs.Machine.{answer_reply, answer_reply_of, asks_while, is_guest_call, is_held_up, machine_asks, reply_of, resumed_reply, run, step_asks}

@@ -14,6 +14,7 @@ use Rattle.wasi_run.specs.declared.error.RunError.{RunError}
 use Rattle.wasi_run.specs.declared.error.RunError.TheVariants.{Memory, WriteFault}
 use Rattle.wasi_run.specs.Causes.{ReadsAll, StopsAtTrap}
 use Rattle.wasi_run.specs.declared.counts.Counts.{Counts}
+use Rattle.wasi_run.specs.declared.drawn.Drawn.{Drawn}
 use Rattle.wasi_run.specs.Generate.{generated}
 
 -- how many bytes an answer took
@@ -38,13 +39,13 @@ Finishes limit text after sink seen = ReadsAll (free_context ∷ []) limit (unre
 
 -- The generated script was run over the empty scenario to its end or to a trap, each call was answered by the plan that plans
 -- nothing, and these are the run's counts.
-pub record CountsRun (seed steps : ℕ) (counts : Counts) : Type 0 where
+pub record CountsRun (kind : Drawn) (seed steps : ℕ) (counts : Counts) : Type 0 where
   pub after : Reading
   pub sink : Writing
   pub seen : Seen
   pub log : List Entry
   pub written : List ℕ
-  pub ran : Finishes (length (generated seed steps)) (generated seed steps) after sink seen
+  pub ran : Finishes (length (generated kind seed steps)) (generated kind seed steps) after sink seen
   pub logged : seen.log ≡ Some log
   pub planned : IsScripted no_answers log
   pub wrote : sink.written ≡ Some written

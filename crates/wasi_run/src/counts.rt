@@ -4,6 +4,7 @@ ghost use Rattle.std.specs.Prelude.{◌≡◌, min, IfOk, length, string_bytes, 
 ghost use Rattle.world_text.specs.Lines.{lines_of};
 ghost use Rattle.wasi_run.specs.Counted.{took_count, taken_bytes, CountsRun, IsOwn, summary};
 
+use crate::drawn::Drawn;
 use crate::error::RunError;
 use crate::generate::generate;
 use crate::run::{RunEnd, run_script};
@@ -83,10 +84,15 @@ fn no_memory(error: RunError) -> AllocError
 /// Runs the script of this many lines that is generated from the seed, over the empty scenario, and
 /// counts what it did. Takes memory for the script, its replies and its log. Out of memory, also
 /// for a script longer than 4,294,967,295 bytes.
-pub fn run_generated(alloc: Global, seed: u64, steps: u32) -> Result<Counts, AllocError>
-    ensures { IfOk result (λ counts. CountsRun seed steps counts) }
+pub fn run_generated(
+    alloc: Global,
+    kind: Drawn,
+    seed: u64,
+    steps: u32,
+) -> Result<Counts, AllocError>
+    ensures { IfOk result (λ counts. CountsRun kind seed steps counts) }
 {
-    let script = generate(alloc, seed, steps)?;
+    let script = generate(alloc, kind, seed, steps)?;
     let lines = count_lines(script.as_slice());
     let Ok(limit) = u32::try_from(script.len()) else {
         return Err(AllocError);

@@ -107,6 +107,8 @@ pub(crate) fn group_of(call: &GuestCall) -> CallGroup
         | GuestCall::P3UdpBind { .. }
         | GuestCall::P3UdpConnect { .. }
         | GuestCall::P3UdpDisconnect { .. }
+        | GuestCall::P3UdpSend { .. }
+        | GuestCall::P3UdpReceive { .. }
         | GuestCall::P3UdpLocalAddress { .. }
         | GuestCall::P3UdpRemoteAddress { .. }
         | GuestCall::P3UdpAddressFamily { .. }

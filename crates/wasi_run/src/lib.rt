@@ -4,6 +4,7 @@
 
 mod calls;
 pub mod counts;
+pub mod drawn;
 mod error;
 pub mod generate;
 mod groups;

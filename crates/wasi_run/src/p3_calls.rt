@@ -146,6 +146,14 @@ pub(crate) fn p3_udp_call<W: World>(
             let done = wasi_p3::udp::disconnect(view, world, ids, socket);
             p3_reply(alloc, done)
         }
+        GuestCall::P3UdpSend { socket, datagram } => {
+            let answer = wasi_p3::udp::send(view, world, ids, socket, datagram);
+            p3_answer_reply(alloc, ids.line, answer)
+        }
+        GuestCall::P3UdpReceive { socket } => {
+            let answer = wasi_p3::udp::receive(view, world, ids, socket);
+            p3_answer_reply(alloc, ids.line, answer)
+        }
         GuestCall::P3UdpLocalAddress { socket } => {
             let told = wasi_p3::udp::get_local_address(view, world, ids, socket);
             p3_reply(alloc, told)

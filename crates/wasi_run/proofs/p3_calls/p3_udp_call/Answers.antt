@@ -1,5 +1,5 @@
 use Rattle.wasi_run.proofs.LineWords.{address_values, asks_answered, family_fields, given_answered}
-use Rattle.wasi_run.proofs.LineWords.{no_values, number_fields}
+use Rattle.wasi_run.proofs.LineWords.{no_values, number_fields, received_values}
 use Rattle.wasi_machine.specs.Machine.{p3_answer_reply, p3_reply, lookup_reply}
 use Rattle.wasi_run.proofs.p3_calls.p3_udp_call.Goals as goal
 
@@ -14,6 +14,12 @@ returns-in-P3UdpConnect-clause-asked g c = rw c.in-P3UdpConnect.is (asks_answere
 
 pub returns-in-P3UdpDisconnect-clause-asked : goal.returns-in-P3UdpDisconnect-clause-asked
 returns-in-P3UdpDisconnect-clause-asked g c = rw c.in-P3UdpDisconnect.is (asks_answered (p3_reply no_values) _ _ c.disconnect-done.ensures.asked c.p3_reply.ensures)
+
+pub returns-in-P3UdpSend-clause-asked : goal.returns-in-P3UdpSend-clause-asked
+returns-in-P3UdpSend-clause-asked g c = rw c.in-P3UdpSend.is (asks_answered (p3_answer_reply no_values c.args.ids.now.line) _ _ (rw c.requires.first at c.send-answer.ensures.asked) (rw c.send-answer.ensures.kept.ids at c.p3_answer_reply-in-P3UdpSend.ensures))
+
+pub returns-in-P3UdpReceive-clause-asked : goal.returns-in-P3UdpReceive-clause-asked
+returns-in-P3UdpReceive-clause-asked g c = rw c.in-P3UdpReceive.is (asks_answered (p3_answer_reply received_values c.args.ids.now.line) _ _ (rw c.requires.first at c.receive-answer.ensures.asked) (rw c.receive-answer.ensures.kept.ids at c.p3_answer_reply-in-P3UdpReceive.ensures))
 
 pub returns-in-P3UdpLocalAddress-clause-asked : goal.returns-in-P3UdpLocalAddress-clause-asked
 returns-in-P3UdpLocalAddress-clause-asked g c = rw c.in-P3UdpLocalAddress.is (asks_answered (p3_reply address_values) _ _ c.get_local_address-told.ensures.asked c.p3_reply-in-P3UdpLocalAddress.ensures)
