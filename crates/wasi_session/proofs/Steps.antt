@@ -66,6 +66,7 @@ did_none contexts machine lines seen now e f g = rw (e, f, g) (record {
   going = λ _. record { count = refl; answered = refl; ran = stretch_none contexts first_state 1 seen };
   sides = λ held. held;
   closings = refl;
+  plan = refl;
 })
 
 one_longer : {A B : Type 0} (xs : List A) (ys : List B) (x : A) (y : B) → length xs ≡ length ys → length (xs ++ x ∷ []) ≡ length (ys ++ y ∷ [])
@@ -100,6 +101,7 @@ module _ {s : State} {steps : List Step} {replies : List Reply} {start : Seen} (
       };
       sides = λ held. h.sides (d.sides held);
       closings = h.asked.passed.closings ∙ d.closings;
+      plan = h.asked.passed.plan ∙ d.plan;
     }
 
   -- memory ran out within it
@@ -136,6 +138,7 @@ module _ {s : State} {steps : List Step} {replies : List Reply} {start : Seen} (
       going = λ goes. (let goes = goes in cc);
       sides = λ held. sides (d.sides held);
       closings = h.reached.passed.closings ∙ d.closings;
+      plan = h.reached.passed.plan ∙ d.plan;
     }
 
 -- == whether a step can be done

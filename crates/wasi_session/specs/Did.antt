@@ -32,6 +32,7 @@ pub record Did (s : State) (steps : List Step) (replies : List Reply) (start : S
   -- The records hold each network socket that was made and not closed.
   pub sides : KnowsSides start first_state.store → KnowsSides s.seen s.machine.store
   pub closings : s.seen.closings ≡ start.closings
+  pub plan : s.seen.plan ≡ start.plan
 
 -- whether a step can be done
 abbrev pub in_contexts : List WasiSocketsCtx → Option ℕ → Result (Unit {0}) StepError

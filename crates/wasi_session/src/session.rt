@@ -15,9 +15,10 @@ ghost use Rattle.wasi_session.specs.Did.{Did, DidNext, may_step, is_over_after};
 use crate::error::StepError;
 use std::alloc::Global;
 use std::marker::Model;
+use wasi_decides::Decides;
 use wasi_run::Progress;
 use wasi_steps::{Reply, Step};
-use wasi_world::{WasiSocketsCtx, World};
+use wasi_world::{Waits, WasiSocketsCtx, World};
 
 /// A guest's handles and sockets, and the world that its calls are asked of. A host makes one for
 /// each guest, and through it the guest's calls, one after another.
@@ -148,5 +149,27 @@ impl<W: World> Session<W> {
         ensures { W.seen result.now ≡ self.now.seen }
     {
         &self.world
+    }
+}
+
+impl<W: Waits> Session<W> {
+    /// Waits until a call that the world answered pending may go on, for at most so many
+    /// milliseconds, or without limit where they are negative; and whether one may. A world that
+    /// can't tell returns `false` at once. Does no step, and all that is known of the session
+    /// stays.
+    pub fn wait(&mut self, timeout: i32) -> bool
+        ensures { self.new ≡ self.old }
+    {
+        self.world.wait(timeout)
+    }
+}
+
+impl<W: Decides> Session<W> {
+    /// Answers a check of this number, which its world left pending; and whether it waited for an
+    /// answer. Asks nothing.
+    pub fn decide(&mut self, ask: u64, yes: bool) -> bool
+        ensures { self.new ≡ self.old }
+    {
+        self.world.decide(ask, yes)
     }
 }
