@@ -18,8 +18,8 @@ TOP = os.path.dirname(os.path.dirname(os.path.abspath(__file__)))
 NOT_RUN = 70
 # The files that a program looks for in its folder.
 FILES = ("scenario.txt", "rules.txt", "log.txt")
-# What answers while it runs: a copy, and programs over sockets of this machine.
-STREAMING = {("sockets", "pump")}
+# What answers while it runs: a copy, a relay, and programs over sockets of this machine.
+STREAMING = {("sockets", "pump"), ("relay", "--live")}
 ALWAYS_STREAMING = {"live"}
 # What writes a file, which an unproved run would write elsewhere.
 WRITING = {("recorder", "record")}

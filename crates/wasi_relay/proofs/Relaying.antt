@@ -1,9 +1,9 @@
 -- A relay, whole.
-use Rattle.std.proofs.Common.{◌≡◌, refl, List, [], Option, IfSome, Result, Ok, Err}
+use Rattle.std.proofs.Common.{◌≡◌, ◌∙◌, refl, List, [], Option, IfSome, Result, Ok, Err}
 use Rattle.wasi_world.specs.declared.call.Entry.{Entry}
 use Rattle.wasi_world.specs.declared.outcome.WasiSocketsCtx.{WasiSocketsCtx}
 use Rattle.wasi_world.specs.Seen.{Seen}
-use Rattle.wasi_records.specs.Closing.{AsksNothing}
+use Rattle.wasi_records.specs.Closing.{AsksNothing, HasClosedAll, IsFresh}
 use Rattle.wasi_machine.specs.Machine.{HasRun}
 use Rattle.wasi_walks.specs.Licence.{IsLicensed}
 use Rattle.wasi_session.specs.declared.error.StepError.{StepError}
@@ -55,6 +55,7 @@ module _ {s t : State} {start now : Seen} (order : Order) (contexts : List WasiS
         licensed = λ empty. is_licensed went there.steps there.replies (there.did.licensed empty);
         ran = λ empty. same_log (λ ctx log. HasRun ctx there.steps log there.replies) quiet.log went.contexts same (there.did.ran empty);
         addresses = λ empty. keeps_in order there.steps made contexts now.log there.replies (is_licensed went there.steps there.replies (there.did.licensed empty));
+        plan = quiet.plan ∙ there.did.plan;
       }
   relays (Err e) went =
       let there : Stopped (relay_guest order) start t = went.goes (relay_guest order) start at_end (begun order first) in
@@ -66,4 +67,14 @@ module _ {s t : State} {start now : Seen} (order : Order) (contexts : List WasiS
         licensed = λ empty. is_licensed went there.steps there.replies (there.did.licensed empty);
         ran = λ empty. same_log (λ ctx log. HasRun ctx there.steps log there.replies) quiet.log went.contexts same (there.did.ran empty);
         addresses = λ empty. keeps_in order there.steps made contexts now.log there.replies (is_licensed went there.steps there.replies (there.did.licensed empty));
+        plan = quiet.plan ∙ there.did.plan;
       }
+
+  -- what is closed at the end of all that a session did
+  pub closes : (result : Result RelayEnd StepError) → Went (relayed order) s t (finished at result) → ((steps : List AStep) (replies : List Reply) (first : Seen) → Did t steps replies first → IsFresh first → HasClosedAll now) → IsFresh start → HasClosedAll now
+  closes (Ok end) went closed fresh =
+      let there : Stands (relay_guest order) (at_end (finish end at)) start t = went.goes (relay_guest order) start at_end (begun order first) in
+      closed there.steps there.replies start there.did fresh
+  closes (Err e) went closed fresh =
+      let there : Stopped (relay_guest order) start t = went.goes (relay_guest order) start at_end (begun order first) in
+      closed there.steps there.replies start there.did fresh

@@ -44,6 +44,10 @@ pub turn_ends : {T : Type 0} {s t u v : State} {reply : Reply} (order : Order) (
 turn_ends order listener at new pairs result h k l =
     went_then (λ r. accepted order listener at >>= serve_then) h (went_then serve_then k (went_maps (λ ps. record { taken = new.taken; pairs = ps }) pairs result l))
 
+pub turn_breaks : {T : Type 0} {s t u v : State} {reply : Reply} {e : StepError} (order : Order) (listener : Listener) (at new after : Course) (result : Result T StepError) → IsErr result → Went (one Turn) s t (Ok reply) → Went (accepted order listener at) t u (Ok new) → Went (served_each new.pairs) u v (Err e) → Went (turned order listener at) s v (given after result)
+turn_breaks order listener at new after result is h k l =
+    went_then (λ r. accepted order listener at >>= serve_then) h (went_then serve_then k (went_quits_given (λ ps. give (record { taken = new.taken; pairs = ps })) after result is l))
+
 -- == turn after turn
 less_one : (n : ℕ) → suc n - 1 ≡ n
 less_one n = omega arith

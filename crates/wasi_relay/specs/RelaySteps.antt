@@ -52,3 +52,4 @@ pub record Relays (order : Order) (contexts : List WasiSocketsCtx) (start now : 
   pub ran : start.log ≡ Some [] → IfSome now.log (λ log. HasRun contexts steps log replies)
   -- Each bind was to the listen address, and each connect to the target.
   pub addresses : start.log ≡ Some [] → IfSome now.log (KeepsTo order)
+  pub plan : now.plan ≡ start.plan

@@ -4,6 +4,7 @@
 
 mod calls;
 mod copying;
+pub mod idle;
 pub mod order;
 pub mod pair;
 pub mod service;
@@ -11,6 +12,7 @@ mod serving;
 mod setup;
 mod turns;
 
+pub use idle::{Idle, NoWait};
 pub use order::Order;
 pub use pair::{DirEnd, Flow, Pair, Peer, Stage};
 pub use service::{RelayEnd, Relayed, relay};

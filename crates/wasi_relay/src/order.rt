@@ -18,6 +18,12 @@ pub struct Order {
     pub turns: u32,
 }
 
+impl Order {
+    /// More turns than a session has steps for: the relay ends when all arrivals are over, or when
+    /// no number is left for a step, `StepError::TooMany`.
+    pub const ENDLESS: u32 = u32::MAX;
+}
+
 /// The family of an address.
 pub(crate) fn family_of(addr: IpSocketAddress) -> SocketAddressFamily
     ensures { result ≡ family_of addr }

@@ -1,10 +1,12 @@
 //! The relay, whole.
 
 ghost use Rattle.std.specs.Prelude.{◌≡◌, false, true};
+ghost use Rattle.wasi_records.specs.Closing.{HasClosedAll, IsFresh};
 ghost use Rattle.wasi_relay.specs.Went.{Went};
 ghost use Rattle.wasi_relay.specs.Turns.{course_of, finished};
 ghost use Rattle.wasi_relay.specs.RelaySteps.{Relays, relayed, no_course};
 
+use crate::idle::Idle;
 use crate::order::Order;
 use crate::pair::Pair;
 use crate::setup::set_up;
@@ -38,16 +40,18 @@ pub struct Relayed<W: World> {
 
 /// Serves an order by a guest of context 0, over a world whose end mark isn't set, and ends it.
 ///
-/// The guest's steps are those of the definition, whatever the world answers. Takes memory for each
-/// pair, and for what its calls take.
-pub fn relay<W: World>(
+/// The guest's steps are those of the definition, whatever the world answers; `idle` is done after
+/// each turn that follows the setup. Takes memory for each pair, and for what its calls take.
+pub fn relay<W: World, I: Idle<W>>(
     alloc: Global,
     world: W,
     contexts: Vec<WasiSocketsCtx>,
     order: Order,
+    idle: &mut I,
 ) -> Relayed<W>
     requires { (W.seen world).ended ≡ false }
     ensures ended { (W.seen result.world).ended ≡ true }
+    ensures closed { IsFresh (W.seen world) → HasClosedAll (W.seen result.world) }
     ensures went { Relays order contexts.items (W.seen world) (W.seen result.world) result.end
         result.pairs.items }
 {
@@ -56,7 +60,7 @@ pub fn relay<W: World>(
         taken: 0,
         pairs: Vec::new(alloc),
     };
-    let end = serve(alloc, &mut session, order, &mut at);
+    let end = serve(alloc, &mut session, order, &mut at, idle);
     Relayed {
         end,
         pairs: at.pairs,
@@ -65,17 +69,18 @@ pub fn relay<W: World>(
 }
 
 /// Sets the relay up and makes its turns.
-fn serve<W: World>(
+fn serve<W: World, I: Idle<W>>(
     alloc: Global,
     session: &mut Session<W>,
     order: Order,
     at: &mut Progress,
+    idle: &mut I,
 ) -> Result<RelayEnd, StepError>
     requires { course_of at.old ≡ no_course }
     ensures { Went (relayed order) session.old session.new (finished (course_of at.new) result) }
 {
     match set_up(session, order) {
-        Ok(listener) => make_turns(alloc, session, order, listener, at),
+        Ok(listener) => make_turns(alloc, session, order, listener, at, idle),
         Err(stop) => stop.end(),
     }
 }

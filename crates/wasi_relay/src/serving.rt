@@ -61,19 +61,22 @@ impl Pair {
     }
 }
 
-/// Each pair's part of a turn, in order.
+/// Each pair's part of a turn, in order; and whether one of them moved.
 pub(crate) fn serve_each<W: World>(
     alloc: Global,
     session: &mut Session<W>,
     pairs: &mut [Pair],
-) -> Result<(), StepError>
+) -> Result<bool, StepError>
     ensures { Went (served_each pairs.old) session.old session.new
         (given pairs.new result) }
 {
+    let mut moved = false;
     for pair in pairs.iter_mut() {
-        *pair = serve(alloc, session, *pair)?;
+        let served = serve(alloc, session, *pair)?;
+        moved |= served != *pair;
+        *pair = served;
     }
-    Ok(())
+    Ok(moved)
 }
 
 /// A pair's part of a turn. Once no direction is open, the pair is over.

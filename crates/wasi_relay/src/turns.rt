@@ -9,6 +9,7 @@ ghost use Rattle.wasi_relay.specs.Turns.{turned, accepted, after_accept, paired,
 ghost use Rattle.wasi_relay.specs.Turns.{rounds, last_end, finished};
 
 use crate::calls::{call, handle_at, step};
+use crate::idle::Idle;
 use crate::order::{Order, family_of};
 use crate::pair::{Pair, Peer};
 use crate::service::RelayEnd;
@@ -54,13 +55,14 @@ impl Progress {
     }
 }
 
-/// Makes turns until all arrivals are over or no turn is left.
-pub(crate) fn make_turns<W: World>(
+/// Makes turns until all arrivals are over or no turn is left, and what is to be done after each.
+pub(crate) fn make_turns<W: World, I: Idle<W>>(
     alloc: Global,
     session: &mut Session<W>,
     order: Order,
     listener: Listener,
     at: &mut Progress,
+    idle: &mut I,
 ) -> Result<RelayEnd, StepError>
     ensures { Went (rounds order listener listener.turns (course_of at.old)) session.old
         session.new (finished (course_of at.new) result) }
@@ -71,7 +73,8 @@ pub(crate) fn make_turns<W: World>(
             return Ok(RelayEnd::Served);
         }
         left -= 1;
-        make_turn(alloc, session, order, listener, at)?;
+        let moved = make_turn(alloc, session, order, listener, at)?;
+        idle.after_turn(session, moved, at.pairs.as_slice());
     }
     Ok(last_end(at, &order))
 }
@@ -86,20 +89,23 @@ fn last_end(at: &Progress, order: &Order) -> RelayEnd
     RelayEnd::Budget
 }
 
-/// Makes a turn.
+/// Makes a turn; and whether it took an arrival, a byte or an end.
 fn make_turn<W: World>(
     alloc: Global,
     session: &mut Session<W>,
     order: Order,
     listener: Listener,
     at: &mut Progress,
-) -> Result<(), StepError>
+) -> Result<bool, StepError>
     ensures { Went (turned order listener (course_of at.old)) session.old session.new
         (given (course_of at.new) result) }
 {
     step(session, Step::Turn)?;
+    let before = at.taken;
     accept(session, order, listener, at)?;
-    serve_each(alloc, session, at.pairs.as_mut_slice())
+    let arrived = at.taken != before;
+    let moved = serve_each(alloc, session, at.pairs.as_mut_slice())?;
+    Ok(moved | arrived)
 }
 
 /// Accepts an arrival, if one may be.

@@ -1,0 +1,4 @@
+pub mod Words
+pub mod PairLines
+pub mod Status
+pub mod Ends
