@@ -1,0 +1,170 @@
+//! The arguments of a call: the numbers that the guest passed, with the types that they have.
+
+ghost use Rattle.std.specs.Prelude.{◌<◌};
+
+use crate::memory::bytes_at;
+use std::alloc::{AllocError, Global};
+use wasi_addr::{IpSocketAddress, Ipv4SocketAddress, Ipv6SocketAddress, SocketAddressFamily};
+
+/// Why a call isn't made.
+#[derive(Clone, Copy, Debug, PartialEq, Eq)]
+pub enum Refusal {
+    /// No call has this number, or an argument is missing or too great for its type.
+    Argument,
+    /// A place isn't within the guest's memory.
+    Bounds,
+    /// The place for the list that it gives is too small.
+    Room,
+    /// Memory ran out.
+    Memory,
+}
+
+impl From<AllocError> for Refusal {
+    fn from(_: AllocError) -> Refusal {
+        Refusal::Memory
+    }
+}
+
+/// The arguments of a call, in order, and the memory that they point into.
+#[derive(Clone, Copy)]
+pub struct Args<'a> {
+    pub alloc: Global,
+    pub numbers: &'a [u64],
+    pub memory: &'a [u8],
+}
+
+/// An argument as a number of 8 bits.
+fn byte_of(number: u64) -> Result<u8, Refusal> {
+    if number > 255 {
+        return Err(Refusal::Argument);
+    }
+    Ok(number as u8)
+}
+
+/// An argument as a number of 16 bits.
+fn half_of(number: u64) -> Result<u16, Refusal> {
+    if number > 65535 {
+        return Err(Refusal::Argument);
+    }
+    Ok(number as u16)
+}
+
+/// An argument as a number of 32 bits.
+fn word_of(number: u64) -> Result<u32, Refusal> {
+    if number > 4_294_967_295 {
+        return Err(Refusal::Argument);
+    }
+    Ok(number as u32)
+}
+
+impl Args<'_> {
+    /// The argument at a place, counted from 0.
+    pub fn wide(&self, place: usize) -> Result<u64, Refusal> {
+        match self.numbers.get(place) {
+            Some(number) => Ok(*number),
+            None => Err(Refusal::Argument),
+        }
+    }
+
+    /// An argument of 32 bits, as a handle.
+    pub fn word(&self, place: usize) -> Result<u32, Refusal> {
+        word_of(self.wide(place)?)
+    }
+
+    /// An argument of 16 bits.
+    fn half(&self, place: usize) -> Result<u16, Refusal> {
+        half_of(self.wide(place)?)
+    }
+
+    /// An argument of 8 bits.
+    pub fn byte(&self, place: usize) -> Result<u8, Refusal> {
+        byte_of(self.wide(place)?)
+    }
+
+    /// Whether an argument is true, which is 1.
+    pub fn truth(&self, place: usize) -> Result<bool, Refusal> {
+        match self.wide(place)? {
+            0 => Ok(false),
+            1 => Ok(true),
+            _ => Err(Refusal::Argument),
+        }
+    }
+
+    /// A list of bytes: its place in the memory, and its length.
+    pub fn bytes(&self, place: usize) -> Result<&[u8], Refusal>
+        requires { place < 1000 }
+    {
+        let at = self.word(place)?;
+        let len = self.word(place + 1)?;
+        match bytes_at(self.memory, at, len) {
+            Some(bytes) => Ok(bytes),
+            None => Err(Refusal::Bounds),
+        }
+    }
+
+    /// A family: 0 is IPv4, 1 is IPv6.
+    pub fn family(&self, place: usize) -> Result<SocketAddressFamily, Refusal> {
+        match self.wide(place)? {
+            0 => Ok(SocketAddressFamily::Ipv4),
+            1 => Ok(SocketAddressFamily::Ipv6),
+            _ => Err(Refusal::Argument),
+        }
+    }
+
+    /// An address: its case, 0 for IPv4 and 1 for IPv6, and eleven numbers, of which IPv4 uses
+    /// five.
+    pub fn address(&self, place: usize) -> Result<IpSocketAddress, Refusal>
+        requires { place < 1000 }
+    {
+        match self.family(place)? {
+            SocketAddressFamily::Ipv4 => Ok(IpSocketAddress::Ipv4(self.ipv4(place + 1)?)),
+            SocketAddressFamily::Ipv6 => Ok(IpSocketAddress::Ipv6(self.ipv6(place + 1)?)),
+        }
+    }
+
+    /// An address of IPv4: its port and its four bytes.
+    fn ipv4(&self, place: usize) -> Result<Ipv4SocketAddress, Refusal>
+        requires { place < 2000 }
+    {
+        Ok(Ipv4SocketAddress {
+            port: self.half(place)?,
+            address: (
+                self.byte(place + 1)?,
+                self.byte(place + 2)?,
+                self.byte(place + 3)?,
+                self.byte(place + 4)?,
+            ),
+        })
+    }
+
+    /// An address of IPv6: its port, its flow info, its eight segments and its scope.
+    fn ipv6(&self, place: usize) -> Result<Ipv6SocketAddress, Refusal>
+        requires { place < 2000 }
+    {
+        Ok(Ipv6SocketAddress {
+            port: self.half(place)?,
+            flow_info: self.word(place + 1)?,
+            address: (
+                self.half(place + 2)?,
+                self.half(place + 3)?,
+                self.half(place + 4)?,
+                self.half(place + 5)?,
+                self.half(place + 6)?,
+                self.half(place + 7)?,
+                self.half(place + 8)?,
+                self.half(place + 9)?,
+            ),
+            scope_id: self.word(place + 10)?,
+        })
+    }
+
+    /// An address, where the number before it is 1.
+    pub fn maybe_address(&self, place: usize) -> Result<Option<IpSocketAddress>, Refusal>
+        requires { place < 500 }
+    {
+        if !self.truth(place)? {
+            return Ok(None);
+        }
+        Ok(Some(self.address(place + 1)?))
+    }
+}

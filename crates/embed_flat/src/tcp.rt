@@ -1,0 +1,106 @@
+//! The calls on TCP sockets.
+
+use crate::args::{Args, Refusal};
+use crate::op;
+use socket_common::Setting;
+use wasi_addr::ShutdownType;
+use wasi_steps::{GuestCall, TcpSetting};
+use wasi_world::{Handle, Opt};
+
+/// Which half is shut down: 0 is receive, 1 is send, 2 is both.
+fn shutdown_type(args: &Args<'_>, place: usize) -> Result<ShutdownType, Refusal> {
+    match args.wide(place)? {
+        0 => Ok(ShutdownType::Receive),
+        1 => Ok(ShutdownType::Send),
+        2 => Ok(ShutdownType::Both),
+        _ => Err(Refusal::Argument),
+    }
+}
+
+/// The option that a getter reads.
+fn option_of(number: u32) -> Option<Opt> {
+    match number {
+        op::TCP_KEEP_ALIVE_ENABLED => Some(Opt::KeepAliveEnabled),
+        op::TCP_KEEP_ALIVE_IDLE_TIME => Some(Opt::KeepAliveIdleTime),
+        op::TCP_KEEP_ALIVE_INTERVAL => Some(Opt::KeepAliveInterval),
+        op::TCP_KEEP_ALIVE_COUNT => Some(Opt::KeepAliveCount),
+        op::TCP_HOP_LIMIT => Some(Opt::HopLimit),
+        op::TCP_RECEIVE_BUFFER_SIZE => Some(Opt::ReceiveBufferSize),
+        op::TCP_SEND_BUFFER_SIZE => Some(Opt::SendBufferSize),
+        _ => None,
+    }
+}
+
+/// What a setter sets.
+fn setting(number: u32, args: &Args<'_>) -> Result<TcpSetting, Refusal> {
+    let setting = match number {
+        op::TCP_SET_KEEP_ALIVE_ENABLED => Setting::KeepAliveEnabled(args.truth(1)?),
+        op::TCP_SET_KEEP_ALIVE_IDLE_TIME => Setting::KeepAliveIdleTime(args.wide(1)?),
+        op::TCP_SET_KEEP_ALIVE_INTERVAL => Setting::KeepAliveInterval(args.wide(1)?),
+        op::TCP_SET_KEEP_ALIVE_COUNT => Setting::KeepAliveCount(args.word(1)?),
+        op::TCP_SET_HOP_LIMIT => Setting::HopLimit(args.byte(1)?),
+        op::TCP_SET_RECEIVE_BUFFER_SIZE => Setting::ReceiveBufferSize(args.wide(1)?),
+        op::TCP_SET_SEND_BUFFER_SIZE => Setting::SendBufferSize(args.wide(1)?),
+        op::TCP_SET_LISTEN_BACKLOG_SIZE => {
+            return Ok(TcpSetting::ListenBacklogSize(args.wide(1)?));
+        }
+        _ => return Err(Refusal::Argument),
+    };
+    Ok(TcpSetting::Option(setting))
+}
+
+/// A bind or a connect.
+fn addressed(number: u32, args: &Args<'_>) -> Result<GuestCall, Refusal> {
+    let socket = args.word(0)?;
+    let network = args.word(1)?;
+    let addr = args.address(2)?;
+    match number {
+        op::TCP_START_BIND => Ok(GuestCall::TcpStartBind {
+            socket,
+            network,
+            addr,
+        }),
+        op::TCP_START_CONNECT => Ok(GuestCall::TcpStartConnect {
+            socket,
+            network,
+            addr,
+        }),
+        _ => Err(Refusal::Argument),
+    }
+}
+
+/// A call with the socket as its one argument.
+fn bare(number: u32, socket: Handle) -> Option<GuestCall> {
+    match number {
+        op::TCP_FINISH_BIND => Some(GuestCall::TcpFinishBind { socket }),
+        op::TCP_FINISH_CONNECT => Some(GuestCall::TcpFinishConnect { socket }),
+        op::TCP_START_LISTEN => Some(GuestCall::TcpStartListen { socket }),
+        op::TCP_FINISH_LISTEN => Some(GuestCall::TcpFinishListen { socket }),
+        op::TCP_ACCEPT => Some(GuestCall::TcpAccept { socket }),
+        op::TCP_LOCAL_ADDRESS => Some(GuestCall::TcpLocalAddress { socket }),
+        op::TCP_REMOTE_ADDRESS => Some(GuestCall::TcpRemoteAddress { socket }),
+        op::TCP_IS_LISTENING => Some(GuestCall::TcpIsListening { socket }),
+        op::TCP_ADDRESS_FAMILY => Some(GuestCall::TcpAddressFamily { socket }),
+        _ => None,
+    }
+}
+
+/// The call on a TCP socket that has this number.
+pub fn tcp_call(number: u32, args: &Args<'_>) -> Result<GuestCall, Refusal> {
+    if matches!(number, op::TCP_START_BIND | op::TCP_START_CONNECT) {
+        return addressed(number, args);
+    }
+    let socket = args.word(0)?;
+    if let Some(call) = bare(number, socket) {
+        return Ok(call);
+    }
+    if let Some(option) = option_of(number) {
+        return Ok(GuestCall::TcpGet { socket, option });
+    }
+    if number == op::TCP_SHUTDOWN {
+        let how = shutdown_type(args, 1)?;
+        return Ok(GuestCall::TcpShutdown { socket, how });
+    }
+    let setting = setting(number, args)?;
+    Ok(GuestCall::TcpSet { socket, setting })
+}

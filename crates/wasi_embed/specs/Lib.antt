@@ -1,0 +1,2 @@
+pub mod HasDid
+pub mod Held
