@@ -12,3 +12,4 @@ pub mod Checked
 pub mod Lines
 pub mod Steps
 pub mod Runs
+pub mod Replied

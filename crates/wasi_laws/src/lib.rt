@@ -4,6 +4,7 @@
 
 pub mod polls;
 pub mod receives;
+pub mod writes;
 
 ghost use Rattle.std.specs.Prelude.{◌≡◌, ℕ, ◌+◌, ◌<◌, List, [], ◌∷◌, ◌++◌, Some, length};
 ghost use Rattle.wasi_world.specs.declared.call.Call.TheVariants as Call;

@@ -1,0 +1,46 @@
+//! What a write is let write, by its reply: a law over the definitions of specs/. It is a function
+//! that does nothing, whose contract is the law.
+
+ghost use Rattle.std.specs.Prelude.{◌≡◌, ℕ, List, []};
+ghost use Rattle.wasi_world.specs.declared.call.Entry.{Entry};
+ghost use Rattle.wasi_world.specs.declared.ids.OpId.{OpId};
+ghost use Rattle.wasi_world.specs.declared.outcome.WasiSocketsCtx.{WasiSocketsCtx};
+ghost use Rattle.wasi_world.specs.Asks.{Give, Left};
+ghost use Rattle.wasi_tcp.specs.Taken.{IsFrontOf};
+ghost use Rattle.wasi_host.specs.declared.machine.Machine.{Machine};
+ghost use Rattle.wasi_host.specs.Machine.{first_state};
+ghost use Rattle.wasi_machine.specs.Machine.{run};
+ghost use Rattle.wasi_steps.specs.declared.guest_call.GuestCall.{GuestCall};
+ghost use Rattle.wasi_steps.specs.declared.reply.Field.{Field};
+ghost use Rattle.wasi_steps.specs.declared.reply.Reply.{Reply};
+ghost use Rattle.wasi_steps.specs.declared.step.Step.{Step};
+ghost use Rattle.wasi_walks.specs.Answered.{Answered};
+ghost use Rattle.wasi_walks.specs.Licence.{IsSide};
+ghost use Rattle.wasi_laws.specs.Permitted.{permitted_by};
+
+/// Which of the bytes that a `write` offers it is let write to a network socket.
+///
+/// - `done`: in a run one that is done, on an output that was marked with the network socket, all
+///   of them.
+/// - `others`: where the output wasn't marked with the network socket, none.
+/// - `front`: whatever the reply is, a prefix of them.
+pub fn writes_that_are_done_are_let_whole()
+    ensures done { (contexts : List WasiSocketsCtx) (steps : List Step) (log : List Entry)
+        (replies : List Reply) (m : Machine) (line ctx output : ℕ) (bytes : List ℕ) (side : OpId)
+        (entries : List Entry) (fields : List Field) (after : Machine)
+        → Left (run contexts [] first_state 1 steps) log (Give (replies, m))
+        → IsSide log output side
+        → Answered contexts m line (Step.Call ctx (GuestCall.Write output bytes)) entries
+        (Reply.Ok fields) after
+        → permitted_by m side line (Step.Call ctx (GuestCall.Write output bytes)) entries ≡ bytes }
+    ensures others { (contexts : List WasiSocketsCtx) (steps : List Step) (log : List Entry)
+        (replies : List Reply) (m : Machine) (line ctx output : ℕ) (bytes : List ℕ) (side : OpId)
+        (entries : List Entry)
+        → Left (run contexts [] first_state 1 steps) log (Give (replies, m))
+        → (IsSide log output side → ⊥)
+        → permitted_by m side line (Step.Call ctx (GuestCall.Write output bytes)) entries ≡ [] }
+    ensures front { (m : Machine) (line ctx output : ℕ) (bytes : List ℕ) (side : OpId)
+        (entries : List Entry)
+        → IsFrontOf (permitted_by m side line (Step.Call ctx (GuestCall.Write output bytes)) entries)
+        bytes }
+{}
