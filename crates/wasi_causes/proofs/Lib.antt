@@ -7,6 +7,7 @@ pub mod resolving
 pub mod resuming
 pub mod sockets
 pub mod streams
+pub mod reads
 pub mod pollables
 pub mod Releases
 pub mod Ending

@@ -36,5 +36,6 @@ pub mod P3Connects
 pub mod NamedRecords
 pub mod TurnPolls
 pub mod HandedBytes
+pub mod ToldBytes
 pub mod Marks
 pub mod LookPolls
