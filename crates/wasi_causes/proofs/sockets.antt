@@ -20,3 +20,4 @@ pub mod P3Results
 pub mod ListenLives
 pub mod P3UdpPolls
 pub mod UdpCreates
+pub mod NewHandles

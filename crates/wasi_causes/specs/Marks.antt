@@ -1,5 +1,5 @@
 -- Marks of handles in the logs of runs.
-use Rattle.std.specs.Prelude.{◌≡◌, ℕ, ◌+◌, List, [], ◌∷◌, ◌++◌, Option, Some}
+use Rattle.std.specs.Prelude.{◌≡◌, ℕ, ◌+◌, ◌<◌, ◌^◌, List, [], ◌∷◌, ◌++◌, Option, Some}
 use Rattle.wasi_addr.specs.declared.address.ShutdownType.TheVariants.{Receive}
 use Rattle.wasi_world.specs.declared.call.Call.TheVariants.{Made, Read, Shutdown}
 use Rattle.wasi_world.specs.declared.call.Entry.{Entry}
@@ -11,8 +11,8 @@ use Rattle.wasi_addr.specs.declared.code.ErrorCode.{ErrorCode}
 use Rattle.wasi_world.specs.declared.ids.OpId.{OpId}
 use Rattle.wasi_steps.specs.declared.reply.CodeWord.{CodeWord}
 use Rattle.wasi_steps.specs.declared.reply.Field.{Field}
-use Rattle.wasi_steps.specs.Reply.{triple_fields}
-use Rattle.wasi_walks.specs.Allowed.{IsSide, entry}
+use Rattle.wasi_steps.specs.Reply.{number_fields, pair_fields, triple_fields}
+use Rattle.wasi_walks.specs.Allowed.{Has, IsSide, entry}
 use Rattle.wasi_walks.specs.Answered.{word_of_code}
 use Rattle.wasi_walks.specs.Licence.{marks_in}
 use Rattle.wasi_walks.specs.Listens.{accepted_marks}
@@ -62,3 +62,34 @@ pub record FailsAtLast (log : List Entry) (own : OpId) (stream : ℕ) (word : Co
   pub rest : List Entry
   pub cut : entries ≡ front ++ rest
   pub fails : FailsOnItsSide log own stream word rest
+
+-- The handle was marked among these entries by this operation, and has 32 bits.
+pub record IsNewHandle (own : OpId) (entries : List Entry) (handle : ℕ) : Type 0 where
+  pub kind : HandleKind
+  pub parent : Option ℕ
+  pub sock : Option OpId
+  pub told : Told
+  pub marked : Has entries (entry own (Made handle kind parent sock) told)
+  pub small : handle < 2 ^ 32
+
+-- A reply gives such a handle; or two, or three.
+pub record GivesOne (own : OpId) (entries : List Entry) (fields : List Field) : Type 0 where
+  pub handle : ℕ
+  pub gives : fields ≡ number_fields handle
+  pub made : IsNewHandle own entries handle
+
+pub record GivesTwo (own : OpId) (entries : List Entry) (fields : List Field) : Type 0 where
+  pub input : ℕ
+  pub output : ℕ
+  pub gives : fields ≡ pair_fields input output
+  pub input_made : IsNewHandle own entries input
+  pub output_made : IsNewHandle own entries output
+
+pub record GivesThree (own : OpId) (entries : List Entry) (fields : List Field) : Type 0 where
+  pub socket : ℕ
+  pub input : ℕ
+  pub output : ℕ
+  pub gives : fields ≡ triple_fields socket input output
+  pub socket_made : IsNewHandle own entries socket
+  pub input_made : IsNewHandle own entries input
+  pub output_made : IsNewHandle own entries output

@@ -1,5 +1,5 @@
-//! Which bytes reads hand out in runs, and that other steps are told none: laws over the definitions
-//! of specs/. Each is a function that does nothing, whose contract is the law.
+//! Which bytes reads hand out in runs, and that other steps are told none: laws over the
+//! definitions of specs/. Each is a function that does nothing, whose contract is the law.
 
 ghost use Rattle.std.specs.Prelude.{◌≡◌, ℕ, List, [], ◌∷◌, Some};
 ghost use Rattle.wasi_world.specs.declared.call.Entry.{Entry};
@@ -74,8 +74,8 @@ pub fn reads_hand_out_all_they_were_told()
 {}
 
 /// No network socket tells bytes to a step that reads nothing: the calls by which a TCP socket is
-/// made, bound, connected, listened with, accepted from and shut down, a `check-write`, a `write`, a
-/// drop of any handle, and a turn.
+/// made, bound, connected, listened with, accepted from and shut down, a `check-write`, a `write`,
+/// a drop of any handle, and a turn.
 ///
 /// - `step`: in the line of such a step.
 /// - `polled`: nor to a poll, while no call that blocks is pending.

@@ -18,7 +18,9 @@ ghost use Rattle.wasi_steps.specs.declared.reply.Field.{Field};
 ghost use Rattle.wasi_steps.specs.declared.reply.Reply.{Reply};
 ghost use Rattle.wasi_steps.specs.declared.step.Step.{Step};
 ghost use Rattle.wasi_walks.specs.Answered.{Answered};
+ghost use Rattle.wasi_addr.specs.declared.address.SocketAddressFamily.{SocketAddressFamily};
 ghost use Rattle.wasi_causes.specs.Marks.{FailsAtLast, FailsOnItsSide, MarksThree, TwoMarks};
+ghost use Rattle.wasi_causes.specs.Marks.{GivesOne, GivesThree, GivesTwo};
 
 /// In a run no two marks have one handle, so the three of an accept are three.
 ///
@@ -69,4 +71,26 @@ pub fn failed_reads_are_of_their_stream()
         (BlockingCall.Read stream len)))
         → Answered contexts m line (Step.Poll ids.line) entries (Reply.Failed word handle) after
         → FailsAtLast log (own_of ids.line) stream word entries }
+{}
+
+/// The handles that a call gives as it makes a socket or its streams were marked in its line, and
+/// have 32 bits.
+///
+/// - `created`: the one of a create.
+/// - `connected`: the two of a connect that is finished.
+/// - `accepted`: the three of an accept.
+pub fn handles_that_are_given_are_marked()
+    ensures created { (contexts : List WasiSocketsCtx) (m : Machine) (line ctx : ℕ)
+        (family : SocketAddressFamily) (fields : List Field) (entries : List Entry)
+        (after : Machine)
+        → Answered contexts m line (Step.Call ctx (GuestCall.TcpCreate family)) entries
+        (Reply.Ok fields) after → GivesOne (own_of line) entries fields }
+    ensures connected { (contexts : List WasiSocketsCtx) (m : Machine) (line ctx socket : ℕ)
+        (fields : List Field) (entries : List Entry) (after : Machine)
+        → Answered contexts m line (Step.Call ctx (GuestCall.TcpFinishConnect socket)) entries
+        (Reply.Ok fields) after → GivesTwo (own_of line) entries fields }
+    ensures accepted { (contexts : List WasiSocketsCtx) (m : Machine) (line ctx listener : ℕ)
+        (fields : List Field) (entries : List Entry) (after : Machine)
+        → Answered contexts m line (Step.Call ctx (GuestCall.TcpAccept listener)) entries
+        (Reply.Ok fields) after → GivesThree (own_of line) entries fields }
 {}
