@@ -13,3 +13,4 @@ pub mod Lines
 pub mod Steps
 pub mod Runs
 pub mod Replied
+pub mod Marked

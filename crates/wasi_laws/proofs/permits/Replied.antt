@@ -84,13 +84,13 @@ none_within side half permit = by_tests (is_same half.side side) (nat_lt permit 
 
 -- == in a run
 module _ (contexts : List WasiSocketsCtx) (steps : List Step) (log : List Entry) (replies : List Reply) (m : Machine) (w : Left (run contexts [] first_state 1 steps) log (Give (replies, m))) where
-  fine : (line : ℕ) × Fine contexts steps line log m
+  pub fine : (line : ℕ) × Fine contexts steps line log m
   fine = runs_fine contexts steps log replies m w
 
-  licensed : IsLicensed contexts steps log []
+  pub licensed : IsLicensed contexts steps log []
   licensed = begun_licensed contexts steps log (Give (replies, m)) w
 
-  output_kind : (k : Option Kind) (place : ℕ) → output_of k ≡ Some place → k ≡ Some (Output place)
+  pub output_kind : (k : Option Kind) (place : ℕ) → output_of k ≡ Some place → k ≡ Some (Output place)
   output_kind (Some (Output p)) place e = ap (λ (o : Option ℕ). by_place o) e
     where
       by_place : Option ℕ → Option Kind
@@ -99,7 +99,7 @@ module _ (contexts : List WasiSocketsCtx) (steps : List Step) (log : List Entry)
   output_kind _ place e = absurd (cc)
 
   -- an output of no connection has no network socket
-  plain_apart : (output : ℕ) (side : OpId) (k : Option Kind) (plain : APlainOutput) → kind_at m.table output ≡ k → plain_output_of k ≡ Some plain → IsSide log output side → ⊥
+  pub plain_apart : (output : ℕ) (side : OpId) (k : Option Kind) (plain : APlainOutput) → kind_at m.table output ≡ k → plain_output_of k ≡ Some plain → IsSide log output side → ⊥
   plain_apart output side (Some (PlainOutput o)) plain names e s =
       let none : IsMarkedWith log output None = (fine.1.fine.handles output (PlainOutput o) names).2 in
       let some : IsMarkedWith log output (Some side) = record { op = s.op; kind = s.kind; parent = s.parent; told = s.told; mark = s.mark } in
