@@ -18,13 +18,15 @@ use Rattle.wasi_net.specs.declared.errno.Errno.{Errno}
 use Rattle.wasi_net.specs.declared.hosts.Named.{Named}
 use Rattle.wasi_net.specs.declared.setting.Setting.{Setting}
 use Rattle.wasi_net.specs.declared.setting.Setting.TheVariants as setting
+use Rattle.wasi_net.specs.declared.socket.Room.{Room}
+use Rattle.wasi_net.specs.declared.socket.Room.TheVariants.{Unknown, Found}
 use Rattle.wasi_net.specs.Acts.{Act, Acts, Status, after}
 use Rattle.wasi_net.specs.Acts as act
 use Rattle.wasi_net.specs.Allowed.{Policy}
 use Rattle.wasi_net.specs.Errno.{goes_on}
 use Rattle.wasi_net.specs.Ready.{look}
 use Rattle.wasi_net.specs.Storage.{domain_of, kind_of, connect_to, disconnect, set_to}
-use Rattle.wasi_net.specs.Does.{Does, ConnectAsks, OnReady, OnLook, OnConnect, OnConnected, OnConnecting, OnInvalid, OnUdpConnect, OnSetting, OnGetting, setting_of, is_connecting, WriteDoes, SendDoes}
+use Rattle.wasi_net.specs.Does.{Does, ConnectAsks, OnReady, OnLook, OnConnect, OnConnected, OnConnecting, OnInvalid, OnUdpConnect, OnSetting, OnGetting, setting_of, is_connecting, OnRoom, WriteDoes, SendDoes}
 use Rattle.wasi_net.specs.Known.{Known, Sides, Same, With}
 use Rattle.wasi_net.specs.Answers.{OnSide, Stays, TellsOnly, AnswersAt, OnItsSide, missing, OnSocket, OnMade, OnlyV6, CreateDoes, OnArrival, OnAccept, AcceptDoes, Resets, ClosesOnly, RefuseDoes, closed_after, MadeUndone, CreateUndone, AcceptUndoneAt, Undone, NoMemory, OnNetwork}
 use Rattle.wasi_net.specs.Owned.{Owned}
@@ -95,6 +97,10 @@ KeepsIts k now old new = (now.fd ≡ k.fd) × Keeps old new
 stays_its : (k now : Known) (old new : Acts) → now ≡ k → Keeps old new → KeepsIts k now old new
 stays_its k now old new e h = (ap (λ (k : Known). k.fd) e, h)
 
+room_keeps : (room : Room) (k : Known) (t : Told) (now : Known) (old new : Acts) → OnRoom room k t now old new → KeepsIts k now old new
+room_keeps Found k t now old new h = stays_its k now old new h.1 (nothing_keeps old new h.2)
+room_keeps Unknown k t now old new h = (ap (λ (k : Known). k.fd) h.1, does_keeps _ _ t old new (λ a. record { made = refl; closed = refl }) h.0)
+
 side_keeps : (c : Call) (k : Known) (t : Told) (now : Known) (old new : Acts) → OnSide c k t now old new → KeepsIts k now old new
 side_keeps (call.Local _) k t now old new h = stays_its k now old new h.1 (does_keeps _ _ t old new (λ a. record { made = refl; closed = refl }) h.0)
 side_keeps (call.Peer _) k t now old new h = stays_its k now old new h.1 (does_keeps _ _ t old new (λ a. record { made = refl; closed = refl }) h.0)
@@ -113,7 +119,7 @@ side_keeps (call.Hand _ _) k t now old new h = (ap (λ (k : Known). k.fd) h.1, n
 side_keeps (call.Read _ size) k t now old new h = stays_its k now old new h.1 (does_keeps _ _ t old new (λ a. record { made = refl; closed = refl }) h.0)
 side_keeps (call.Recv _) k t now old new h = stays_its k now old new h.1 (does_keeps _ _ t old new (λ a. record { made = refl; closed = refl }) h.0)
 side_keeps (call.ReadReady _) k t now old new h = stays_its k now old new h.1 (does_keeps _ _ t old new (λ a. record { made = refl; closed = refl }) h.0)
-side_keeps (call.WriteReady _) k t now old new h = stays_its k now old new h.1 (does_keeps _ _ t old new (λ a. record { made = refl; closed = refl }) h.0)
+side_keeps (call.WriteReady _) k t now old new h = room_keeps k.room k t now old new h
 side_keeps (call.UdpWritable _) k t now old new h = stays_its k now old new h.1 (does_keeps _ _ t old new (λ a. record { made = refl; closed = refl }) h.0)
 side_keeps (call.Shutdown _ how) k t now old new h = stays_its k now old new h.1 (does_keeps _ _ t old new (λ a. record { made = refl; closed = refl }) h.0)
 side_keeps (call.GetOption _ option) k t now old new h = stays_its k now old new h.1 (getting_keeps (setting_of k.family option) option k.fd t old new h.0)
@@ -144,10 +150,10 @@ its_side_keeps c (Some place) before t now old new h o = at_keeps (OnSide c) (mi
 its_side_keeps c None before t now old new h o = tells_keeps (missing c) before t now old new h o
 
 -- a write and a send
-pub write_keeps : (sock : OpId) (bytes : List ℕ) (absent : Told) (before : Sides) (t : Told) (now : Sides) (old new : Acts) → AnswersAt (λ k. Stays (WriteDoes k.fd bytes) k) absent sock (before sock) before t now old new → Owned before old → Owned now new
+pub write_keeps : (sock : OpId) (bytes : List ℕ) (absent : Told) (before : Sides) (t : Told) (now : Sides) (old new : Acts) → AnswersAt (WriteDoes bytes) absent sock (before sock) before t now old new → Owned before old → Owned now new
 write_keeps sock bytes absent before t now old new h o =
-    at_keeps (λ k. Stays (WriteDoes k.fd bytes) k) absent sock (before sock) before t now old new
-    (λ k becomes does. stays_its k becomes old new does.1 (does_keeps _ _ t old new (λ a. record { made = refl; closed = refl }) does.0)) refl h o
+    at_keeps (WriteDoes bytes) absent sock (before sock) before t now old new
+    (λ k becomes does. (ap (λ (k : Known). k.fd) does.1, does_keeps _ _ t old new (λ a. record { made = refl; closed = refl }) does.0)) refl h o
 
 pub send_keeps : (sock : OpId) (addr : IpSocketAddress) (bytes : List ℕ) (absent : Told) (before : Sides) (t : Told) (now : Sides) (old new : Acts) → AnswersAt (λ k. Stays (SendDoes k.fd addr bytes) k) absent sock (before sock) before t now old new → Owned before old → Owned now new
 send_keeps sock addr bytes absent before t now old new h o =

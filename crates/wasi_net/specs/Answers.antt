@@ -14,13 +14,14 @@ use Rattle.wasi_net.specs.declared.calls.Transport.{Transport}
 use Rattle.wasi_net.specs.declared.calls.Transport.TheVariants.{Tcp, Udp}
 use Rattle.wasi_net.specs.declared.calls.Readiness.TheVariants as readiness
 use Rattle.wasi_net.specs.declared.setting.Setting.TheVariants as setting
+use Rattle.wasi_net.specs.declared.socket.Room.TheVariants.{Unknown}
 use Rattle.wasi_net.specs.declared.socket.Stage.{Stage}
 use Rattle.wasi_net.specs.declared.socket.Stage.TheVariants.{Open, Arrived}
 use Rattle.wasi_net.specs.Errno.{code_of, accept_code, told_failed}
 use Rattle.wasi_net.specs.Acts.{Acts, Status, after}
 use Rattle.wasi_net.specs.Acts as act
 use Rattle.wasi_net.specs.Storage.{domain_of, kind_of, disconnect, set_to}
-use Rattle.wasi_net.specs.Does.{Does, Refuses, AddressTold, BindDoes, UdpBindDoes, ListenDoes, BacklogDoes, ReadyDoes, ConnectDoes, ReadDoes, ShutdownDoes, SetDoes, GetDoes, UdpConnectDoes, UdpDisconnectDoes, ReceiveDoes}
+use Rattle.wasi_net.specs.Does.{Does, Refuses, AddressTold, BindDoes, UdpBindDoes, ListenDoes, BacklogDoes, ReadyDoes, RoomDoes, ConnectDoes, ReadDoes, ShutdownDoes, SetDoes, GetDoes, UdpConnectDoes, UdpDisconnectDoes, ReceiveDoes}
 use Rattle.wasi_net.specs.Allowed.{Policy, verdict}
 use Rattle.wasi_net.specs.Hosts.{lookup_told}
 use Rattle.wasi_net.specs.Known.{Known, at_stage, Sides, Same, With}
@@ -60,7 +61,7 @@ OnSide (call.Hand _ _) k = HandDoes k
 OnSide (call.Read _ size) k = Stays (ReadDoes k.fd size) k
 OnSide (call.Recv _) k = Stays (ReceiveDoes k.fd) k
 OnSide (call.ReadReady _) k = Stays (ReadyDoes k.fd readiness.Read) k
-OnSide (call.WriteReady _) k = Stays (ReadyDoes k.fd readiness.Write) k
+OnSide (call.WriteReady _) k = RoomDoes k
 OnSide (call.UdpWritable _) k = Stays (ReadyDoes k.fd readiness.Write) k
 OnSide (call.Shutdown _ how) k = Stays (ShutdownDoes k.fd how) k
 OnSide (call.GetOption _ option) k = Stays (GetDoes k option) k
@@ -112,7 +113,7 @@ OnItsSide c None before t now old new = TellsOnly (missing c) before t now old n
 -- == what makes sockets and closes them
 -- a socket of this descriptor stands under the name
 abbrev pub Opens : OpId → SocketAddressFamily → ℤ → Sides → Told → Sides → Type 0
-Opens op family fd before t now = (t ≡ told.Done) × With before op (Some (record { fd = fd; family = family; stage = Open })) now
+Opens op family fd before t now = (t ≡ told.Done) × With before op (Some (record { fd = fd; family = family; stage = Open; room = Unknown })) now
 
 -- this is answered, all sockets stay, and the descriptor that was made is closed
 abbrev pub ClosesMade : ℤ → Told → Sides → Told → Sides → Acts → Acts → Type 0
@@ -142,7 +143,7 @@ CreateDoes transport family op None before t now old new = CreateAsks transport 
 
 -- an arrival stands under the name of its accept, or is closed where its sender's family is unknown
 abbrev pub OnArrival : SocketAddressFamily → OpId → ℤ → Sides → Told → Sides → Acts → Acts → Type 0
-OnArrival family op fd before (told.Arrived peer) now old new = With before op (Some (record { fd = fd; family = family; stage = Arrived peer })) now × (new ≡ old)
+OnArrival family op fd before (told.Arrived peer) now old new = With before op (Some (record { fd = fd; family = family; stage = Arrived peer; room = Unknown })) now × (new ≡ old)
 OnArrival family op fd before (told.Code c) now old new = (c ≡ NotSupported) × Same before now × (new ≡ after (act.Close fd) old)
 OnArrival family op fd before _ now old new = ⊥
 

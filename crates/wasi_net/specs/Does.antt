@@ -1,5 +1,5 @@
 -- Which of the system's calls each call on a socket makes, and what it answers for the system's answers.
-use Rattle.std.specs.Prelude.{◌≡◌, ◌==◌, ◌&&◌, ◌*◌, ◌/◌, min, ℕ, ℤ, pos, Bool, true, false, List, Option, Some, None, Result, Ok, Err, take, if◌then◌else◌}
+use Rattle.std.specs.Prelude.{◌≡◌, ◌==◌, ◌&&◌, ◌*◌, ◌/◌, min, ℕ, ℤ, pos, Bool, true, false, List, Option, Some, None, Result, Ok, Err, take, length, if◌then◌else◌}
 use Rattle.wasi_addr.specs.declared.address.IpSocketAddress.{IpSocketAddress}
 use Rattle.wasi_addr.specs.declared.address.ShutdownType.{ShutdownType}
 use Rattle.wasi_addr.specs.declared.address.SocketAddressFamily.{SocketAddressFamily}
@@ -13,6 +13,8 @@ use Rattle.wasi_world.specs.declared.call.Told.TheVariants.{Pending, Done, Code,
 use Rattle.wasi_net.specs.declared.errno.Errno.{Errno}
 use Rattle.wasi_net.specs.declared.setting.Setting.{Setting}
 use Rattle.wasi_net.specs.declared.setting.Setting.TheVariants as setting
+use Rattle.wasi_net.specs.declared.socket.Room.{Room}
+use Rattle.wasi_net.specs.declared.socket.Room.TheVariants.{Unknown, Found}
 use Rattle.wasi_net.specs.declared.socket.Stage.{Stage}
 use Rattle.wasi_net.specs.declared.socket.Stage.TheVariants as stage
 use Rattle.wasi_net.specs.Errno.{code_of, code_of_number, bind_code, goes_on, told_failed}
@@ -22,7 +24,7 @@ use Rattle.wasi_net.specs.declared.calls.Readiness.{Readiness}
 use Rattle.wasi_net.specs.declared.calls.Readiness.TheVariants.{Write}
 use Rattle.wasi_net.specs.Ready.{look}
 use Rattle.wasi_net.specs.Storage.{Holds, bind_to, connect_to, disconnect, send_to, shut, int_in, set_to, get_of}
-use Rattle.wasi_net.specs.Known.{Known, at_stage}
+use Rattle.wasi_net.specs.Known.{Known, at_stage, with_room}
 
 -- One call is made of the system, and what is told goes by its answer.
 pub record Does {A : Type 0} (act : A → Act) (Tells : A → Told → Type 0) (t : Told) (old new : Acts) : Type 0 where
@@ -81,6 +83,20 @@ ReadyTold (Err e) t = t ≡ Pending
 
 abbrev pub ReadyDoes : ℤ → Readiness → Told → Acts → Acts → Type 0
 ReadyDoes fd readiness t old new = Does (look fd readiness) ReadyTold t old new
+
+-- == room for bytes
+-- what a look has found
+abbrev pub room_of : Told → Room
+room_of Done = Found
+room_of _ = Unknown
+
+-- the system is asked only where no room is known of
+abbrev pub OnRoom : Room → Known → Told → Known → Acts → Acts → Type 0
+OnRoom Found k t now old new = (t ≡ Done) × (now ≡ k) × (new ≡ old)
+OnRoom Unknown k t now old new = ReadyDoes k.fd Write t old new × (now ≡ with_room k (room_of t))
+
+abbrev pub RoomDoes : Known → Told → Known → Acts → Acts → Type 0
+RoomDoes k t now old new = OnRoom k.room k t now old new
 
 -- == a connect
 -- 0 is a connect that is over, and any other number the fault that ended it
@@ -148,8 +164,14 @@ abbrev pub WriteTold : List ℕ → Result ℕ Errno → Told → Type 0
 WriteTold bytes (Ok n) t = t ≡ written_told bytes n
 WriteTold bytes (Err e) t = t ≡ told_failed e (code_of e)
 
-abbrev pub WriteDoes : ℤ → List ℕ → Told → Acts → Acts → Type 0
-WriteDoes fd bytes t old new = Does (act.Send fd (take most bytes)) (WriteTold (take most bytes)) t old new
+-- after a write of so many bytes: one that isn't taken whole found the end of the room
+abbrev pub room_after : Room → ℕ → Told → Room
+room_after before n (Took front) = if length front == n then before else Unknown
+room_after before n _ = Unknown
+
+abbrev pub WriteDoes : List ℕ → Known → Told → Known → Acts → Acts → Type 0
+WriteDoes bytes k t now old new =
+    Does (act.Send k.fd (take most bytes)) (WriteTold (take most bytes)) t old new × (now ≡ with_room k (room_after k.room (length bytes) t))
 
 abbrev pub IsDone : Status → Told → Type 0
 IsDone r t = t ≡ Done

@@ -41,6 +41,7 @@ impl Socket {
           fd = self.old.descriptor.number;
           family = self.old.family;
           stage = Stage.Open;
+          room = self.old.room;
         } }
     {
         self.stage = Stage::Open;
@@ -74,7 +75,7 @@ impl Socket {
             Call::Read { size, .. } => self.read(system, alloc, *size),
             Call::Recv { .. } => self.receive(system, alloc),
             Call::ReadReady { .. } => Ok(self.ready(system, Readiness::Read)),
-            Call::WriteReady { .. } => Ok(self.ready(system, Readiness::Write)),
+            Call::WriteReady { .. } => Ok(self.has_room(system)),
             Call::UdpWritable { .. } => Ok(self.ready(system, Readiness::Write)),
             Call::Shutdown { how, .. } => Ok(self.shutdown(system, *how)),
             Call::GetOption { option, .. } => Ok(self.option(system, *option)),

@@ -169,7 +169,7 @@ impl<S: System> Network<S> {
     pub fn write(&mut self, sock: Sock, bytes: &[u8]) -> Result<Told, AllocError>
         ensures fits { IfOk result (IsWritten (length bytes.now)) }
         ensures front { IfOk result (λ told. IsFront told bytes.now) }
-        ensures does { IfOk result (λ told. AnswersAt (λ k. Stays (WriteDoes k.fd bytes.now) k)
+        ensures does { IfOk result (λ told. AnswersAt (WriteDoes bytes.now)
             (Told.Code ErrorCode.InvalidState) sock (known_sides self.old.sides sock)
             (known_sides self.old.sides) told (known_sides self.new.sides) (S.acts self.old.system)
             (S.acts self.new.system)) }

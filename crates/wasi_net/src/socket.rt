@@ -4,7 +4,7 @@ ghost use Rattle.std.specs.Prelude.{◌≡◌};
 ghost use Rattle.wasi_world.specs.Fits.{IsDoneOrCode};
 ghost use Rattle.wasi_net.specs.Does.{IsGiven, AddressTold, StatusTold, BindTold, ready_told};
 ghost use Rattle.wasi_net.specs.Does.{ReadyTold, setting_of, seconds_of, number_of, value_of};
-ghost use Rattle.wasi_net.specs.Does.{set_told};
+ghost use Rattle.wasi_net.specs.Does.{room_of, set_told};
 
 use crate::calls;
 use crate::calls::Readiness;
@@ -26,12 +26,22 @@ pub enum Stage {
     Arrived(IpSocketAddress),
 }
 
+/// What is known of a socket's room for bytes.
+#[derive(Clone, Copy, Debug, PartialEq, Eq)]
+pub enum Room {
+    /// The system has to be asked.
+    Unknown,
+    /// A look found some, and every write since was taken whole.
+    Found,
+}
+
 /// A socket of the system.
 #[derive(Drop)]
 pub struct Socket {
     pub(crate) descriptor: Descriptor,
     pub(crate) family: SocketAddressFamily,
     pub(crate) stage: Stage,
+    pub(crate) room: Room,
 }
 
 /// The nanoseconds of a second.
@@ -95,6 +105,16 @@ fn told_ready(ready: Result<usize, Errno>) -> Told
         Ok(0) => Told::Pending,
         Ok(_) => Told::Done,
         Err(_) => Told::Pending,
+    }
+}
+
+/// What a look for room has found.
+fn room_of(told: &Told) -> Room
+    ensures { result ≡ room_of told.now }
+{
+    match told {
+        Told::Done => Room::Found,
+        _ => Room::Unknown,
     }
 }
 
@@ -162,7 +182,7 @@ impl Socket {
     ghost use Rattle.wasi_world.specs.Fits.{IsAddr, IsReady, IsValue};
     ghost use Rattle.wasi_net.specs.Acts as act;
     ghost use Rattle.wasi_net.specs.Does.{Does, AddressTold, BindDoes, UdpBindDoes, ListenDoes};
-    ghost use Rattle.wasi_net.specs.Does.{BacklogDoes, ReadyDoes, SetDoes, GetDoes};
+    ghost use Rattle.wasi_net.specs.Does.{BacklogDoes, ReadyDoes, RoomDoes, SetDoes, GetDoes};
     ghost use Rattle.wasi_net.specs.Known.{known_of};
 
     /// A socket that was made just now.
@@ -171,12 +191,14 @@ impl Socket {
           fd = descriptor.number;
           family = family;
           stage = stage;
+          room = Room.Unknown;
         } }
     {
         Socket {
             descriptor,
             family,
             stage,
+            room: Room::Unknown,
         }
     }
 
@@ -252,6 +274,23 @@ impl Socket {
             (S.acts system.new) }
     {
         told_ready(calls::look(system, &self.descriptor, readiness))
+    }
+
+    /// Looks whether there is room for bytes to write. The system is asked only where none is known
+    /// of: a write that finds less says so, and the next look asks again.
+    pub fn has_room<S: System>(&mut self, system: &mut S) -> Told
+        ensures fits { IsReady result }
+        ensures does { RoomDoes (known_of self.old) result (known_of self.new) (S.acts system.old)
+            (S.acts system.new) }
+    {
+        match self.room {
+            Room::Found => Told::Done,
+            Room::Unknown => {
+                let told = self.ready(system, Readiness::Write);
+                self.room = room_of(&told);
+                told
+            }
+        }
     }
 
     /// Sets an option.

@@ -17,9 +17,10 @@ use wasi_world::{Call, OpId, Sock, Told, Waits, World};
 /// A world over the system's sockets, TCP and UDP, IPv4 and IPv6. It reports no log.
 ///
 /// Each network socket is one socket of the system from its making on, whose calls don't wait. A
-/// look is one `poll` with no wait. What waits is the embedder, by `wait`, which returns once a
-/// socket that an earlier answer left pending may go on. Where the system gives no descriptor that
-/// is open, each socket has one of its own, and each is closed once.
+/// look is one `poll` with no wait; a look for room to write that found some is remembered, until a
+/// write isn't taken whole. What waits is the embedder, by `wait`, which returns once a socket that
+/// an earlier answer left pending may go on. Where the system gives no descriptor that is open, each
+/// socket has one of its own, and each is closed once.
 ///
 /// A check goes by the ports that are allowed, and says yes to this machine's own addresses alone,
 /// unless every address is allowed. A lookup finds the names that it was given, and asks nobody.
@@ -199,7 +200,7 @@ impl<S: System> World for SystemWorld<S> {
 
         // Which answer it is, which call of the system is made for it, and what is left of the
         // sockets.
-        ensures told { IfOk result (λ told. AnswersAt (λ k. Stays (WriteDoes k.fd bytes.now) k)
+        ensures told { IfOk result (λ told. AnswersAt (WriteDoes bytes.now)
             (Told.Code ErrorCode.InvalidState) sock (sides_of self.old sock) (sides_of self.old)
             told (sides_of self.new) (S.acts (system_of self.old)) (S.acts (system_of self.new))) }
         ensures sides { OnErr result (Same (sides_of self.old) (sides_of self.new)) }

@@ -6,14 +6,14 @@ ghost use Rattle.wasi_world.specs.Asks.{IsFront};
 ghost use Rattle.wasi_net.specs.Acts.{after};
 ghost use Rattle.wasi_net.specs.Acts as act;
 ghost use Rattle.wasi_net.specs.Does.{error_told, ErrorTold, written_told, WriteTold, ReadTold};
-ghost use Rattle.wasi_net.specs.Does.{most};
+ghost use Rattle.wasi_net.specs.Does.{room_after, most};
 
 use crate::calls;
 use crate::calls::Readiness;
 use crate::descriptor::Descriptor;
 use crate::errno::{Errno, told_failed};
 use crate::setting::Setting;
-use crate::socket::{Socket, Stage};
+use crate::socket::{Room, Socket, Stage};
 use crate::system::{OptionValue, System};
 use std::alloc::{AllocError, Global};
 use wasi_addr::{IpSocketAddress, ShutdownType};
@@ -80,6 +80,17 @@ fn told_sent(bytes: Vec<u8>, sent: Result<usize, Errno>) -> Told
     match sent {
         Ok(count) => told_written(bytes, count),
         Err(e) => told_failed(e, e.code()),
+    }
+}
+
+/// What is known of a socket's room after a write of so many bytes: a write that wasn't taken whole
+/// found its end.
+fn room_after(before: Room, len: usize, told: &Told) -> Room
+    ensures { result ≡ room_after before len told.now }
+{
+    match told {
+        Told::Took(front) if front.len() == len => before,
+        _ => Room::Unknown,
     }
 }
 
@@ -213,20 +224,23 @@ impl Socket {
     /// Writes the front of the bytes, at most 65,536 of them. Takes memory for what is taken,
     /// before the write.
     pub fn write<S: System>(
-        &self,
+        &mut self,
         system: &mut S,
         alloc: Global,
         bytes: &[u8],
     ) -> Result<Told, AllocError>
         ensures fits { IfOk result (IsWritten (length bytes.now)) }
         ensures front { IfOk result (λ told. IsFront told bytes.now) }
-        ensures does { IfOk result (λ told. WriteDoes self.now.descriptor.number bytes.now told
-            (S.acts system.old) (S.acts system.new)) }
+        ensures does { IfOk result (λ told. WriteDoes bytes.now (known_of self.old) told
+            (known_of self.new) (S.acts system.old) (S.acts system.new)) }
         ensures err { OnErr result (S.acts system.new ≡ S.acts system.old) }
+        ensures kept { OnErr result (known_of self.new ≡ known_of self.old) }
     {
         let taken = front_of(alloc, bytes)?;
         let sent = system.send(self.descriptor.number(), &taken);
-        Ok(told_sent(taken, sent))
+        let told = told_sent(taken, sent);
+        self.room = room_after(self.room, bytes.len(), &told);
+        Ok(told)
     }
 
     /// Releases a half, or both. One that the other end released before is released all the same.
