@@ -33,22 +33,6 @@ pub struct Args<'a> {
     pub memory: &'a [u8],
 }
 
-/// An argument as a number of 8 bits.
-fn byte_of(number: u64) -> Result<u8, Refusal> {
-    if number > 255 {
-        return Err(Refusal::Argument);
-    }
-    Ok(number as u8)
-}
-
-/// An argument as a number of 16 bits.
-fn half_of(number: u64) -> Result<u16, Refusal> {
-    if number > 65535 {
-        return Err(Refusal::Argument);
-    }
-    Ok(number as u16)
-}
-
 /// An argument as a number of 32 bits.
 fn word_of(number: u64) -> Result<u32, Refusal> {
     if number > 4_294_967_295 {
@@ -71,23 +55,19 @@ impl Args<'_> {
         word_of(self.wide(place)?)
     }
 
-    /// An argument of 16 bits.
+    /// An argument of 16 bits: the low ones of 32.
     fn half(&self, place: usize) -> Result<u16, Refusal> {
-        half_of(self.wide(place)?)
+        Ok((self.word(place)? % 65536) as u16)
     }
 
-    /// An argument of 8 bits.
+    /// An argument of 8 bits: the low ones of 32.
     pub fn byte(&self, place: usize) -> Result<u8, Refusal> {
-        byte_of(self.wide(place)?)
+        Ok((self.word(place)? % 256) as u8)
     }
 
-    /// Whether an argument is true, which is 1.
+    /// Whether an argument is true, which all but 0 are.
     pub fn truth(&self, place: usize) -> Result<bool, Refusal> {
-        match self.wide(place)? {
-            0 => Ok(false),
-            1 => Ok(true),
-            _ => Err(Refusal::Argument),
-        }
+        Ok(self.word(place)? != 0)
     }
 
     /// A list of bytes: its place in the memory, and its length.
@@ -162,9 +142,10 @@ impl Args<'_> {
     pub fn maybe_address(&self, place: usize) -> Result<Option<IpSocketAddress>, Refusal>
         requires { place < 500 }
     {
-        if !self.truth(place)? {
-            return Ok(None);
+        match self.wide(place)? {
+            0 => Ok(None),
+            1 => Ok(Some(self.address(place + 1)?)),
+            _ => Err(Refusal::Argument),
         }
-        Ok(Some(self.address(place + 1)?))
     }
 }

@@ -33,6 +33,7 @@ fn put_bytes(block: &mut Block, at: usize, memory: &mut [u8], lists: Lists, byte
 
 /// Puts the datagram that came, if one did, and sets the list of it.
 fn put_datagrams(block: &mut Block, memory: &mut [u8], lists: Lists, fields: &[Field]) -> bool {
+    set(block, 4, 4, u64::from(lists.place));
     if number_at(fields, 0) == 0 {
         return true;
     }
@@ -49,7 +50,6 @@ fn put_datagrams(block: &mut Block, memory: &mut [u8], lists: Lists, fields: &[F
     if !put_bytes(&mut one, 0, memory, list, bytes_at(fields, last)) {
         return false;
     }
-    set(block, 4, 4, u64::from(lists.place));
     set(block, 8, 4, 1);
     put(memory, lists.place, &one)
 }
