@@ -13,10 +13,12 @@ use Rattle.wasi_walks.specs.Licence.{IsLicensed}
 use Rattle.wasi_session.specs.declared.error.StepError.{StepError}
 use Rattle.wasi_session.specs.declared.error.StepError.TheVariants.{Over, TooMany, NoContext, Memory}
 use Rattle.wasi_session.specs.State.{State}
-use Rattle.wasi_session.specs.Did.{Did, DidNext}
+use Rattle.wasi_session.specs.Did.{Did, DidNext, may_step, is_over_after}
 use Rattle.wasi_embed.specs.declared.kept.Kept.{Kept}
 use Rattle.wasi_embed.specs.declared.kept.Kept.TheVariants.{Silent, Noted}
 use Rattle.wasi_embed.specs.HasDid.{state_of, first_log, HasDid, HasLicence}
+use Rattle.wasi_embed.specs.Told.{told_of}
+use Rattle.wasi_embed.specs.Stepped.{DidStep}
 
 -- nothing yet
 pub begun_silent : (s : State) (start : Seen) → start ≡ counts_of false 0 0 → Did s [] [] start → HasDid (Silent s)
@@ -47,6 +49,18 @@ did_after old new (Err Memory) step kind next d = record { steps = d.steps ++ st
 did_after old new (Err Over) step kind next d = record { steps = d.steps; replies = d.replies; start = d.start; fresh = d.fresh; first = d.first ∙ sym kind; did = next d.steps d.replies d.start d.did }
 did_after old new (Err TooMany) step kind next d = record { steps = d.steps; replies = d.replies; start = d.start; fresh = d.fresh; first = d.first ∙ sym kind; did = next d.steps d.replies d.start d.did }
 did_after old new (Err (NoContext n)) step kind next d = record { steps = d.steps; replies = d.replies; start = d.start; fresh = d.fresh; first = d.first ∙ sym kind; did = next d.steps d.replies d.start d.did }
+
+-- what was told of it
+pub did_told : (old new : Kept) (step : Step) (result : Result Reply StepError)
+    → ((e : StepError) → may_step (state_of old) step ≡ Err e → (result ≡ Err e) × (new ≡ old))
+    → (state_of new).over ≡ is_over_after (state_of old).over result
+    → ((steps : List Step) (replies : List Reply) (start : Seen) → Did (state_of old) steps replies start → DidNext result step steps replies start (state_of new))
+    → (state_of new).contexts ≡ (state_of old).contexts → DidStep (state_of old) (state_of new) step (told_of result)
+did_told old new step (Ok reply) refused over next contexts = record { refused = λ e m. (ap told_of (refused e m).0, ap state_of (refused e m).1); did = next; over = over; contexts = contexts }
+did_told old new step (Err Memory) refused over next contexts = record { refused = λ e m. (ap told_of (refused e m).0, ap state_of (refused e m).1); did = next; over = over; contexts = contexts }
+did_told old new step (Err Over) refused over next contexts = record { refused = λ e m. (ap told_of (refused e m).0, ap state_of (refused e m).1); did = next; over = over; contexts = contexts }
+did_told old new step (Err TooMany) refused over next contexts = record { refused = λ e m. (ap told_of (refused e m).0, ap state_of (refused e m).1); did = next; over = over; contexts = contexts }
+did_told old new step (Err (NoContext n)) refused over next contexts = record { refused = λ e m. (ap told_of (refused e m).0, ap state_of (refused e m).1); did = next; over = over; contexts = contexts }
 
 -- nothing was done
 pub did_same : (old new : Kept) → first_log new ≡ first_log old → state_of new ≡ state_of old → HasDid old → HasDid new

@@ -1,2 +1,5 @@
+pub mod Told
 pub mod HasDid
 pub mod Held
+pub mod Stepped
+pub mod HostDid

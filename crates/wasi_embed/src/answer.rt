@@ -1,5 +1,8 @@
 //! What crosses to C besides numbers and bytes.
 
+ghost use Rattle.std.specs.Prelude.{◌≡◌};
+ghost use Rattle.wasi_embed.specs.Told.{call_in, call_told, number_of, status_in, status_told};
+
 use crate::status::Status;
 use embed_flat::code::code_number;
 use wasi_addr::{IpSocketAddress, SocketAddrUse};
@@ -36,7 +39,10 @@ pub struct Answer {
 
 impl Answer {
     /// An answer that has its status alone.
-    pub fn of_status(status: Status) -> Answer {
+    pub fn of_status(status: Status) -> Answer
+        ensures status { result.status ≡ number_of status }
+        ensures call { result.call ≡ 0 }
+    {
         Answer {
             status: status.number(),
             code: 0,
@@ -46,30 +52,60 @@ impl Answer {
         }
     }
 
-    /// The answer of a reply, with this status where it is done.
-    pub fn of_reply(reply: &Reply, done: Status, value: u64) -> Answer {
-        let mut answer = Answer::of_status(status_of(reply, done));
-        answer.value = value;
-        match reply {
-            Reply::Err(code) | Reply::Failed(code, _) => {
-                answer.code = u32::from(code_number(*code));
-            }
-            Reply::Trap(kind) => answer.code = trap_number(*kind),
-            Reply::Pending(line) => answer.call = *line,
-            _ => {}
+    /// The answer of what was told of a step, with this status where it is done.
+    pub fn of_told(told: &Result<Reply, Status>, done: Status, value: u64) -> Answer
+        ensures status { result.status ≡ number_of (status_told done told.now) }
+        ensures call { result.call ≡ call_told told.now }
+    {
+        let mut answer = Answer::of_status(status_told(told, done));
+        if let Ok(reply) = told {
+            answer.code = code_in(reply);
+            answer.call = call_in(reply);
+            answer.value = value;
         }
         answer
     }
 }
 
 /// The status of a reply.
-fn status_of(reply: &Reply, done: Status) -> Status {
+fn status_in(reply: &Reply, done: Status) -> Status
+    ensures { result ≡ status_in done reply.now }
+{
     match reply {
         Reply::Trap(_) => Status::Trap,
         Reply::Pending(_) => Status::Pending,
         Reply::Busy => Status::Busy,
         Reply::NoSuchCall => Status::NoCall,
         _ => done,
+    }
+}
+
+/// The status of what was told of a step, with this one where it is done.
+pub fn status_told(told: &Result<Reply, Status>, done: Status) -> Status
+    ensures { result ≡ status_told done told.now }
+{
+    match told {
+        Ok(reply) => status_in(reply, done),
+        Err(status) => *status,
+    }
+}
+
+/// Of an error its `error-code`, of a trap its kind.
+fn code_in(reply: &Reply) -> u32 {
+    match reply {
+        Reply::Err(code) | Reply::Failed(code, _) => u32::from(code_number(*code)),
+        Reply::Trap(kind) => trap_number(*kind),
+        _ => 0,
+    }
+}
+
+/// The number under which a call is pending.
+fn call_in(reply: &Reply) -> u32
+    ensures { result ≡ call_in reply.now }
+{
+    match reply {
+        Reply::Pending(line) => *line,
+        _ => 0,
     }
 }
 

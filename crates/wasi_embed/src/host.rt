@@ -1,52 +1,22 @@
 //! A host, between its opening and its closing.
 
-ghost use Rattle.std.specs.Prelude.{IfSome};
-ghost use Rattle.wasi_embed.specs.HasDid.{HasDid, HasLicence};
+ghost use Rattle.std.specs.Prelude.{◌≡◌, None};
+ghost use Rattle.wasi_embed.specs.HostDid.{session_of, DidLine, Stepped};
 
 use crate::answer::AskRecord;
-use crate::kept::Kept;
+use crate::opened::Open;
 use crate::status::Status;
 use libc::types::pollfd;
-use std::alloc::{AllocError, Global};
-use std::fmt::Write;
-use wasi_replay::log_text;
+use std::alloc::Global;
 use wasi_session::{Reply, Step};
 use wasi_steps::parse::parse_step;
 use wasi_steps::reply::append_reply;
-use wasi_world::{Entry, WasiSocketsCtx};
-use world_text::EntryText;
-
-/// A host that is open: its session, and that it did nothing but steps.
-#[derive(Drop)]
-pub struct Open {
-    pub(crate) kept: Kept,
-    pub(crate) ghost did: { ∥ HasDid kept ∥₁ },
-}
-
-impl Open {
-    /// Does a step.
-    fn step(&mut self, step: Step) -> Result<Reply, Status> {
-        Ok(self.kept.step(step)?)
-    }
-
-    /// Answers a check of this number; and whether it waited for an answer.
-    fn decide(&mut self, ask: u64, yes: bool) -> bool {
-        self.kept.decide(ask, yes)
-    }
-
-    /// The log so far, which is licensed, whatever program made the calls.
-    pub fn entries(&self) -> Option<&[Entry]>
-        ensures { IfSome result (λ log. ∥ HasLicence self.now.kept log.now ∥₁) }
-    {
-        self.kept.entries()
-    }
-}
 
 /// A host, between its opening and its closing. One that is closed does nothing more.
 #[derive(Drop)]
 pub struct Host {
     pub(crate) alloc: Global,
-    pub(crate) open: Option<Open>,
+    pub(crate) session: Option<Open>,
     /// How many contexts it has.
     pub(crate) contexts: u32,
     /// The text of the last line's reply.
@@ -58,16 +28,22 @@ pub struct Host {
 }
 
 impl Host {
-    /// Does a step.
-    pub fn step(&mut self, step: Step) -> Result<Reply, Status> {
-        match &mut self.open {
+    /// Does a step, as [`Session::step`](wasi_session::Session::step) does. A host that is closed
+    /// does none.
+    pub fn step(&mut self, step: Step) -> Result<Reply, Status>
+        ensures stepped { Stepped (session_of self.old) (session_of self.new) step result }
+        ensures rest { self.new ≡ record self.old { session = self.new.session } }
+    {
+        match &mut self.session {
             Some(open) => open.step(step),
             None => Err(Status::Closed),
         }
     }
 
     /// Does the step of a line, and keeps the text of its reply.
-    pub fn line(&mut self, line: &[u8]) -> Result<(), Status> {
+    pub fn line(&mut self, line: &[u8]) -> Result<(), Status>
+        ensures { ∥ DidLine self.old self.new line.now result ∥₁ }
+    {
         let Some(step) = parse_step(self.alloc, line, self.contexts)? else {
             return Err(Status::Line);
         };
@@ -83,8 +59,10 @@ impl Host {
     }
 
     /// Answers a check of this number.
-    pub fn answer(&mut self, ask: u64, yes: bool) -> Status {
-        let Some(open) = &mut self.open else {
+    pub fn answer(&mut self, ask: u64, yes: bool) -> Status
+        ensures { session_of self.new ≡ session_of self.old }
+    {
+        let Some(open) = &mut self.session else {
             return Status::Closed;
         };
         if open.decide(ask, yes) {
@@ -96,7 +74,7 @@ impl Host {
 
     /// The first check after this number that waits for an answer.
     pub fn asked(&self, after: u64) -> Result<AskRecord, Status> {
-        let Some(open) = &self.open else {
+        let Some(open) = &self.session else {
             return Err(Status::Closed);
         };
         match open.kept.network().first_after(after) {
@@ -107,7 +85,7 @@ impl Host {
 
     /// What earlier answers left pending: descriptors, and the events that each waits for.
     pub fn awaited(&self) -> &[pollfd] {
-        match &self.open {
+        match &self.session {
             Some(open) => open.kept.network().inner().awaited(),
             None => &[],
         }
@@ -115,8 +93,10 @@ impl Host {
 
     /// Ends the session, and closes what is open. Whatever is asked after it is told that the host
     /// is closed.
-    pub fn close(&mut self) -> Status {
-        match self.open.take() {
+    pub fn close(&mut self) -> Status
+        ensures { session_of self.new ≡ None }
+    {
+        match self.session.take() {
             Some(open) => {
                 open.kept.finish();
                 Status::Ok
@@ -124,33 +104,4 @@ impl Host {
             None => Status::Closed,
         }
     }
-}
-
-/// The lines of a log's contexts.
-pub(crate) fn contexts_text(
-    alloc: Global,
-    contexts: &[WasiSocketsCtx],
-) -> Result<Vec<u8>, AllocError> {
-    let mut text = log_text(alloc, contexts, &[])?.into_vec();
-    let len = text.len().saturating_sub(4);
-    text.truncate(len);
-    Ok(text)
-}
-
-/// Appends the lines of the entries from a place on, and returns how many there are now.
-pub(crate) fn push_entries(
-    alloc: Global,
-    text: &mut Vec<u8>,
-    entries: &[Entry],
-    from: usize,
-) -> Result<usize, AllocError> {
-    let Some(more) = entries.get(from..) else {
-        return Ok(from);
-    };
-    for entry in more {
-        let mut line = String::new(alloc);
-        write!(line, "{}\n", EntryText(entry))?;
-        text.extend_from_slice(line.as_bytes())?;
-    }
-    Ok(entries.len())
 }

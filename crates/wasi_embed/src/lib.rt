@@ -8,10 +8,12 @@ pub mod call;
 pub mod held;
 pub mod host;
 pub mod kept;
+pub mod opened;
 pub mod opening;
 mod parts;
 pub mod reading;
 pub mod status;
+mod text;
 
 pub use answer::{Answer, AskRecord, Request};
 pub use held::{Held, put_host};

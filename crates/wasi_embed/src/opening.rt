@@ -3,9 +3,11 @@
 ghost use Rattle.std.specs.Prelude.{◌≡◌, false};
 ghost use Rattle.wasi_net.specs.Net.{seen_by, counts_of};
 
-use crate::host::{Host, Open, contexts_text};
+use crate::host::Host;
 use crate::kept::{Kept, Network};
+use crate::opened::Open;
 use crate::status::Status;
+use crate::text::contexts_text;
 use std::alloc::{AllocError, Global};
 use wasi_asking::{AskingWorld, Asks};
 use wasi_net::{Allowed, Hosts, Linux, SystemWorld};
@@ -134,7 +136,7 @@ pub fn open(
     };
     Ok(Host {
         alloc,
-        open: Some(open),
+        session: Some(open),
         contexts: count,
         reply: Vec::new(alloc),
         unread,

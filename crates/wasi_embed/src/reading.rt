@@ -2,8 +2,9 @@
 
 ghost use Rattle.std.specs.Prelude.{◌≡◌, ◌≤◌, length};
 
-use crate::host::{Host, push_entries};
+use crate::host::Host;
 use crate::status::Status;
+use crate::text::push_entries;
 use std::alloc::AllocError;
 
 /// Copies as many bytes as fit, and returns how many.
@@ -29,7 +30,7 @@ impl Host {
 
     /// Puts the text of what was asked since into what is unread.
     fn note(&mut self) -> Result<(), AllocError> {
-        let Some(open) = &self.open else {
+        let Some(open) = &self.session else {
             return Ok(());
         };
         let Some(entries) = open.entries() else {

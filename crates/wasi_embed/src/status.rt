@@ -1,5 +1,8 @@
 //! How a call of an export ends.
 
+ghost use Rattle.std.specs.Prelude.{◌≡◌};
+ghost use Rattle.wasi_embed.specs.Told.{number_of};
+
 use embed_flat::Refusal;
 use std::alloc::AllocError;
 use wasi_session::StepError;
@@ -48,7 +51,9 @@ pub enum Status {
 
 impl Status {
     /// Its number, as the header has it.
-    pub fn number(self) -> u32 {
+    pub fn number(self) -> u32
+        ensures { result ≡ number_of self }
+    {
         match self {
             Status::Ok => 0,
             Status::Pending => 1,
@@ -73,12 +78,22 @@ impl Status {
 }
 
 impl From<AllocError> for Status {
+    ghost use Rattle.std.specs.Prelude.{◌≡◌};
+    ghost use Rattle.wasi_embed.specs.declared.status.Status.TheVariants.{Memory};
+
+    ghost from_gives = { λ _ s. s ≡ Memory };
+
     fn from(_: AllocError) -> Status {
         Status::Memory
     }
 }
 
 impl From<StepError> for Status {
+    ghost use Rattle.std.specs.Prelude.{◌≡◌};
+    ghost use Rattle.wasi_embed.specs.Told.{status_of};
+
+    ghost from_gives = { λ e s. s ≡ status_of e };
+
     fn from(error: StepError) -> Status {
         match error {
             StepError::Over => Status::Over,
@@ -90,6 +105,11 @@ impl From<StepError> for Status {
 }
 
 impl From<Refusal> for Status {
+    ghost use Rattle.std.specs.Prelude.{◌≡◌};
+    ghost use Rattle.wasi_embed.specs.Told.{refused_as};
+
+    ghost from_gives = { λ r s. s ≡ refused_as r };
+
     fn from(refusal: Refusal) -> Status {
         match refusal {
             Refusal::Argument => Status::Argument,
