@@ -81,7 +81,7 @@ typedef struct {
 
 /* The calls, by the names of the interface. The arguments of each are those of its import in the
  * canonical ABI, in order, the place for its result last; KX_SUBSCRIBE and KX_DROP serve every
- * resource. */
+ * resource. kaxtubor_imports.h has the imports by name. */
 typedef enum {
     KX_INSTANCE_NETWORK,
     KX_CREATE_TCP_SOCKET,
@@ -119,7 +119,7 @@ typedef enum {
     KX_UDP_LOCAL_ADDRESS,
     KX_UDP_REMOTE_ADDRESS,
     KX_UDP_ADDRESS_FAMILY,
-    KX_UDP_RECEIVE, /* gives one datagram at most; its room is at least 65,576 bytes */
+    KX_UDP_RECEIVE, /* gives a datagram at most, its bytes behind it; room: 65,576 bytes at least */
     KX_UDP_CHECK_SEND,
     KX_UDP_SEND,
     KX_UDP_UNICAST_HOP_LIMIT = 60,

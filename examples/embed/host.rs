@@ -10,7 +10,7 @@ struct Opaque { _private: [u8; 0] }
 struct PollFd { fd: c_int, events: i16, revents: i16 }
 
 #[rustfmt::skip]
-unsafe extern "C" {
+extern "C" {
     fn kx_raw_open(out: *mut *mut Opaque, setup: *mut Setup, contexts: *const u32, count: usize,
         rules: *const u8, rules_len: usize, hosts: *const u8, hosts_len: usize) -> u32;
     fn kx_raw_free(host: *mut Opaque);
