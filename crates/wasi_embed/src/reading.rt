@@ -1,6 +1,7 @@
 //! Reading what a host has as text, into a buffer of the caller.
 
 ghost use Rattle.std.specs.Prelude.{◌≡◌, ◌≤◌, length};
+ghost use Rattle.wasi_embed.specs.HostDid.{session_of};
 
 use crate::host::Host;
 use crate::status::Status;
@@ -29,7 +30,9 @@ impl Host {
     }
 
     /// Puts the text of what was asked since into what is unread.
-    fn note(&mut self) -> Result<(), AllocError> {
+    fn note(&mut self) -> Result<(), AllocError>
+        ensures { session_of self.new ≡ session_of self.old }
+    {
         let Some(open) = &self.session else {
             return Ok(());
         };
@@ -42,7 +45,9 @@ impl Host {
 
     /// Copies as much of the log's text as fits and wasn't read yet, and how much it is; 0 where
     /// nothing is left.
-    pub fn read_log(&mut self, out: &mut [u8]) -> (Status, usize) {
+    pub fn read_log(&mut self, out: &mut [u8]) -> (Status, usize)
+        ensures { session_of self.new ≡ session_of self.old }
+    {
         if self.unread.is_empty() && self.note().is_err() {
             return (Status::Memory, 0);
         }
