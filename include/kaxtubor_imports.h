@@ -51,7 +51,7 @@ struct kx_guest {
     struct {
         uint32_t at, len;
     } room[KX_LISTS];
-    uint32_t pending; /* the number of the call that is pending, or 0; 0 it after kx_cancel */
+    uint32_t pending; /* the number of the call that is pending, or 0; after kx_cancel set 0 */
     kx_answer_t answer;
 };
 
@@ -290,7 +290,9 @@ static inline uint32_t kx_get_room(kx_guest *guest, kx_list list, const uint64_t
 static inline uint32_t kx_move_bytes(kx_guest *guest, uint32_t at)
 {
     const uint32_t len = kx_word_at(guest, at + 4);
-    const uint32_t to = len ? guest->cabi_realloc(guest, 0, 0, 1, len) : at + 40;
+    uint32_t to = at + 40;
+    if (len > 65536) return KX_BOUNDS;
+    if (len) to = guest->cabi_realloc(guest, 0, 0, 1, len);
     if (!kx_lies_within(guest, to, len) || !kx_lies_within(guest, at, 40 + len)) return KX_BOUNDS;
     memmove(guest->memory + to, guest->memory + at + 40, len);
     kx_set_word(guest, at, to);
