@@ -1,5 +1,5 @@
-/* Times calls across the boundary, as many as the word says. Fails where more memory is held at the
- * end than after 10,000. */
+/* Times calls across the boundary, as many as the word says. Fails where 256 KiB more memory are
+ * held at the end than after 10,000 of them. */
 #include "kaxtubor.h"
 #include <stdio.h>
 #include <stdlib.h>
@@ -54,5 +54,5 @@ int main(int words, char **word)
     const long after = held();
     printf("after %ld calls: %ld KiB\n", count + count / 10, after);
     kx_free(host);
-    return count > 10000 && after > before + 16 ? 5 : 0;
+    return count > 10000 && after > before + 256 ? 5 : 0;
 }
