@@ -4,4 +4,11 @@ mod Turning
 mod Settling
 mod Making
 mod Addresses
+mod Past
+mod Grown
+mod Copies
+mod Marks
+mod Serves
+mod Rounds
+mod Settles
 mod Relaying

@@ -1,5 +1,5 @@
 -- A relay, whole.
-use Rattle.std.proofs.Common.{◌≡◌, ◌∙◌, refl, List, [], Option, IfSome, Result, Ok, Err}
+use Rattle.std.proofs.Common.{◌≡◌, ◌∙◌, refl, List, [], Option, Some, None, IfSome, Result, Ok, Err}
 use Rattle.wasi_world.specs.declared.call.Entry.{Entry}
 use Rattle.wasi_world.specs.declared.outcome.WasiSocketsCtx.{WasiSocketsCtx}
 use Rattle.wasi_world.specs.Seen.{Seen}
@@ -16,14 +16,16 @@ use Rattle.wasi_relay.specs.declared.setup.Listener.{Listener}
 use Rattle.wasi_relay.specs.declared.setup.Stop.{Stop}
 use Rattle.wasi_relay.specs.declared.setup.Stop.TheVariants.{Ended, Step}
 use Rattle.wasi_relay.specs.declared.service.RelayEnd.{RelayEnd}
-use Rattle.wasi_relay.specs.Guest.{Part}
+use Rattle.wasi_relay.specs.declared.pair.Pair.{Pair}
+use Rattle.wasi_relay.specs.Guest.{Ends, Leads, Part}
 use Rattle.wasi_relay.specs.Went.{Went, Stands, Stopped}
 use Rattle.wasi_relay.specs.Setup.{setup, outcome, as_is, stop_end}
 use Rattle.wasi_relay.specs.Turns.{Course, Finish, finish, finished, rounds}
-use Rattle.wasi_relay.specs.RelaySteps.{Relays, relayed, relay_guest, after_setup, no_course, at_end}
+use Rattle.wasi_relay.specs.RelaySteps.{HasCopied, Relays, relayed, relay_guest, after_setup, no_course, at_end}
 use Rattle.wasi_relay.proofs.Making.{AllMade, leads_made, begins_made}
 use Rattle.wasi_relay.proofs.Addresses.{keeps_in}
 use Rattle.wasi_relay.proofs.Going.{went_give, went_then, went_stop}
+use Rattle.wasi_relay.proofs.Settles.{run_copies}
 
 pub set_up_then : {s t u : State} {result : Result Finish StepError} (order : Order) (listener : Listener) → Went (setup order) s t (Ok (Ok listener)) → Went (rounds order listener listener.turns no_course) t u result → Went (relayed order) s u result
 set_up_then order listener h k = went_then (after_setup order) h k
@@ -38,6 +40,15 @@ same_log F e f g h = rw (e, ← g, ← f) h
 
 begun : {s : State} {start : Seen} (order : Order) → Did s [] [] start → Stands (relay_guest order) (relayed order at_end) start s
 begun order first = record { steps = []; replies = []; leads = refl; did = first }
+
+-- what it copied, by the run
+has_copied : (order : Order) (contexts : List WasiSocketsCtx) (steps : List AStep) (replies : List Reply) (end : RelayEnd) (pairs : List Pair) → Leads (relay_guest order) steps replies (Ends end pairs) → (log : Option (List Entry)) → IfSome log (λ log. HasRun contexts steps log replies) → IfSome log (HasCopied (Ok end) pairs)
+has_copied order contexts steps replies end pairs leads (Some log) ran = run_copies contexts order steps replies end pairs leads log ran
+has_copied order contexts steps replies end pairs leads None ran = tt
+
+none_copied : (e : StepError) (pairs : List Pair) (log : Option (List Entry)) → IfSome log (HasCopied (Err e) pairs)
+none_copied e pairs (Some log) = tt
+none_copied e pairs None = tt
 
 -- what a session did by the guest, from its first step to the end of its world
 module _ {s t : State} {start now : Seen} (order : Order) (contexts : List WasiSocketsCtx) (at : Course) (same : s.contexts ≡ contexts) (first : Did s [] [] start) (quiet : AsksNothing t.seen now) where
@@ -55,6 +66,7 @@ module _ {s t : State} {start now : Seen} (order : Order) (contexts : List WasiS
         licensed = λ empty. is_licensed went there.steps there.replies (there.did.licensed empty);
         ran = λ empty. same_log (λ ctx log. HasRun ctx there.steps log there.replies) quiet.log went.contexts same (there.did.ran empty);
         addresses = λ empty. keeps_in order there.steps made contexts now.log there.replies (is_licensed went there.steps there.replies (there.did.licensed empty));
+        copied = λ empty. has_copied order contexts there.steps there.replies end at.pairs there.leads now.log (same_log (λ ctx log. HasRun ctx there.steps log there.replies) quiet.log went.contexts same (there.did.ran empty));
         plan = quiet.plan ∙ there.did.plan;
       }
   relays (Err e) went =
@@ -67,6 +79,7 @@ module _ {s t : State} {start now : Seen} (order : Order) (contexts : List WasiS
         licensed = λ empty. is_licensed went there.steps there.replies (there.did.licensed empty);
         ran = λ empty. same_log (λ ctx log. HasRun ctx there.steps log there.replies) quiet.log went.contexts same (there.did.ran empty);
         addresses = λ empty. keeps_in order there.steps made contexts now.log there.replies (is_licensed went there.steps there.replies (there.did.licensed empty));
+        copied = λ empty. none_copied e at.pairs now.log;
         plan = quiet.plan ∙ there.did.plan;
       }
 

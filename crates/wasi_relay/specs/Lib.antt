@@ -8,4 +8,5 @@ pub mod Serving
 pub mod Turns
 pub mod Setup
 pub mod Addresses
+pub mod Copied
 pub mod RelaySteps

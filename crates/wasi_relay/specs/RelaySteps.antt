@@ -1,5 +1,6 @@
 -- What a relay does, whole.
 use Rattle.std.specs.Prelude.{◌≡◌, [], List, Some, IfSome, Result, Ok, Err}
+use Rattle.wasi_world.specs.declared.call.Entry.{Entry}
 use Rattle.wasi_world.specs.declared.outcome.WasiSocketsCtx.{WasiSocketsCtx}
 use Rattle.wasi_world.specs.Seen.{Seen}
 use Rattle.wasi_machine.specs.Machine.{HasRun}
@@ -12,6 +13,7 @@ use Rattle.wasi_relay.specs.declared.setup.Listener.{Listener}
 use Rattle.wasi_relay.specs.declared.pair.Pair.{Pair}
 use Rattle.wasi_relay.specs.declared.service.RelayEnd.{RelayEnd}
 use Rattle.wasi_relay.specs.Addresses.{KeepsTo}
+use Rattle.wasi_relay.specs.Copied.{AllCopied}
 use Rattle.wasi_relay.specs.Guest.{Guest, Ends, Part, give, Leads, Begins, ◌>>=◌}
 use Rattle.wasi_relay.specs.Setup.{setup}
 use Rattle.wasi_relay.specs.Turns.{Course, Finish, finish, rounds}
@@ -41,6 +43,11 @@ abbrev pub IsBySteps : Order → Result RelayEnd StepError → List Pair → Lis
 IsBySteps order (Ok end) pairs steps replies = Leads (relay_guest order) steps replies (Ends end pairs)
 IsBySteps order (Err e) pairs steps replies = Begins (relay_guest order) steps replies
 
+-- a relay that came to its end copied so between the network sockets of each pair
+abbrev pub HasCopied : Result RelayEnd StepError → List Pair → List Entry → Type 0
+HasCopied (Ok end) pairs log = AllCopied log pairs
+HasCopied (Err e) pairs log = Unit {0}
+
 -- A relay of this order, from one world to another, ended so, with these pairs.
 pub record Relays (order : Order) (contexts : List WasiSocketsCtx) (start now : Seen) (end : Result RelayEnd StepError) (pairs : List Pair) : Type 0 where
   pub steps : List Step
@@ -52,4 +59,6 @@ pub record Relays (order : Order) (contexts : List WasiSocketsCtx) (start now : 
   pub ran : start.log ≡ Some [] → IfSome now.log (λ log. HasRun contexts steps log replies)
   -- Each bind was to the listen address, and each connect to the target.
   pub addresses : start.log ≡ Some [] → IfSome now.log (KeepsTo order)
+  -- What a pair's network sockets told to reads was copied, each way.
+  pub copied : start.log ≡ Some [] → IfSome now.log (HasCopied end pairs)
   pub plan : now.plan ≡ start.plan
