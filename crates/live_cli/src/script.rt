@@ -18,6 +18,7 @@ const FREE: WasiSocketsCtx = WasiSocketsCtx {
     ip_name_lookup: true,
     udp: true,
     tcp: true,
+    write_limit: u64::MAX,
 };
 
 pub fn contexts(alloc: Global) -> Result<Vec<WasiSocketsCtx>, AllocError>

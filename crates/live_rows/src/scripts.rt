@@ -68,6 +68,7 @@ pub fn contexts(alloc: Global) -> Result<Vec<WasiSocketsCtx>, AllocError>
         ip_name_lookup: true,
         udp: true,
         tcp: true,
+        write_limit: u64::MAX,
     };
     Ok(vec![in alloc; all]?)
 }

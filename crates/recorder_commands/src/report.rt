@@ -11,7 +11,7 @@ use world_io::FileSource;
 
 /// What a line of a log may be.
 const LOG_LINES: &str =
-    "`context yes yes yes`, an entry such as `3 0 bind 2 0 4 127 0 0 1 80 = done`, or the last line `end`, ended by a newline, in a file of at most 16777216 bytes";
+    "`context yes yes yes 100`, an entry such as `3 0 bind 2 0 4 127 0 0 1 80 = done`, or the last line `end`, ended by a newline, in a file of at most 16777216 bytes";
 
 /// Prints that the log has this bad line. Returns the status as the program's.
 pub fn end_at_log_line<R: Eprint + Files>(rt: &R, number: u8, line: u32) -> ExitCode

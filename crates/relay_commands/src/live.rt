@@ -23,6 +23,7 @@ const TCP_CONTEXT: WasiSocketsCtx = WasiSocketsCtx {
     ip_name_lookup: false,
     udp: false,
     tcp: true,
+    write_limit: u64::MAX,
 };
 
 /// How a relay over the system's sockets ended: with the code, where a call of its setup was

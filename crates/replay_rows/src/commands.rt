@@ -10,7 +10,7 @@ const BOUND: &[u8] =
     b"0 network\n0 tcp-create 4\n0 tcp-start-bind 2 1 4 127 0 0 1 80\n0 tcp-finish-bind 2\n";
 
 /// The log of that over the empty scenario.
-const LOG: &[u8] = b"context yes yes yes
+const LOG: &[u8] = b"context yes yes yes 18446744073709551615
 1 0 made 1 network - - = done
 2 0 tcp-create 0 4 = done
 2 0 made 2 tcp2 - 2 0 = done
@@ -21,7 +21,7 @@ end
 ";
 
 /// Its first seven lines.
-const NO_END: &[u8] = b"context yes yes yes
+const NO_END: &[u8] = b"context yes yes yes 18446744073709551615
 1 0 made 1 network - - = done
 2 0 tcp-create 0 4 = done
 2 0 made 2 tcp2 - 2 0 = done
@@ -68,7 +68,7 @@ const ROWS: [(Words, &[u8], &[u8], &[u8], &str, &[u8]); 17] = [
         b"",
         b"0 network\nno step\n",
         "3 2 1: ok 1\n",
-        b"context yes yes yes\n1 0 made 1 network - - = done\nend\n",
+        b"context yes yes yes 18446744073709551615\n1 0 made 1 network - - = done\nend\n",
     ),
     (
         &["record", "10"],
@@ -76,7 +76,7 @@ const ROWS: [(Words, &[u8], &[u8], &[u8], &str, &[u8]); 17] = [
         b"",
         BOUND,
         "4 0 1: ok 1\n",
-        b"context yes yes yes\n1 0 made 1 network - - = done\nend\n",
+        b"context yes yes yes 18446744073709551615\n1 0 made 1 network - - = done\nend\n",
     ),
     (
         RECORD,
@@ -84,7 +84,7 @@ const ROWS: [(Words, &[u8], &[u8], &[u8], &str, &[u8]); 17] = [
         b"",
         b"",
         "0 0 0: ",
-        b"context yes yes yes\nend\n",
+        b"context yes yes yes 18446744073709551615\nend\n",
     ),
     // The log has the scenario's contexts.
     (
@@ -93,7 +93,7 @@ const ROWS: [(Words, &[u8], &[u8], &[u8], &str, &[u8]); 17] = [
         b"",
         b"",
         "0 0 0: ",
-        b"context no yes no\ncontext yes no yes\nend\n",
+        b"context no yes no 18446744073709551615\ncontext yes no yes 18446744073709551615\nend\n",
     ),
     // None is written where no run began.
     (RECORD, b"check maybe\n", b"", BOUND, "2 1 0: ", b""),

@@ -5,8 +5,8 @@ use std::test::Fail;
 use wasi_replay::{LogError, log_text, parse_log};
 
 /// Calls and answers of most kinds.
-const LOG: &[u8] = b"context yes yes yes
-context no yes no
+const LOG: &[u8] = b"context yes yes yes 18446744073709551615
+context no yes no 18446744073709551615
 1 0 made 1 network - - = done
 2 0 tcp-create 0 4 = done
 2 0 made 2 tcp2 - 2 0 = done
@@ -58,26 +58,26 @@ fn bad_line(alloc: Global, text: &[u8]) -> Result<Result<Option<u32>, ()>, Alloc
 fn the_first_bad_line_is_named(rt: HostRuntime) -> Result<(), Fail> {
     let cases: [(&[u8], Option<u32>); 12] = [
         (LOG, None),
-        (b"context yes yes yes\nend\n", None),
+        (b"context yes yes yes 18446744073709551615\nend\n", None),
         (b"", Some(1)),
         (b"end\n", Some(1)),
-        (b"context yes yes yes\n", Some(2)),
-        (b"context yes yes yes\nend", Some(2)),
-        (b"context yes yes yes\nend\nend\n", Some(3)),
-        (b"context yes yes yes\n1 0 close 2 0 = yes\nend\n", Some(2)),
+        (b"context yes yes yes 18446744073709551615\n", Some(2)),
+        (b"context yes yes yes 18446744073709551615\nend", Some(2)),
+        (b"context yes yes yes 18446744073709551615\nend\nend\n", Some(3)),
+        (b"context yes yes yes 18446744073709551615\n1 0 close 2 0 = yes\nend\n", Some(2)),
         (
-            b"context yes yes yes\n1 0 close 2 0  = done\nend\n",
+            b"context yes yes yes 18446744073709551615\n1 0 close 2 0  = done\nend\n",
             Some(2),
         ),
         (
-            b"context yes yes yes\n1 0 shutdown 2 0 both = done\nend\n",
+            b"context yes yes yes 18446744073709551615\n1 0 shutdown 2 0 both = done\nend\n",
             Some(2),
         ),
         (
-            b"context yes yes yes\n4294967296 0 close 2 0 = done\nend\n",
+            b"context yes yes yes 18446744073709551615\n4294967296 0 close 2 0 = done\nend\n",
             Some(2),
         ),
-        (b"1 0 close 2 0 = done\ncontext yes yes yes\nend\n", Some(1)),
+        (b"1 0 close 2 0 = done\ncontext yes yes yes 18446744073709551615\nend\n", Some(1)),
     ];
     let alloc = rt.alloc();
     for (text, wanted) in cases {

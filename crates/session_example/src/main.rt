@@ -22,6 +22,7 @@ fn main(rt: HostRuntime) -> anyhow::Result<()> {
         ip_name_lookup: false,
         udp: false,
         tcp: true,
+        write_limit: u64::MAX,
     })?;
     let mut replies = Vec::new(alloc);
     let world = run_guest(

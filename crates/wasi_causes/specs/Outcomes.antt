@@ -206,7 +206,7 @@ Reads m line input len es _ after = ⊥
 
 -- so many bytes may be written
 abbrev pub Permitted : Machine → ℕ → ℕ → List Entry → List Field → Type 0
-Permitted m line output es (field.Number n ∷ []) = OfStreams m (output_at m output) (λ place r s. Permits (own_of line) s.writer n es) ⊎ IsSomeAnd (plain_output_at m output) (λ o. PermitsPlain m o n)
+Permitted m line output es (field.Number n ∷ []) = OfStreams m (output_at m output) (λ place r s. Permits (own_of line) s.writer (most_of m.store r) n es) ⊎ IsSomeAnd (plain_output_at m output) (λ o. PermitsPlain m o n)
 Permitted m line output es _ = ⊥
 
 -- A pollable is made, with the next number, and was marked.

@@ -37,6 +37,7 @@ fn context_of(name: u32, bits: u32) -> WasiSocketsCtx {
         ip_name_lookup: bits & 4 != 0,
         udp: bits & 2 != 0,
         tcp: bits & 1 != 0,
+        write_limit: u64::MAX,
     }
 }
 

@@ -25,12 +25,12 @@ use Rattle.wasi_world.specs.declared.ids.OpId.{OpId}
 -- == the handle of a lookup that was begun
 pub lookup_made : (m : Machine) (own : OpId) (network : ℕ) (l : NameLookup) {handle place : ℕ} {records : List Record} {jobs : List HostJob} {table : HandleTable} {s t : Seen}
     → place ≡ length m.store.records → records ≡ lookup_pushed m.store.records l → jobs ≡ jobs_with m.store.jobs (job.Lookup place) (is_looking l) → AsksFor (make_asks m.table own (kind.Lookup place) (Some network) None) s t (λ (made : Result ℕ Stop). (made, table)) (Ok (Ok handle))
-    → AsksFor (lookup_handle m own network l) s t (λ (made : Result ℕ Stop). let n : Machine = record { table = table; store = record { records = records; jobs = jobs; standing = m.store.standing; beside = m.store.beside } } in (made, n)) (Ok (Ok handle))
+    → AsksFor (lookup_handle m own network l) s t (λ (made : Result ℕ Stop). let n : Machine = record { table = table; store = record { records = records; jobs = jobs; standing = m.store.standing; beside = m.store.beside; limits = m.store.limits } } in (made, n)) (Ok (Ok handle))
 lookup_made m own network l p q r h = rw (q, r, p) (asks_end (λ made. Give (looked_up m l made)) (rw p at h.ok) refl)
 
 -- where none can be made, the lookup is given back
 pub lookup_lost : (m : Machine) (own : OpId) (network : ℕ) (l : NameLookup) {place : ℕ} {records : List Record} {jobs : List HostJob} {table : HandleTable} {s t : Seen} (why : Fault)
     → place ≡ length m.store.records → records ≡ lookup_pushed m.store.records l → jobs ≡ jobs_with m.store.jobs (job.Lookup place) (is_looking l) → AsksFor (make_asks m.table own (kind.Lookup place) (Some network) None) s t (λ (made : Result ℕ Stop). (made, table)) (fault_outcome {T = ℕ} (Err why))
-    → AsksFor (lookup_handle m own network l) s t (λ (made : Result ℕ Stop). let n : Machine = record { table = table; store = given_back place (record { records = records; jobs = jobs; standing = m.store.standing; beside = m.store.beside }) } in (made, n)) (host_outcome {T = ℕ} (Err (of_fault why)))
+    → AsksFor (lookup_handle m own network l) s t (λ (made : Result ℕ Stop). let n : Machine = record { table = table; store = given_back place (record { records = records; jobs = jobs; standing = m.store.standing; beside = m.store.beside; limits = m.store.limits }) } in (made, n)) (host_outcome {T = ℕ} (Err (of_fault why)))
 lookup_lost m own network l (fault.Trap k) p q r h = rw (q, r, p) (asks_end (λ made. Give (looked_up m l made)) (rw p at h.ok) refl)
 lookup_lost m own network l (fault.Memory d) p q r h = rw (q, r, p) (asks_exit (λ x. Unit {0}) (λ made. Give (looked_up m l made)) tt (rw p at h.err))

@@ -83,7 +83,7 @@ knows_refused op ctx family (Err (refusal.Memory d)) x store q h e k = rw e k
 
 -- == its record is polled
 pub begun_on : (face : Interface) (m : Machine) (ids : Ids) (create : Create) {place : ℕ} {records : List Record} {s t : Seen} {view : Result (Answer ℕ) BaseStop → Result (Answer ℕ) BaseStop × Machine} {o : Result (Result (Answer ℕ) BaseStop) AllocError} → place ≡ length m.store.records → records ≡ udp2_pushed m.store.records (Creating create)
-    → AsksFor (create_on face (record { table = m.table; store = record { records = records; jobs = m.store.jobs; standing = m.store.standing; beside = m.store.beside } }) ids place) s t view o → AsksFor (create_on face (with_create m create) ids (length m.store.records)) s t view o
+    → AsksFor (create_on face (record { table = m.table; store = record { records = records; jobs = m.store.jobs; standing = m.store.standing; beside = m.store.beside; limits = m.store.limits } }) ids place) s t view o → AsksFor (create_on face (with_create m create) ids (length m.store.records)) s t view o
 begun_on face m ids create p r h = rw (p, r) at h
 
 -- == its handle

@@ -16,6 +16,7 @@ pub mod Readiness
 pub mod Dropping
 pub mod ConnectionEnds
 pub mod KnownSides
+pub mod Limits
 pub mod Machine
 pub mod PlainStreams
 pub mod StreamCalls

@@ -28,6 +28,7 @@ pub use Rattle.wasi_records.specs.Names.{own_of}
 use Rattle.wasi_host.specs.SocketDatagrams.{drop_udp}
 use Rattle.wasi_host.specs.Store.{Records, no_records, with_record}
 use Rattle.wasi_host.specs.Jobs.{turn_store_asks}
+use Rattle.wasi_host.specs.Limits.{with_limit}
 use Rattle.wasi_host.specs.Readiness.{ready_at, ready_ids_at}
 use Rattle.wasi_host.specs.ConnectionEnds.{drop_end, drop_slot}
 use Rattle.wasi_host.specs.Dropping.{release_at, let_go_at, drop_output_at}
@@ -122,8 +123,12 @@ create_handle m own socket = handle_to same_told Tcp2 m own socket
 abbrev pub created_asks : Machine → OpId → Result Socket ErrorCode → Asks (Result ℕ Stop × Machine)
 created_asks m own made = made_to same_told code_told Tcp2 m own made
 
+-- room is made first, and the context's limit is kept from then on
+abbrev pub with_room : Machine → WasiSocketsCtx → Machine
+with_room m ctx = record m { store = with_limit m.store ctx }
+
 abbrev pub create_asks : Machine → OpId → WasiSocketsCtx → SocketAddressFamily → Asks (Result ℕ Stop × Machine)
-create_asks m own ctx family = create_to same_told code_told Tcp2 m own ctx family
+create_asks m own ctx family = create_to same_told code_told Tcp2 (with_room m ctx) own ctx family
 
 -- == pollables
 -- the network socket of what is watched, by which its pollables are marked

@@ -10,6 +10,7 @@ use Rattle.wasi_jobs.specs.declared.job.HostJob.{HostJob}
 use Rattle.wasi_records.specs.declared.socket.TcpRecord.{TcpRecord}
 use Rattle.wasi_records.specs.declared.records.Record.{Record}
 use Rattle.wasi_host.specs.declared.beside.Beside.{Beside}
+use Rattle.wasi_host.specs.declared.limits.Limit.{Limit}
 use Rattle.wasi_host.specs.declared.store.Standing.{Standing}
 use Rattle.wasi_records.specs.Stops.{Stop, code_stop}
 use Rattle.wasi_records.specs.Records.{tcp2_put, tcp2_pushed}
@@ -20,9 +21,10 @@ pub record Records : Type 0 where
   pub jobs : List HostJob  -- in the order in which they began
   pub standing : Option Standing
   pub beside : List Beside  -- in the order of their lines
+  pub limits : List Limit  -- of each context that room was made for a socket of
 
 abbrev pub no_records : Records
-no_records = record { records = []; jobs = []; standing = None; beside = [] }
+no_records = record { records = []; jobs = []; standing = None; beside = []; limits = [] }
 
 -- a record in place of the one of this number, by what a record it is
 abbrev pub with_stored : {T : Type 0} → (T → Record) → Records → ℕ → T → Records

@@ -8,7 +8,7 @@ use Rattle.wasi_streams.specs.StreamStop.{StreamStop}
 use Rattle.wasi_streams.specs.StreamStop as stream
 use Rattle.wasi_streams.specs.Streams.{zeros}
 use Rattle.wasi_tcp.specs.Reader.{read_state_asks}
-use Rattle.wasi_tcp.specs.Writer.{check_write_asks, write_state_asks}
+use Rattle.wasi_tcp.specs.Writer.{write_state_asks}
 use Rattle.wasi_records.specs.Records.{tcp2_at}
 use Rattle.wasi_host.specs.declared.kind.Kind.TheVariants.{ErrorValue}
 use Rattle.wasi_host.specs.declared.machine.Machine.{Machine}
@@ -21,6 +21,7 @@ use Rattle.wasi_host.specs.Kinds.{kind_at, make_asks, is_readable, is_writable, 
 use Rattle.wasi_host.specs.PlainStreams.{read_plain, check_plain, write_plain, flush_plain}
 use Rattle.wasi_host.specs.Store.{Records, stream_at}
 use Rattle.wasi_records.specs.Halves.{reader_asks, writer_asks, flush_asks}
+use Rattle.wasi_host.specs.Limits.{check_record}
 use Rattle.wasi_host.specs.Jobs.{write_at}
 use Rattle.wasi_host.specs.Machine.{with_table, with_store, input_at, output_at, side_at}
 
@@ -88,7 +89,7 @@ skip_asks m own input len = bind (read_asks m own input len) (λ done. Give (cou
 
 abbrev pub check_by : Machine → OpId → ℕ → Option PlainOutput → Asks (Result ℕ CallStop × Machine)
 check_by m own output (Some plain) = Give (plain_answer (check_plain m.store plain), m)
-check_by m own output None = stream_on m own output (writer_asks (check_write_asks own)) (output_at m output)
+check_by m own output None = stream_on m own output (check_record m.store own) (output_at m output)
 
 abbrev pub check_asks : Machine → OpId → ℕ → Asks (Result ℕ CallStop × Machine)
 check_asks m own output = check_by m own output (plain_output_at m output)

@@ -15,6 +15,7 @@ pub mod error;
 pub mod handles;
 pub mod jobs;
 pub mod kind;
+pub mod limits;
 mod listening;
 mod lookup_calls;
 pub mod machine;

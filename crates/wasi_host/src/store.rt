@@ -1,6 +1,6 @@
 //! The records that handles name, and the pending calls.
 
-ghost use Rattle.std.specs.Prelude.{◌≡◌, true, false, Ok, is_some, IfOk, OnErr, length};
+ghost use Rattle.std.specs.Prelude.{◌≡◌, ◌≤◌, ◌-◌, ◌^◌, min, true, false, OnOk, Ok, is_some, IfOk, OnErr, length};
 ghost use Rattle.std.specs.Prelude.{option_map};
 ghost use Rattle.std.specs.Borrow.{LendsIf, sem};
 ghost use Rattle.wasi_world.specs.Asks.{AsksFor, outcome};
@@ -15,13 +15,16 @@ ghost use Rattle.wasi_host.specs.Store.{no_records, stream_at, with_record, with
 ghost use Rattle.wasi_records.specs.Halves.{reader_asks, writer_asks, flush_asks};
 ghost use Rattle.wasi_streams.specs.StreamStop.{stream_outcome};
 ghost use Rattle.wasi_tcp.specs.Reader.{read_state_asks};
-ghost use Rattle.wasi_tcp.specs.Writer.{check_write_asks, write_state_asks};
+ghost use Rattle.wasi_tcp.specs.Writer.{write_state_asks};
+ghost use Rattle.wasi_host.specs.Limits.{check_record, most_at, with_limit};
+ghost use Rattle.wasi_records.specs.Used.{used};
 
 use crate::beside::{Beside, BesideList};
 use crate::blocking::BlockingCall;
 use crate::handles;
 use crate::jobs::keep_job;
 use crate::kind::{Interface, Kind};
+use crate::limits::{Limit, keep_limit, limit_of};
 use std::alloc::{AllocError, Global};
 use std::marker::Model;
 use wasi_addr::SocketAddressFamily;
@@ -98,6 +101,9 @@ pub struct Standing {
     pub call: StandingCall,
 }
 
+/// The most bytes that a permit is of.
+const MOST_PERMITTED: u64 = 65536;
+
 /// The records by number, the background jobs in the order of making, the exclusive pending call,
 /// and the pending calls that stand beside others.
 ///
@@ -110,6 +116,8 @@ pub struct Store {
     pub(crate) jobs: JobList,
     pub(crate) standing: Option<Standing>,
     pub(crate) beside: BesideList,
+    /// Of each context that room was made for a TCP socket of, once.
+    pub(crate) limits: Vec<Limit>,
 }
 
 impl Model for Store {
@@ -122,6 +130,7 @@ impl Model for Store {
       jobs = s.jobs.items;
       standing = s.standing;
       beside = s.beside;
+      limits = s.limits.items;
     } };
 }
 
@@ -140,7 +149,40 @@ impl Store {
             jobs: JobList::new(alloc),
             standing: None,
             beside: BesideList::new(alloc),
+            limits: Vec::new(alloc),
         }
+    }
+
+    /// How many bytes the writers of a context's TCP sockets of 0.2 hold or are permitted, as far
+    /// as a `u64` tells. Takes no memory, and the same time however many sockets there are.
+    pub fn used(&self, ctx: u32) -> u64
+        ensures { result ≡ min (used ctx self.now.records) (2 ^ 64 - 1) }
+    {
+        self.records.used(ctx)
+    }
+
+    /// How many bytes the other writers of a context leave to one that has so many of its own, where
+    /// this is the context's limit. Takes no memory.
+    pub fn left(&self, ctx: u32, own: u64, limit: u64) -> u64
+        requires own { own ≤ used ctx self.now.records }
+        requires within { used ctx self.now.records ≤ limit }
+        ensures { result ≡ limit - (used ctx self.now.records - own) }
+    {
+        limit - (self.used(ctx) - own)
+    }
+
+    /// How many bytes may be permitted to the writer of the TCP socket with this record number: as
+    /// many as the other writers of the context that made it leave of its limit, 65536 at most; none
+    /// where there is no such socket. Takes no memory.
+    fn most_for(&self, slot: SlotKey, place: RecordId) -> usize
+        ensures { result ≡ most_at self.now (tcp2_at self.now.records place) }
+    {
+        let Some(record) = find::<TcpRecord>(&self.records, place) else {
+            return 0;
+        };
+        let limit = limit_of(&self.limits, record.maker).unwrap_or(0);
+        let others = self.records.used_but(slot, place, record.maker);
+        MOST_PERMITTED.min(limit.saturating_sub(others)) as usize
     }
 
     /// Creates a TCP socket, its record and its handle (`create-tcp-socket`). Takes memory for the
@@ -161,10 +203,20 @@ impl Store {
         ensures sides { KnowsSides (W.seen world.old) self.old
             → KnowsSides (W.seen world.new) self.new }
     {
+        self.make_room(ctx)?;
         let place = self.make_tcp(world, own, ctx, family)?;
         let side = self.side(place);
         let handle = handles::make(table, world, own, Kind::Tcp2(place), None, side)?;
         Ok(handle)
+    }
+
+    /// Makes room for what the writers of a context hold, and keeps its limit from then on.
+    fn make_room(&mut self, ctx: &WasiSocketsCtx) -> Result<(), AllocError>
+        ensures room { OnOk result (self.new ≡ with_limit self.old ctx.now) }
+        ensures records { self.new.records ≡ self.old.records }
+    {
+        keep_limit(&mut self.limits, ctx)?;
+        self.records.reserve_total(ctx.name)
     }
 
     /// Creates a TCP socket and its record, which has no handle yet, and returns the number of the
@@ -239,7 +291,7 @@ impl Store {
     }
 
     /// The permit: how many bytes may be written to the connection of the TCP socket with this
-    /// record number.
+    /// record number. No more than the other writers of the context that made it leave of its limit.
     pub fn check_write<W: World>(
         &mut self,
         world: &mut W,
@@ -247,16 +299,18 @@ impl Store {
         place: RecordId,
     ) -> Result<usize, StreamError>
         requires { (W.seen world.old).ended ≡ false }
-        ensures asked { AsksFor (stream_at self.old place (writer_asks (check_write_asks op))
+        ensures asked { AsksFor (stream_at self.old place (check_record self.old op)
             (tcp2_at self.old.records place)) (W.seen world.old) (W.seen world.new)
             (λ answer. (answer, self.new)) (stream_outcome result) }
         ensures sides { KnowsSides (W.seen world.old) self.old
             → KnowsSides (W.seen world.new) self.new }
     {
-        let Some(record) = find_mut::<TcpRecord>(&mut self.records, place) else {
+        let slot = self.records.slot_of(place);
+        let most = self.most_for(slot, place);
+        let Some(record) = find_mut_in::<TcpRecord>(&mut self.records, slot, place) else {
             return Err(StreamError::Trap(TrapKind::NoSuchHandle));
         };
-        record.check_write(world, op)
+        record.check_write(world, op, most)
     }
 
     /// Writes bytes to the connection of the TCP socket with this record number. A write that is in

@@ -10,6 +10,7 @@ use Rattle.wasi_world.specs.declared.outcome.Answer.{Answer}
 use Rattle.wasi_world.specs.declared.outcome.Answer.TheVariants.{Ready, Pending}
 use Rattle.wasi_world.specs.declared.outcome.WasiSocketsCtx.{WasiSocketsCtx}
 use Rattle.wasi_world.specs.declared.call.Entry.{Entry}
+use Rattle.wasi_world.specs.Contexts.{default_context}
 use Rattle.wasi_world.specs.Asks.{Asks, Give, bind, Left}
 use Rattle.wasi_host.specs.declared.machine.Machine.{Machine}
 use Rattle.wasi_host.specs.declared.pending.Outcome.{Outcome}
@@ -214,7 +215,7 @@ set_p3 own socket (TheBacklog value) = p3.set_backlog own socket value
 -- a context that isn't there is allowed nothing
 abbrev pub context_in : Option WasiSocketsCtx → WasiSocketsCtx
 context_in (Some ctx) = ctx
-context_in None = record { name = 0; ip_name_lookup = false; udp = false; tcp = false }
+context_in None = default_context
 
 abbrev pub context_at : List WasiSocketsCtx → ℕ → WasiSocketsCtx
 context_at contexts n = context_in (slice_get contexts n)

@@ -32,7 +32,7 @@ held_put weight (x ∷ rs) zero w below = omega arith
 held_put weight (x ∷ rs) (suc i) w below = let later = held_put weight rs i w (omega (arith, below)) in omega arith
 
 -- keys that are above this number have nothing at it
-fresh : (h : ℕ) (es : List (ℕ × ℕ)) → AllByRecursion (λ y. nat_cmp h y ≡ Less) (keys_of es) → lookup (is_at (nat_cmp h)) es ≡ None
+pub fresh : (h : ℕ) (es : List (ℕ × ℕ)) → AllByRecursion (λ y. nat_cmp h y ≡ Less) (keys_of es) → lookup (is_at (nat_cmp h)) es ≡ None
 fresh h [] all = refl
 fresh h (e ∷ es) all = rw all.0 (fresh h es all.1)
 
@@ -42,11 +42,11 @@ held_none w f zero none = refl
 held_none w f (suc n) none = more_in w (numbered f n) (f n) (ap (λ r. held_by r w) (none n)) ∙ held_none w f n none
 
 -- the record of a number that leads here, or nowhere
-abbrev led_to : Slab NumberedRecord → ℕ → Option ℕ → Record
+abbrev pub led_to : Slab NumberedRecord → ℕ → Option ℕ → Record
 led_to s k None = Gone
 led_to s k (Some key) = record_under s key k
 
-abbrev record_led : Slab NumberedRecord → List (ℕ × ℕ) → ℕ → Record
+abbrev pub record_led : Slab NumberedRecord → List (ℕ × ℕ) → ℕ → Record
 record_led s es k = led_to s k (lookup (is_at (nat_cmp k)) es)
 
 -- as many by number as in the map

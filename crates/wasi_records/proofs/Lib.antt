@@ -32,3 +32,6 @@ pub mod HeldMaps
 pub mod PipeCounts
 pub mod SlotCounts
 pub mod EndCalms
+pub mod Sums
+pub mod Counts
+pub mod Unders

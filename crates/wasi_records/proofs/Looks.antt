@@ -26,7 +26,7 @@ use Rattle.wasi_tcp.specs.Connecting.{finish_connect_asks}
 use Rattle.wasi_tcp.specs.Job.{Job, finish_in, finish_asks}
 use Rattle.wasi_tcp.specs.Reader.{reader_ready_asks, reader_shutdown_asks}
 use Rattle.wasi_tcp.specs.Shape.{Socket}
-use Rattle.wasi_tcp.specs.Writer.{collected, look_asks, writer_side, writer_shutdown_asks, side_up_asks}
+use Rattle.wasi_tcp.specs.Writer.{collected, drop_permit, look_asks, writer_side, writer_shutdown_asks, side_up_asks}
 use Rattle.wasi_records.specs.declared.socket.Streams.{Streams}
 use Rattle.wasi_records.specs.declared.socket.TcpRecord.{TcpRecord}
 use Rattle.wasi_records.specs.Releasing.{give_streams_up}
@@ -45,8 +45,8 @@ waits_answer (Ready tt) = refl
 
 module _ (op : OpId) (r : TcpRecord) (streams : Streams) where
   -- by one that waits
-  pub look_waits : {w : WriteState} {s t : Seen} (looked : Result (Answer (Unit {0})) StreamError) → AsksFor (look_asks op streams.writer) s t (λ answer. (answer, w)) (stream_outcome looked)
-      → AsksFor {A = Answer (Unit {0}) × TcpRecord} (bind (look_asks op streams.writer) (λ l. Give (wait_answer l.0, with_writer r streams l.1))) s t (λ answer. (answer, with_writer r streams w)) (waits_told looked)
+  pub look_waits : {w : WriteState} {s t : Seen} (looked : Result (Answer (Unit {0})) StreamError) → AsksFor (look_asks op (drop_permit streams.writer)) s t (λ answer. (answer, w)) (stream_outcome looked)
+      → AsksFor {A = Answer (Unit {0}) × TcpRecord} (bind (look_asks op (drop_permit streams.writer)) (λ l. Give (wait_answer l.0, with_writer r streams l.1))) s t (λ answer. (answer, with_writer r streams w)) (waits_told looked)
   look_waits {w} (Ok answer) h = asks_end _ h.ok (ap (λ (a : Answer (Unit {0})). Give (a, with_writer r streams w)) (waits_answer answer))
   look_waits (Err (error.LastOperationFailed c)) h = asks_end _ h.ok refl
   look_waits (Err error.Closed) h = asks_end _ h.ok refl
@@ -97,7 +97,7 @@ calm_ready_writer op r (Some s) = calm_then Any Any (look_asks op s.writer) _ (c
 
 pub calm_wait_writer : (op : OpId) (r : TcpRecord) (o : Option Streams) → Calm Any (wait_writer op r o)
 calm_wait_writer op r None = tt
-calm_wait_writer op r (Some s) = calm_then Any Any (look_asks op s.writer) _ (calm_look_in op (collected s.writer)) (λ d k. tt)
+calm_wait_writer op r (Some s) = calm_then Any Any (look_asks op (drop_permit s.writer)) _ (calm_look_in op (collected (drop_permit s.writer))) (λ d k. tt)
 
 calm_reader_shutdown : (op : OpId) (s : ReadState) → Calm Any (reader_shutdown_asks op s)
 unfolding bind

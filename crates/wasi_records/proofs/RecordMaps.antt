@@ -164,7 +164,7 @@ module _ (s : Slab NumberedRecord) (keys : List (ℕ × ℕ)) (n : ℕ) (sound :
     abbrev written_slot : NumberedRecord
     written_slot = record x { value = w }
 
-    abbrev written_slots : Slab NumberedRecord
+    abbrev pub written_slots : Slab NumberedRecord
     written_slots = with_value s key written_slot
 
     write : Updates s written_slots key (Some written_slot)

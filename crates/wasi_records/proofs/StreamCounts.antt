@@ -61,8 +61,8 @@ unfolding bind
 calm_look_in op (writing.Ready half permit) = ((λ t. refl, refl), λ t. tt)
 calm_look_in op _ = tt
 
-pub calm_check : (op : OpId) (w : WriteState) → Calm Any (check_write_asks op w)
-calm_check op w = calm_then Any Any (look_asks op w) _ (calm_look_in op (collected w)) (λ l k. tt)
+pub calm_check : (most : ℕ) (op : OpId) (w : WriteState) → Calm Any (check_write_asks most op w)
+calm_check most op w = calm_then Any Any (look_asks op w) _ (calm_look_in op (collected w)) (λ l k. tt)
 
 -- == a write
 abbrev IsCalmFront : Front → Type 0

@@ -21,3 +21,5 @@ pub mod Udp
 pub mod Datagrams
 pub mod Receiving
 pub mod NameLookup
+pub mod Used
+pub mod Totals

@@ -16,7 +16,7 @@ use Rattle.wasi_tcp.specs.Shape.{Socket}
 use Rattle.wasi_tcp.specs.Connecting.{finish_connect_asks}
 use Rattle.wasi_tcp.specs.Listener.{Listener, has_accept, listener_ready_asks}
 use Rattle.wasi_tcp.specs.Reader.{reader_ready_asks}
-use Rattle.wasi_tcp.specs.Writer.{look_asks}
+use Rattle.wasi_tcp.specs.Writer.{drop_permit, look_asks}
 use Rattle.wasi_records.specs.declared.tcp_listening.Listening.{Listening}
 use Rattle.wasi_records.specs.declared.tcp_listening.Listening.TheVariants.{Accepts}
 use Rattle.wasi_records.specs.declared.socket.Streams.{Streams}
@@ -106,7 +106,7 @@ abbrev pub socket_ids : TcpRecord → Ids → Bool → Ids
 socket_ids r ids true = ids
 socket_ids r ids false = idle_ids r.listening ids (is_nothing r.in_progress)
 
--- == an output
+-- == an output whose handle goes: its permit ends first
 -- an error doesn't wait
 abbrev pub wait_answer : Result (Answer (Unit {0})) StreamStop → Answer (Unit {0})
 wait_answer (Ok Pending) = Pending
@@ -123,4 +123,4 @@ waits_told (Err (error.Memory e)) = Err e
 
 abbrev pub wait_writer : OpId → TcpRecord → Option Streams → Asks (Answer (Unit {0}) × TcpRecord)
 wait_writer op r None = Give (Ready tt, r)
-wait_writer op r (Some s) = bind (look_asks op s.writer) (λ looked. Give (wait_answer looked.0, with_writer r s looked.1))
+wait_writer op r (Some s) = bind (look_asks op (drop_permit s.writer)) (λ looked. Give (wait_answer looked.0, with_writer r s looked.1))

@@ -41,6 +41,10 @@ abbrev pub has_room : Slab NumberedRecord → List (ℕ × ℕ) → ℕ → Bool
 has_room slots keys next =
     is_some (lookup (is_at (nat_cmp next)) keys) && nat_lt (slab_len slots) slots.capacity && nat_lt (next + 1) (2 ^ 64)
 
+-- each slot is where its number leads
+abbrev pub IsLed : Slab NumberedRecord → List (ℕ × ℕ) → Type 0
+IsLed slots keys = (key : ℕ) (slot : NumberedRecord) → get slots key ≡ Some slot → lookup (is_at (nat_cmp slot.number)) keys ≡ Some key
+
 -- each slot is where its number leads, and has a number that was given
 pub record IsSound (slots : Slab NumberedRecord) (keys : List (ℕ × ℕ)) (next : ℕ) : Type 0 where
   pub led : (key : ℕ) (slot : NumberedRecord) → get slots key ≡ Some slot → lookup (is_at (nat_cmp slot.number)) keys ≡ Some key

@@ -29,7 +29,7 @@ use Rattle.wasi_records.specs.Stops.{Stop, Code, code_stop}
 
 -- its handles are marked with the network socket that it is made with
 abbrev pub new_record : Socket → TcpRecord
-new_record socket = record { inner = socket; side = side_of socket; in_progress = doing.Nothing; listening = listening.Not; streams = None; dropped = false }
+new_record socket = record { inner = socket; side = side_of socket; in_progress = doing.Nothing; listening = listening.Not; streams = None; dropped = false; maker = socket.maker }
 
 abbrev pub with_inner : TcpRecord → Socket → TcpRecord
 with_inner r socket = record r { inner = socket }

@@ -1,9 +1,10 @@
 //! What a guest reads and writes through the halves of a connection, and how it shuts them down.
 
-ghost use Rattle.std.specs.Prelude.{◌≡◌, ◌&&◌, not, false, Some};
+ghost use Rattle.std.specs.Prelude.{◌≡◌, ◌≤◌, ◌&&◌, not, false, Some};
 ghost use Rattle.wasi_streams.specs.StreamStop.{stream_outcome};
 ghost use Rattle.wasi_tcp.specs.Reader.{read_state_asks};
 ghost use Rattle.wasi_tcp.specs.Writer.{check_write_asks, write_state_asks};
+ghost use Rattle.wasi_records.specs.Used.{held_in};
 ghost use Rattle.wasi_world.specs.Asks.{AsksFor};
 ghost use Rattle.wasi_tcp.specs.Socket.{side_of};
 ghost use Rattle.wasi_records.specs.Releasing.{give_streams_up};
@@ -108,16 +109,33 @@ impl TcpRecord {
         }
     }
 
-    /// The permit: how many bytes may be written to the connection.
-    pub fn check_write<W: World>(&mut self, world: &mut W, op: OpId) -> Result<usize, StreamError>
-        requires { (W.seen world.old).ended ≡ false }
-        ensures asked { AsksFor (writer_asks (check_write_asks op) self.old) (W.seen world.old)
-            (W.seen world.new) (λ answer. (answer, self.new)) (stream_outcome result) }
+    /// How many bytes its writer may be given, or still has to write. Takes no memory.
+    pub fn held(&self) -> u64
+        ensures { result ≡ held_in self.now.streams }
+    {
+        match &self.streams {
+            Some(streams) => streams.writer.held(),
+            None => 0,
+        }
+    }
+
+    /// The permit: how many bytes may be written to the connection, `most` at most.
+    pub fn check_write<W: World>(
+        &mut self,
+        world: &mut W,
+        op: OpId,
+        most: usize,
+    ) -> Result<usize, StreamError>
+        requires open { (W.seen world.old).ended ≡ false }
+        requires most { most ≤ 65536 }
+        ensures asked { AsksFor (writer_asks (check_write_asks most op) self.old)
+            (W.seen world.old) (W.seen world.new) (λ answer. (answer, self.new))
+            (stream_outcome result) }
         ensures side { side_of self.new.inner ≡ side_of self.old.inner }
         ensures listening { self.new.listening ≡ self.old.listening }
     {
         match &mut self.streams {
-            Some(streams) => streams.writer.check_write(world, op),
+            Some(streams) => streams.writer.check_write(world, op, most),
             None => Err(StreamError::Trap(TrapKind::NoSuchHandle)),
         }
     }

@@ -18,6 +18,7 @@ pub mod slot;
 pub mod socket;
 pub mod tcp_binding;
 pub mod tcp_listening;
+mod totals;
 pub mod udp;
 pub mod udp_connecting;
 

@@ -132,8 +132,8 @@ impl TcpRecord {
         }
     }
 
-    /// Looks at the writer once, for the drop of an output that waits for it. Without streams there
-    /// is nothing to wait for.
+    /// Looks at the writer once, for the drop of an output that waits for it: nothing is permitted
+    /// any more. Without streams there is nothing to wait for.
     pub fn poll_writer<W: World>(
         &mut self,
         world: &mut W,
@@ -146,7 +146,10 @@ impl TcpRecord {
         ensures listening { self.new.listening ≡ self.old.listening }
     {
         match &mut self.streams {
-            Some(streams) => wait_answer(streams.writer.poll_ready(world, op)),
+            Some(streams) => {
+                streams.writer.drop_permit();
+                wait_answer(streams.writer.poll_ready(world, op))
+            }
             None => Ok(Answer::Ready(())),
         }
     }

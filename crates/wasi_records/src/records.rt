@@ -1,9 +1,11 @@
 //! What the numbers of a store name, and how it is looked up.
 
-ghost use Rattle.std.specs.Prelude.{◌≡◌, Option, option_map, Some, None, refl};
+ghost use Rattle.std.specs.Prelude.{◌≡◌, ℕ, Option, option_map, Some, None, refl};
 ghost use Rattle.std.specs.Borrow.{LendsIf, sem};
 ghost use Rattle.wasi_records.specs.Records.{stored_at, with_stored};
 ghost use Rattle.wasi_records.specs.Rows.{record_row, records_row};
+ghost use Rattle.wasi_records.specs.Totals.{share_by};
+ghost use Rattle.wasi_records.specs.Used.{used_in};
 ghost use Rattle.wasi_records.specs.declared.records.Record.{Record};
 ghost use Rattle.wasi_records.specs.declared.records.Record.TheVariants.{Gone};
 
@@ -11,6 +13,7 @@ use crate::name_lookup::Lookup;
 use crate::record_list::{RecordId, RecordList, SlotKey};
 use crate::slot::Slot;
 use crate::socket::TcpRecord;
+use crate::totals::Share;
 use crate::udp::{OpenUdp, UdpRecord};
 use memory_streams::{InputPipeCore, OutputPipe};
 
@@ -32,6 +35,26 @@ pub enum Record {
     /// Nothing: the record was given back, since nothing refers to it any more, or its number
     /// wasn't given yet.
     Gone,
+}
+
+impl Record {
+    /// What it counts for: the bytes that the writer of a TCP socket holds or is permitted.
+    pub(crate) fn share(&self) -> Share
+        ensures { (context : ℕ) → share_by result context ≡ used_in context self.now }
+    {
+        match self {
+            Record::Tcp(socket) => Share {
+                context: socket.maker,
+                bytes: socket.held(),
+            },
+            Record::Udp(_)
+            | Record::Lookup(_)
+            | Record::InputPipe(_)
+            | Record::OutputPipe(_)
+            | Record::Slot(_)
+            | Record::Gone => Share::none(),
+        }
+    }
 }
 
 /// What a store has records of: each implementing type is found in the list by [`find`], and to be

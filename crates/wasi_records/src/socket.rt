@@ -40,6 +40,9 @@ pub struct TcpRecord {
     pub listening: Listening,
     /// Its handle of 0.3 is gone, and the record stays for what else holds its network socket.
     pub dropped: bool,
+    /// The context that made its network socket, also once that is closed: what its writer holds
+    /// counts for this context.
+    pub maker: u32,
 }
 
 impl TcpRecord {
@@ -48,6 +51,7 @@ impl TcpRecord {
         ensures { result ≡ new_record inner }
     {
         let side = inner.side();
+        let maker = inner.maker();
         TcpRecord {
             inner,
             side,
@@ -55,6 +59,7 @@ impl TcpRecord {
             listening: Listening::Not,
             streams: None,
             dropped: false,
+            maker,
         }
     }
 

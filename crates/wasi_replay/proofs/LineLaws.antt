@@ -8,19 +8,19 @@ use Rattle.std.proofs.lemmas.Slice.Eq.{bytes_eq-Decides}
 use Rattle.std.proofs.lemmas.Str.Parse.{digit_from_value}
 use Rattle.wasi_world.specs.declared.call.Entry.{Entry}
 use Rattle.wasi_world.specs.declared.outcome.WasiSocketsCtx.{WasiSocketsCtx}
-use Rattle.world_scripted.specs.Scenario.{yes_or_no, yes_or_no_at, allowed_at, context_word, context_at, context_in}
-use Rattle.world_text.specs.Fields.{whole, fields_of, line_with}
-use Rattle.world_text.specs.Written.{ReadsExactly, AreVisible, IsVisible, is_visible}
-use Rattle.world_text.proofs.Exactly.{All, Only, exactly, all_give, only_give, only_some, all_then, only_then, all_last}
+use Rattle.world_scripted.specs.Scenario.{yes_or_no, yes_or_no_at}
+use Rattle.world_text.specs.Fields.{whole, fields_of, line_with, number_at}
+use Rattle.world_text.specs.Written.{ReadsExactly, number_fields, AreVisible, IsVisible, is_visible}
+use Rattle.world_text.proofs.Exactly.{All, Only, exactly, all_give, only_give, only_some, all_then, only_then, all_last, number_exactly}
 use Rattle.world_text.proofs.ReadBack.{word_exactly}
-use Rattle.world_text.proofs.Visible.{visible_utf8, fields_of_line, line_of_fields, visible_line}
+use Rattle.world_text.proofs.Visible.{visible_utf8, number_visible, fields_of_line, line_of_fields, visible_line}
 use Rattle.world_text.proofs.Words.{only_word}
 use Rattle.wasi_replay.specs.Arguments.{sock_fields}
 use Rattle.wasi_replay.specs.Calls.{call_fields, told_fields}
 use Rattle.wasi_replay.specs.Recorded.{fits_entry, FitsEntry}
 use Rattle.wasi_replay.specs.declared.line.Line.{Line}
 use Rattle.wasi_replay.specs.declared.line.Line.TheVariants as line
-use Rattle.wasi_replay.specs.Log.{equals_word, equals_at, if_fits, entry_at, entry_in, entry_fields, entry_line, IsEntry, allowed_text, context_fields, context_line, line_or, line_in, line_text}
+use Rattle.wasi_replay.specs.Log.{equals_word, equals_at, if_fits, entry_at, entry_in, entry_fields, entry_line, IsEntry, allowed_text, allowed_at, context_word, context_at, context_in, context_fields, context_line, HasLimit, line_or, line_in, line_text}
 use Rattle.wasi_replay.proofs.Fitting.{entry_decides}
 use Rattle.wasi_replay.proofs.Ends.{ReadsLast, lastly, last_some, last_then, last_alone, only_next, both_visible}
 use Rattle.wasi_replay.proofs.ArgumentLaws.{sock_exactly, sock_visible}
@@ -87,20 +87,23 @@ allowed_exactly = exactly
     (only_then _ word_exactly (λ word utf8. only_word (λ word taken b. Unit {0} × (word ∷ taken ≡ allowed_text b ∷ [])) yes_or_no word (only_give true (tt, refl), (only_give false (tt, refl), tt))))
     (λ b u. allowed_all b)
 
+abbrev limit_exactly : ReadsExactly (number_at 18446744073709551615) number_fields (λ n. n ≤ 18446744073709551615)
+limit_exactly = number_exactly 18446744073709551615 (omega arith)
+
 abbrev IsNamed : ℕ → WasiSocketsCtx → Type 0
-IsNamed number context = context.name ≡ number
+IsNamed number context = (context.name ≡ number) × HasLimit context
 
 fields_only : (number : ℕ) → Only (allowed_at number) (λ taken context. IsNamed number context × (codes "context" ∷ taken ≡ context_fields context))
 unfolding allowed_at
-fields_only number = only_then _ allowed_exactly (λ tcp ft. only_then _ allowed_exactly (λ udp fu. only_then _ allowed_exactly (λ lookup fl. only_give _ (refl, refl))))
+fields_only number = only_then _ allowed_exactly (λ tcp ft. only_then _ allowed_exactly (λ udp fu. only_then _ allowed_exactly (λ lookup fl. only_then _ limit_exactly (λ limit fits. only_give _ ((refl, fits), refl)))))
 
-fields_all : (context : WasiSocketsCtx) → All (allowed_at context.name) context (allowed_text context.tcp ∷ allowed_text context.udp ∷ allowed_text context.ip_name_lookup ∷ [])
+fields_all : (context : WasiSocketsCtx) → HasLimit context → All (allowed_at context.name) context (allowed_text context.tcp ∷ allowed_text context.udp ∷ allowed_text context.ip_name_lookup ∷ decimal context.write_limit ∷ [])
 unfolding allowed_at
-fields_all context = all_then _ allowed_exactly tt (all_then _ allowed_exactly tt (all_then _ allowed_exactly tt all_give))
+fields_all context fits = all_then _ allowed_exactly tt (all_then _ allowed_exactly tt (all_then _ allowed_exactly tt (all_then _ limit_exactly fits all_give)))
 
 context_all : (number : ℕ) (context : WasiSocketsCtx) → IsNamed number context → All (context_at number) context (context_fields context)
 unfolding context_at
-context_all number context named = rw (← named) (all_then _ word_exactly (visible_utf8 _ refl) (fields_all context))
+context_all number context named = rw (← named.0) (all_then _ word_exactly (visible_utf8 _ refl) (fields_all context named.1))
 
 context_exactly : (number : ℕ) → ReadsExactly (context_at number) context_fields (IsNamed number)
 unfolding context_at
@@ -112,8 +115,8 @@ allowed_visible : (b : Bool) → IsTrue (list_all is_visible (allowed_text b))
 allowed_visible true = refl
 allowed_visible false = refl
 
-context_visible : (context : WasiSocketsCtx) → AreVisible (context_fields context)
-context_visible context = (refl, (allowed_visible context.tcp, (allowed_visible context.udp, (allowed_visible context.ip_name_lookup, tt))))
+context_visible : (context : WasiSocketsCtx) → HasLimit context → AreVisible (context_fields context)
+context_visible context fits = (refl, (allowed_visible context.tcp, (allowed_visible context.udp, (allowed_visible context.ip_name_lookup, (number_visible context.write_limit (omega (arith, fits)), tt)))))
 
 some_context : (context : WasiSocketsCtx) → context_fields context ≡ [] → ⊥
 some_context context h = cc
@@ -127,7 +130,7 @@ context_is number text context h =
 context_written : (number : ℕ) (context : WasiSocketsCtx) → IsNamed number context → context_in number (context_line context) ≡ Some context
 unfolding context_in
 context_written number context named =
-    ap whole (ap (context_at number) (fields_of_line (context_fields context) (some_context context) (context_visible context) ∙ sym (append-nil (context_fields context))) ∙ (context_exactly number).all context [] named)
+    ap whole (ap (context_at number) (fields_of_line (context_fields context) (some_context context) (context_visible context named.1) ∙ sym (append-nil (context_fields context))) ∙ (context_exactly number).all context [] named)
 
 -- == lines
 -- what a line is, where so many contexts came before it
@@ -171,7 +174,7 @@ no_context_of : (number : ℕ) (e : Entry) → IsEntry e → (found : Option Was
 no_context_of number e fits None h = refl
 no_context_of number e fits (Some context) h =
     let is = context_is number (entry_line e) context h in
-    let same = sym (fields_of_line (entry_fields e) (some_fields e) (entry_visible e fits)) ∙ (ap fields_of is.0 ∙ fields_of_line (context_fields context) (some_context context) (context_visible context)) in
+    let same = sym (fields_of_line (entry_fields e) (some_fields e) (entry_visible e fits)) ∙ (ap fields_of is.0 ∙ fields_of_line (context_fields context) (some_context context) (context_visible context is.1.1)) in
     absurd (not_word e.op.step 99 _ fits.op.0 (omega arith) (ap first_of same))
 
 line_found : (number : ℕ) (text : List ℕ) (same : Bool) (context : Option WasiSocketsCtx) (e : Option Entry) → bytes_eq text (codes "end") ≡ same → context_in number text ≡ context → entry_in text ≡ e → line_in number text ≡ cond same (Some line.End) (line_or context e)
@@ -180,13 +183,13 @@ line_found number text same context e h k l = rw (h, k, l) refl
 
 pub line_written : (number : ℕ) (l : Line) → IsLine number l → line_in number (line_text l) ≡ Some l
 line_written number (line.Context context) named =
-    line_found number (context_line context) false (Some context) (entry_in (context_line context)) (not_end (codes "context") (allowed_text context.tcp ∷ allowed_text context.udp ∷ allowed_text context.ip_name_lookup ∷ []) (context_visible context) (λ h. cc)) (context_written number context named) refl
+    line_found number (context_line context) false (Some context) (entry_in (context_line context)) (not_end (codes "context") (allowed_text context.tcp ∷ allowed_text context.udp ∷ allowed_text context.ip_name_lookup ∷ decimal context.write_limit ∷ []) (context_visible context named.1) (λ h. cc)) (context_written number context named) refl
 line_written number (line.Entry e) fits =
     line_found number (entry_line e) false None (Some e) (not_end (decimal e.op.step) (decimal e.op.part ∷ (call_fields e.call ++ codes "=" ∷ told_fields e.answer)) (entry_visible e fits) (not_word e.op.step 101 _ fits.op.0 (omega arith))) (no_context_of number e fits (context_in number (entry_line e)) refl) (entry_written e fits)
 line_written number line.End u = line_found number (codes "end") true (context_in number (codes "end")) (entry_in (codes "end")) refl refl refl
 
 -- no newline is in a line
 pub line_visible : (number : ℕ) (l : Line) → IsLine number l → IsVisible (line_text l)
-line_visible number (line.Context context) named = visible_line (context_fields context) (context_visible context)
+line_visible number (line.Context context) named = visible_line (context_fields context) (context_visible context named.1)
 line_visible number (line.Entry e) fits = visible_line (entry_fields e) (entry_visible e fits)
 line_visible number line.End u = refl

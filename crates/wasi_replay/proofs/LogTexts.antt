@@ -126,23 +126,23 @@ entries_text_is : (log : List Entry) → entries_text log ≡ text_of_lines (map
 entries_text_is [] = refl
 entries_text_is (e ∷ log) = ap (λ t. t ++ entries_text log) (entry_text_is e) ∙ ap (λ t. (entry_line e ++ 10 ∷ []) ++ t) (entries_text_is log)
 
-abbrev context_of : ℕ → Bool → Bool → Bool → WasiSocketsCtx
-context_of name tcp udp lookup = record { name = name; ip_name_lookup = lookup; udp = udp; tcp = tcp }
+abbrev context_of : ℕ → ℕ → Bool → Bool → Bool → WasiSocketsCtx
+context_of name limit tcp udp lookup = record { name = name; ip_name_lookup = lookup; udp = udp; tcp = tcp; write_limit = limit }
 
-context_by : (name : ℕ) (tcp udp lookup : Bool) → context_text (context_of name tcp udp lookup) ≡ context_line (context_of name tcp udp lookup) ++ 10 ∷ []
-context_by name true true true = refl
-context_by name true true false = refl
-context_by name true false true = refl
-context_by name true false false = refl
-context_by name false true true = refl
-context_by name false true false = refl
-context_by name false false true = refl
-context_by name false false false = refl
+context_by : (name limit : ℕ) (tcp udp lookup : Bool) → context_text (context_of name limit tcp udp lookup) ≡ context_line (context_of name limit tcp udp lookup) ++ 10 ∷ []
+context_by name limit true true true = refl
+context_by name limit true true false = refl
+context_by name limit true false true = refl
+context_by name limit true false false = refl
+context_by name limit false true true = refl
+context_by name limit false true false = refl
+context_by name limit false false true = refl
+context_by name limit false false false = refl
 
 contexts_text_is : (contexts : List WasiSocketsCtx) → contexts_text contexts ≡ text_of_lines (map context_line contexts)
 contexts_text_is [] = refl
 contexts_text_is (context ∷ contexts) =
-    ap (λ t. t ++ contexts_text contexts) (context_by context.name context.tcp context.udp context.ip_name_lookup)
+    ap (λ t. t ++ contexts_text contexts) (context_by context.name context.write_limit context.tcp context.udp context.ip_name_lookup)
     ∙ ap (λ t. (context_line context ++ 10 ∷ []) ++ t) (contexts_text_is contexts)
 
 abbrev line_of : List ℕ → List ℕ

@@ -1,11 +1,11 @@
--- The text of a log: a line `context T U K` for each context, a line `STEP PART CALL = ANSWER` for each entry, and the line `end`.
-use Rattle.std.specs.Prelude.{◌≡◌, ℕ, ◌+◌, ◌==◌, ◌&&◌, nat_le, Bool, true, false, if◌then◌else◌, List, [], ◌∷◌, ◌++◌, bytes_eq, length, take, map, flat_map, codes, Option, Some, None, option_map, Result, Ok, Err}
+-- The text of a log: a line `context T U K L` for each context, a line `STEP PART CALL = ANSWER` for each entry, and the line `end`.
+use Rattle.std.specs.Prelude.{◌≡◌, ℕ, ◌+◌, ◌==◌, ◌&&◌, ◌≤◌, nat_le, Bool, true, false, if◌then◌else◌, List, [], ◌∷◌, ◌++◌, bytes_eq, length, take, map, flat_map, codes, decimal, Option, Some, None, option_map, Result, Ok, Err}
 use Rattle.std.specs.List.{AllByRecursion}
 use Rattle.wasi_world.specs.Contexts.{AreNumbered}
 use Rattle.wasi_world.specs.declared.call.Entry.{Entry}
 use Rattle.wasi_world.specs.declared.outcome.WasiSocketsCtx.{WasiSocketsCtx}
-use Rattle.world_scripted.specs.Scenario.{context_in}
-use Rattle.world_text.specs.Fields.{Reader, Row, row, after_word, ◌>>=◌, give, give_some, whole, fields_of, line_with, word_at}
+use Rattle.world_scripted.specs.Scenario.{yes_or_no_at}
+use Rattle.world_text.specs.Fields.{Reader, Row, row, after_word, ◌>>=◌, give, give_some, whole, fields_of, line_with, word_at, number_at}
 use Rattle.world_text.specs.Lines.{lines_of, rest_of}
 use Rattle.wasi_replay.specs.Arguments.{sock_at, sock_fields, FitsSock}
 use Rattle.wasi_replay.specs.Calls.{call_at, call_fields, FitsCall, told_at, told_fields, FitsTold}
@@ -51,13 +51,37 @@ pub record IsEntry (e : Entry) : Type 0 where
   pub answer : FitsTold e.answer
   pub fitting : FitsEntry e
 
--- == the line of a context: whether TCP, UDP and name lookup are allowed
+-- == the line of a context: whether TCP, UDP and name lookup are allowed, and its limit, which is always written
+unfoldable pub allowed_at : ℕ → Reader WasiSocketsCtx
+allowed_at number = do
+  tcp ← yes_or_no_at
+  udp ← yes_or_no_at
+  lookup ← yes_or_no_at
+  limit ← number_at 18446744073709551615
+  give (record { name = number; ip_name_lookup = lookup; udp = udp; tcp = tcp; write_limit = limit })
+
+abbrev pub context_word : ℕ → List (Row WasiSocketsCtx)
+context_word number = row (codes "context") (allowed_at number) ∷ []
+
+unfoldable pub context_at : ℕ → Reader WasiSocketsCtx
+context_at number = do
+  word ← word_at
+  after_word (context_word number) word
+
+-- the context that a line gives, with this number
+unfoldable pub context_in : ℕ → List ℕ → Option WasiSocketsCtx
+context_in number line = whole (context_at number (fields_of line))
+
 abbrev pub allowed_text : Bool → List ℕ
 allowed_text true = codes "yes"
 allowed_text false = codes "no"
 
 abbrev pub context_fields : WasiSocketsCtx → List (List ℕ)
-context_fields context = codes "context" ∷ allowed_text context.tcp ∷ allowed_text context.udp ∷ allowed_text context.ip_name_lookup ∷ []
+context_fields context = codes "context" ∷ allowed_text context.tcp ∷ allowed_text context.udp ∷ allowed_text context.ip_name_lookup ∷ decimal context.write_limit ∷ []
+
+-- its limit has 64 bits
+abbrev pub HasLimit : WasiSocketsCtx → Type 0
+HasLimit context = context.write_limit ≤ 18446744073709551615
 
 abbrev pub context_line : WasiSocketsCtx → List ℕ
 context_line context = line_with (context_fields context)
@@ -141,8 +165,9 @@ text_of_lines lines = flat_map (λ text. text ++ 10 ∷ []) lines
 abbrev pub log_text : List WasiSocketsCtx → List Entry → List ℕ
 log_text contexts log = text_of_lines (log_lines contexts log)
 
--- There is a context, each is named by its place, and each entry has its numbers within their widths and an answer that fits.
+-- There is a context, each is named by its place and has a limit of 64 bits, and each entry has its numbers within their widths and an answer that fits.
 pub record IsLog (contexts : List WasiSocketsCtx) (log : List Entry) : Type 0 where
   pub some : contexts ≡ [] → ⊥
   pub numbered : AreNumbered contexts
+  pub limits : AllByRecursion HasLimit contexts
   pub entries : AllByRecursion IsEntry log

@@ -3,6 +3,7 @@
 ghost use Rattle.std.specs.Prelude.{◌≡◌, IfOk};
 ghost use Rattle.world_text.specs.Fields.{Reads};
 ghost use Rattle.wasi_replay.specs.Log.{equals_at, if_fits, entry_at, entry_in, line_in};
+ghost use Rattle.wasi_replay.specs.Log.{allowed_at, context_in};
 
 use crate::call::call;
 use crate::entry::fits;
@@ -10,13 +11,14 @@ use crate::fields::sock;
 use crate::told::told;
 use std::alloc::{AllocError, Global};
 use wasi_world::{Entry, WasiSocketsCtx};
-use world_scripted::scenario::context;
+use world_scripted::scenario::yes_or_no;
 use world_text::Fields;
 
 /// What a line of a log is.
 #[derive(Drop)]
 pub enum Line {
-    /// `context T U K`: a context, and whether it may use TCP, UDP and name lookup.
+    /// `context T U K L`: a context, whether it may use TCP, UDP and name lookup, and its limit on
+    /// unwritten bytes.
     Context(WasiSocketsCtx),
     /// `STEP PART CALL = ANSWER`: an entry.
     Entry(Entry),
@@ -70,6 +72,39 @@ fn parse_entry(alloc: Global, line: &[u8]) -> Result<Option<Entry>, AllocError>
     let mut fields = Fields::of(line);
     let entry = entry_fields(alloc, &mut fields)?;
     Ok(if fields.is_done() { entry } else { None })
+}
+
+/// Takes what is written of the context with this number.
+#[tactic(auto, unfolding(crate::specs::Log::allowed_at, world_text::specs::Fields::read_then, world_text::specs::Fields::give))]
+fn allowed(fields: &mut Fields<'_>, number: u32) -> Option<WasiSocketsCtx>
+    ensures { Reads (allowed_at number) fields.old result fields.new }
+{
+    let tcp = yes_or_no(fields)?;
+    let udp = yes_or_no(fields)?;
+    let ip_name_lookup = yes_or_no(fields)?;
+    let write_limit = fields.number(u64::MAX)?;
+    Some(WasiSocketsCtx {
+        name: number,
+        ip_name_lookup,
+        udp,
+        tcp,
+        write_limit,
+    })
+}
+
+/// The context that a line is, with this number; none exactly where it isn't one.
+#[tactic(auto, unfolding(crate::specs::Log::context_in, crate::specs::Log::context_at, world_text::specs::Fields::read_then))]
+fn context(line: &[u8], number: u32) -> Option<WasiSocketsCtx>
+    ensures { result ≡ context_in number line.now }
+{
+    let mut fields = Fields::of(line);
+    match fields.word()? {
+        "context" => {
+            let context = allowed(&mut fields, number)?;
+            if fields.is_done() { Some(context) } else { None }
+        }
+        _ => None,
+    }
 }
 
 /// What a line is, without its newline, where so many contexts came before it; none exactly where

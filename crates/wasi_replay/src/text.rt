@@ -25,7 +25,8 @@ fn push_context(text: &mut String, context: &WasiSocketsCtx) -> Result<(), Alloc
     let tcp = allowed_word(context.tcp);
     let udp = allowed_word(context.udp);
     let lookup = allowed_word(context.ip_name_lookup);
-    write!(text, "context {tcp} {udp} {lookup}\n")
+    let limit = context.write_limit;
+    write!(text, "context {tcp} {udp} {lookup} {limit}\n")
 }
 
 /// Appends the lines of contexts.

@@ -21,6 +21,7 @@ const FREE: WasiSocketsCtx = WasiSocketsCtx {
     ip_name_lookup: true,
     udp: true,
     tcp: true,
+    write_limit: u64::MAX,
 };
 
 /// What a run did, in numbers. It prints as the line that a program shows.

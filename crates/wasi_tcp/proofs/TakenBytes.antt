@@ -209,8 +209,8 @@ module _ (op side : OpId) where
   look_quiet (state.Closing job) es h = h
   look_quiet (state.Closed e) es h = h
 
-  check_quiet : (s : WriteState) → Quiet [] (check_write_asks op s)
-  check_quiet s = allows_then (λ fs id call. None fs) (λ fs a. None fs) (λ fs a. None fs) [] (look_asks op s) _ (look_quiet (collected s) [] refl) (λ es looked h. h)
+  check_quiet : (most : ℕ) (s : WriteState) → Quiet [] (check_write_asks most op s)
+  check_quiet most s = allows_then (λ fs id call. None fs) (λ fs a. None fs) (λ fs a. None fs) [] (look_asks op s) _ (look_quiet (collected s) [] refl) (λ es looked h. h)
 
   end_quiet : (half : TcpReceiveStream) (stop : StreamStop) (es : List Entry) → None es → Quiet es (read_end_asks op (read.Open half) stop)
   unfolding bind
@@ -239,13 +239,13 @@ module _ (op side : OpId) where
 pub look_takes_nothing : (op side : OpId) (s : WriteState) (es : List Entry) (rest : Asks (Result (Answer (Unit {0})) StreamStop × WriteState)) → Left (look_asks op s) es rest → taken_in side es ≡ []
 look_takes_nothing op side s es rest w = quiet_walk op side (look_asks op s) es rest (look_quiet op side (collected s) [] refl) w
 
-pub check_takes_nothing : (op side : OpId) (s : WriteState) (es : List Entry) (rest : Asks (Result ℕ StreamStop × WriteState)) → Left (check_write_asks op s) es rest → taken_in side es ≡ []
-check_takes_nothing op side s es rest w = quiet_walk op side (check_write_asks op s) es rest (check_quiet op side s) w
+pub check_takes_nothing : (most : ℕ) (op side : OpId) (s : WriteState) (es : List Entry) (rest : Asks (Result ℕ StreamStop × WriteState)) → Left (check_write_asks most op s) es rest → taken_in side es ≡ []
+check_takes_nothing most op side s es rest w = quiet_walk op side (check_write_asks most op s) es rest (check_quiet op side most s) w
 
 pub read_takes_nothing : (op side : OpId) (s : ReadState) (size : ℕ) (es : List Entry) (rest : Asks (Result (List ℕ) StreamStop × ReadState)) → Left (read_state_asks op s size) es rest → taken_in side es ≡ []
 read_takes_nothing op side s size es rest w = quiet_walk op side (read_state_asks op s size) es rest (read_quiet op side s size) w
 
 -- == a closed one
-pub closed_check : (op : OpId) (e : WriteError) → check_write_asks op (state.Closed e) ≡ Give (Err (stop_of e), state.Closed e)
+pub closed_check : (most : ℕ) (op : OpId) (e : WriteError) → check_write_asks most op (state.Closed e) ≡ Give (Err (stop_of e), state.Closed e)
 unfolding bind
-closed_check op e = refl
+closed_check most op e = refl

@@ -51,3 +51,15 @@ rest_of (state.Ready half permit) = None
 rest_of (state.Writing job) = rest_until job job.end
 rest_of (state.Closing job) = rest_until job job.end
 rest_of (state.Closed e) = None
+
+-- how many bytes that is; none of a write that is over
+abbrev pub length_of : Option (List ℕ) → ℕ
+length_of None = 0
+length_of (Some rest) = length rest
+
+-- how many bytes a writing end may be given, or still has to write
+abbrev pub held : WriteState → ℕ
+held (state.Ready half permit) = permit
+held (state.Writing job) = length_of (rest_until job job.end)
+held (state.Closing job) = length_of (rest_until job job.end)
+held (state.Closed e) = 0

@@ -73,20 +73,24 @@ abbrev pub look_asks : OpId → WriteState → Asks (Result (Answer (Unit {0})) 
 look_asks op s = look_in op (collected s)
 
 -- == the permit
-abbrev pub with_permit : WriteState → WriteState
-with_permit (state.Ready half permit) = state.Ready half 65536
-with_permit (state.Writing job) = state.Writing job
-with_permit (state.Closing job) = state.Closing job
-with_permit (state.Closed e) = state.Closed e
+abbrev pub with_permit : ℕ → WriteState → WriteState
+with_permit most (state.Ready half permit) = state.Ready half most
+with_permit most (state.Writing job) = state.Writing job
+with_permit most (state.Closing job) = state.Closing job
+with_permit most (state.Closed e) = state.Closed e
 
--- a look that is ready permits 65536 bytes
-abbrev pub permitted : Result (Answer (Unit {0})) StreamStop × WriteState → Result ℕ StreamStop × WriteState
-permitted (Ok (Ready done), s) = (Ok 65536, with_permit s)
-permitted (Ok Pending, s) = (Ok 0, s)
-permitted (Err stop, s) = (Err stop, s)
+-- a look that is ready permits so many bytes
+abbrev pub permitted : ℕ → Result (Answer (Unit {0})) StreamStop × WriteState → Result ℕ StreamStop × WriteState
+permitted most (Ok (Ready done), s) = (Ok most, with_permit most s)
+permitted most (Ok Pending, s) = (Ok 0, s)
+permitted most (Err stop, s) = (Err stop, s)
 
-abbrev pub check_write_asks : OpId → WriteState → Asks (Result ℕ StreamStop × WriteState)
-check_write_asks op s = bind (look_asks op s) (λ looked. Give (permitted looked))
+abbrev pub check_write_asks : ℕ → OpId → WriteState → Asks (Result ℕ StreamStop × WriteState)
+check_write_asks most op s = bind (look_asks op s) (λ looked. Give (permitted most looked))
+
+-- the permit goes
+abbrev pub drop_permit : WriteState → WriteState
+drop_permit s = with_permit 0 s
 
 -- == one poll of a job in progress
 abbrev pub turn_asks : WriteState → Asks (Unit {0} × WriteState)

@@ -61,9 +61,9 @@ pub fn writes_are_taken_in_order()
     ensures look { (op side : OpId) (s : WriteState) (entries : List Entry)
         (rest : Asks (Result (Answer (Unit {0})) StreamStop × WriteState)) →
         Left (look_asks op s) entries rest → taken_in side entries ≡ [] }
-    ensures check_write { (op side : OpId) (s : WriteState) (entries : List Entry)
+    ensures check_write { (most : ℕ) (op side : OpId) (s : WriteState) (entries : List Entry)
         (rest : Asks (Result ℕ StreamStop × WriteState)) →
-        Left (check_write_asks op s) entries rest → taken_in side entries ≡ [] }
+        Left (check_write_asks most op s) entries rest → taken_in side entries ≡ [] }
     ensures read { (op side : OpId) (s : ReadState) (size : ℕ) (entries : List Entry)
         (rest : Asks (Result (List ℕ) StreamStop × ReadState)) →
         Left (read_state_asks op s size) entries rest → taken_in side entries ≡ [] }
@@ -100,8 +100,8 @@ pub fn reads_are_within_their_size()
 pub fn closed_writers_answer_the_same()
     ensures look { (op : OpId) (e : WriteError)
         → look_asks op (WriteState.Closed e) ≡ Give (Err (stop_of e), WriteState.Closed e) }
-    ensures check_write { (op : OpId) (e : WriteError)
-        → check_write_asks op (WriteState.Closed e) ≡ Give (Err (stop_of e), WriteState.Closed e) }
+    ensures check_write { (most : ℕ) (op : OpId) (e : WriteError)
+        → check_write_asks most op (WriteState.Closed e) ≡ Give (Err (stop_of e), WriteState.Closed e) }
     ensures write { (op : OpId) (e : WriteError) (bytes : List ℕ)
         → write_state_asks op (WriteState.Closed e) bytes
         ≡ Give (Err (stop_of e), WriteState.Closed e) }

@@ -261,6 +261,13 @@ impl TcpSocket {
         }
     }
 
+    /// The number of the context that made it; takes no memory.
+    pub fn maker(&self) -> u32
+        ensures { result ≡ self.now.maker }
+    {
+        self.maker
+    }
+
     /// The network socket, none where it is closed; takes no memory.
     pub fn side(&self) -> Option<Sock>
         ensures { result ≡ side_of self.now }

@@ -59,14 +59,14 @@ impl OutputStream for WriteState {
     ghost use Rattle.wasi_tcp.specs.Writer.{check_write_asks, write_state_asks};
     ghost use Rattle.wasi_tcp.specs.Waiting.{flush_asks};
 
-    ghost checking = { λ op state. check_write_asks op state };
+    ghost checking = { λ op state. check_write_asks 65536 op state };
 
     ghost writing = { λ op state bytes. write_state_asks op state bytes };
 
     ghost flushing = { λ op state. flush_asks op state };
 
     fn check_write<W: World>(&mut self, world: &mut W, op: OpId) -> Result<usize, StreamError> {
-        WriteState::check_write(self, world, op)
+        WriteState::check_write(self, world, op, 65536)
     }
 
     fn write<W: World>(

@@ -1,13 +1,14 @@
 //! The writing end of a connection as a stream.
 
-ghost use Rattle.std.specs.Prelude.{◌≡◌, true, false, Ok, Err, OnErr, option_map};
+ghost use Rattle.std.specs.Prelude.{◌≡◌, ◌≤◌, true, false, Ok, Err, OnErr, option_map};
 ghost use Rattle.wasi_world.specs.Asks.{AsksFor, Reaches};
 ghost use Rattle.wasi_streams.specs.StreamStop.{stream_outcome};
 ghost use Rattle.wasi_tcp.specs.Writer.{error_of_code, stop_of, collected, look_in, look_asks};
-ghost use Rattle.wasi_tcp.specs.Writer.{with_permit, check_write_asks, turn_asks, write_on_asks};
+ghost use Rattle.wasi_tcp.specs.Writer.{with_permit, drop_permit, check_write_asks, turn_asks};
+ghost use Rattle.wasi_tcp.specs.Writer.{write_on_asks};
 ghost use Rattle.wasi_tcp.specs.Writer.{write_state_asks, flush_of, writer_side, is_ready};
 ghost use Rattle.wasi_tcp.specs.Writer.{now_closing, writer_shutdown_asks, writer_give_up_asks};
-ghost use Rattle.wasi_tcp.specs.Bounds.{HoldsWrite, rest_of};
+ghost use Rattle.wasi_tcp.specs.Bounds.{HoldsWrite, rest_of, held};
 
 use crate::halves::TcpSendStream;
 use crate::job::WriteJob;
@@ -16,9 +17,6 @@ use std::mem;
 use wasi_addr::{ErrorCode, ShutdownType};
 use wasi_streams::{StreamError, TrapKind};
 use wasi_world::{Answer, Octets, OpId, Sock, World, asks};
-
-/// How many bytes a look that finds the half ready permits.
-const PERMIT: u32 = 65536;
 
 /// Why a writing end is closed.
 #[derive(Clone, Copy, Debug, PartialEq, Eq)]
@@ -104,6 +102,21 @@ impl WriteState {
         }
     }
 
+    /// How many bytes may be written, or are not taken yet of a write that is in progress. Takes no
+    /// memory.
+    pub fn held(&self) -> u64
+        ensures { result ≡ held self.now }
+    {
+        match self {
+            WriteState::Ready { permit, .. } => u64::from(*permit),
+            WriteState::Writing(job) | WriteState::Closing(job) => match job.rest() {
+                Some(rest) => rest.len() as u64,
+                None => 0,
+            },
+            WriteState::Closed(_) => 0,
+        }
+    }
+
     /// Collects a job that ended.
     fn collect(&mut self)
         ensures { self.new ≡ collected self.old }
@@ -164,29 +177,42 @@ impl WriteState {
         }
     }
 
-    /// Permits the most bytes.
-    fn permit(&mut self)
-        ensures { self.new ≡ with_permit self.old }
+    /// Permits so many bytes, where the half is ready.
+    fn permit(&mut self, most: u32)
+        ensures { self.new ≡ with_permit most self.old }
     {
         if let WriteState::Ready { permit, .. } = self {
-            *permit = PERMIT;
+            *permit = most;
         }
     }
 
-    /// How many bytes may be written: 65536 where a look is ready, none where it is pending, and
+    /// Permits no bytes any more. Takes no memory.
+    pub fn drop_permit(&mut self)
+        ensures { self.new ≡ drop_permit self.old }
+    {
+        self.permit(0);
+    }
+
+    /// How many bytes may be written: `most` where a look is ready, none where it is pending, and
     /// the permit stays then. After running out of memory only the collecting of the look is done.
-    pub fn check_write<W: World>(&mut self, world: &mut W, op: OpId) -> Result<usize, StreamError>
-        requires { (W.seen world.old).ended ≡ false }
-        ensures asked { AsksFor (check_write_asks op self.old) (W.seen world.old) (W.seen world.new)
-            (λ count. (count, self.new)) (stream_outcome result) }
+    pub fn check_write<W: World>(
+        &mut self,
+        world: &mut W,
+        op: OpId,
+        most: usize,
+    ) -> Result<usize, StreamError>
+        requires open { (W.seen world.old).ended ≡ false }
+        requires most { most ≤ 65536 }
+        ensures asked { AsksFor (check_write_asks most op self.old) (W.seen world.old)
+            (W.seen world.new) (λ count. (count, self.new)) (stream_outcome result) }
         ensures state { OnErr (stream_outcome result) (self.new ≡ collected self.old) }
         ensures err { OnErr (stream_outcome result) (W.seen world.new ≡ W.seen world.old) }
     {
         match self.poll_ready(world, op)? {
             Answer::Pending => Ok(0),
             Answer::Ready(()) => {
-                self.permit();
-                Ok(PERMIT as usize)
+                self.permit(most as u32);
+                Ok(most)
             }
         }
     }

@@ -375,11 +375,11 @@ IsUnfinished (writing.Closing job) = ⊤
 IsUnfinished (writing.Closed e) = ⊥
 
 -- How much may be written, once a write that ended is collected: none while it is in progress, or where the writer was answered
--- pending; and 65536 bytes where the answer was that it is ready.
-pub data Permits (own : OpId) (writer : WriteState) : ℕ → List Entry → Type 0 where
-  GoesOn : IsUnfinished (collected writer) → Permits own writer 0 []
-  NotReady : (half : TcpSendStream) (permit : ℕ) → collected writer ≡ writing.Ready half permit → Permits own writer 0 (entry own (call.WriteReady half.side) told.Pending ∷ [])
-  IsReady : (half : TcpSendStream) (permit : ℕ) → collected writer ≡ writing.Ready half permit → Permits own writer 65536 (entry own (call.WriteReady half.side) told.Done ∷ [])
+-- pending; and as many as this where the answer was that it is ready.
+pub data Permits (own : OpId) (writer : WriteState) (most : ℕ) : ℕ → List Entry → Type 0 where
+  GoesOn : IsUnfinished (collected writer) → Permits own writer most 0 []
+  NotReady : (half : TcpSendStream) (permit : ℕ) → collected writer ≡ writing.Ready half permit → Permits own writer most 0 (entry own (call.WriteReady half.side) told.Pending ∷ [])
+  IsReady : (half : TcpSendStream) (permit : ℕ) → collected writer ≡ writing.Ready half permit → Permits own writer most most (entry own (call.WriteReady half.side) told.Done ∷ [])
 
 -- so many bytes aren't permitted: they are past the permit, or a write wasn't collected yet
 abbrev pub IsUnpermitted : WriteState → ℕ → Type 0

@@ -68,12 +68,29 @@ pub enum TrapKind {
     FlushPending,
 }
 
-/// A guest's context: its number, which checks name, and what it may use (`WasiSocketsCtx`).
-/// The default is context 0, which is allowed nothing.
-#[derive(Clone, Copy, Debug, Default, PartialEq, Eq)]
+/// A guest's context: its number, which checks name, what it may use, and how much it may leave
+/// unwritten (`WasiSocketsCtx`). The default is context 0, which is allowed nothing.
+#[derive(Clone, Copy, Debug, PartialEq, Eq)]
 pub struct WasiSocketsCtx {
     pub name: u32,
     pub ip_name_lookup: bool,
     pub udp: bool,
     pub tcp: bool,
+    /// How many bytes the writers of its TCP sockets of 0.2 may hold or be permitted, all together.
+    pub write_limit: u64,
+}
+
+impl Default for WasiSocketsCtx {
+    /// Context 0, which is allowed nothing; no sum of bytes reaches its limit.
+    fn default() -> WasiSocketsCtx
+        ensures { result ≡ default_context }
+    {
+        WasiSocketsCtx {
+            name: 0,
+            ip_name_lookup: false,
+            udp: false,
+            tcp: false,
+            write_limit: u64::MAX,
+        }
+    }
 }

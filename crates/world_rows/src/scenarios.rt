@@ -41,7 +41,7 @@ fn bad_line(alloc: Global, bytes: &[u8]) -> Result<Option<u32>, AllocError> {
 
 #[test]
 fn the_first_bad_line_is_named(rt: HostRuntime) -> Result<(), Fail> {
-    let cases: [(&[u8], Option<u32>); 24] = [
+    let cases: [(&[u8], Option<u32>); 29] = [
         (b"", None),
         (b"lookup names\n", None),
         (b"value 7\n", Some(1)),
@@ -60,6 +60,11 @@ fn the_first_bad_line_is_named(rt: HostRuntime) -> Result<(), Fail> {
         (b"check no\ncontext yes yes\n", Some(2)),
         (b"context yes yes yes yes\n", Some(1)),
         (b"context yes yes true\n", Some(1)),
+        (b"context yes yes yes 100\n", None),
+        (b"context yes yes yes 18446744073709551615\n", None),
+        (b"context yes yes yes 18446744073709551616\n", Some(1)),
+        (b"context yes yes yes 100 1\n", Some(1)),
+        (b"context yes yes yes \n", Some(1)),
         (b"hand done\n", Some(1)),
         (b"write took 0\n", Some(1)),
         (b"read bytes 0\n", Some(1)),

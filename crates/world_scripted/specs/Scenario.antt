@@ -13,7 +13,7 @@ use Rattle.world_text.specs.Fields.{Reader, Row, row, after_word, ◌>>=◌, giv
 use Rattle.world_text.specs.Lines.{lines_of, rest_of}
 use Rattle.wasi_world.specs.Kinds.{takes}
 use Rattle.world_scripted.specs.Queued.{no_answers, with_answer}
-use Rattle.wasi_world.specs.Contexts.{free_context}
+use Rattle.wasi_world.specs.Contexts.{free_context, no_write_limit}
 
 -- the word of a kind: its name, in lower case and with dashes
 abbrev pub kind_text : Kind → List ℕ
@@ -124,13 +124,19 @@ yes_or_no_at = do
   word ← word_at
   after_word yes_or_no word
 
--- a context with this number: whether TCP, UDP and name lookup are allowed
+-- the limit on unwritten bytes, if one is written
+unfoldable pub limit_at : Reader ℕ
+limit_at [] = Some (no_write_limit, [])
+limit_at (field ∷ fields) = number_at 18446744073709551615 (field ∷ fields)
+
+-- a context with this number: whether TCP, UDP and name lookup are allowed, and its limit
 unfoldable pub allowed_at : ℕ → Reader WasiSocketsCtx
 allowed_at number = do
   tcp ← yes_or_no_at
   udp ← yes_or_no_at
   lookup ← yes_or_no_at
-  give (record { name = number; ip_name_lookup = lookup; udp = udp; tcp = tcp })
+  limit ← limit_at
+  give (record { name = number; ip_name_lookup = lookup; udp = udp; tcp = tcp; write_limit = limit })
 
 -- the word of a context's line, and what follows it
 abbrev pub context_word : ℕ → List (Row WasiSocketsCtx)

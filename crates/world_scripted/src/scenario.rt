@@ -6,7 +6,7 @@ ghost use Rattle.std.specs.Prelude.{None, true, IfErr, IfSome, Ok, Err, length, 
 ghost use Rattle.world_text.specs.Fields.{Reads, after_word};
 ghost use Rattle.wasi_world.specs.Kinds.{takes};
 ghost use Rattle.world_scripted.specs.Scenario.{kind_text, kind_in, kind_at, short_answers};
-ghost use Rattle.world_scripted.specs.Scenario.{answer_at, planned_in, yes_or_no_at, allowed_at};
+ghost use Rattle.world_scripted.specs.Scenario.{answer_at, planned_in, yes_or_no_at, limit_at, allowed_at};
 ghost use Rattle.world_scripted.specs.Scenario.{context_in, setup, with_line, setup_within};
 ghost use Rattle.world_scripted.specs.Scenario.{or_free, scenario_of, bad_line};
 ghost use Rattle.wasi_world.specs.Contexts.{AreNumbered};
@@ -210,7 +210,7 @@ fn planned(alloc: Global, line: &[u8]) -> Result<Option<(Kind, Planned)>, AllocE
 
 /// Takes `yes` or `no`.
 #[tactic(auto, unfolding(crate::specs::Scenario::yes_or_no_at, world_text::specs::Fields::read_then, world_text::specs::Fields::give))]
-fn yes_or_no(fields: &mut Fields<'_>) -> Option<bool>
+pub fn yes_or_no(fields: &mut Fields<'_>) -> Option<bool>
     ensures { Reads yes_or_no_at fields.old result fields.new }
 {
     match fields.word()? {
@@ -220,7 +220,19 @@ fn yes_or_no(fields: &mut Fields<'_>) -> Option<bool>
     }
 }
 
-/// Takes a context with this number: whether TCP, UDP and name lookup are allowed.
+/// Takes the limit on unwritten bytes; where none is written it is one that no sum reaches.
+#[tactic(auto, unfolding(crate::specs::Scenario::limit_at))]
+fn write_limit(fields: &mut Fields<'_>) -> Option<u64>
+    ensures { Reads limit_at fields.old result fields.new }
+{
+    if fields.is_done() {
+        return Some(u64::MAX);
+    }
+    fields.number(u64::MAX)
+}
+
+/// Takes a context with this number: whether TCP, UDP and name lookup are allowed, and its limit on
+/// unwritten bytes.
 #[tactic(auto, unfolding(crate::specs::Scenario::allowed_at, world_text::specs::Fields::read_then, world_text::specs::Fields::give))]
 fn allowed(fields: &mut Fields<'_>, number: u32) -> Option<WasiSocketsCtx>
     ensures read { Reads (allowed_at number) fields.old result fields.new }
@@ -229,11 +241,13 @@ fn allowed(fields: &mut Fields<'_>, number: u32) -> Option<WasiSocketsCtx>
     let tcp = yes_or_no(fields)?;
     let udp = yes_or_no(fields)?;
     let ip_name_lookup = yes_or_no(fields)?;
+    let write_limit = write_limit(fields)?;
     Some(WasiSocketsCtx {
         name: number,
         ip_name_lookup,
         udp,
         tcp,
+        write_limit,
     })
 }
 
@@ -356,6 +370,7 @@ fn or_free(mut contexts: Vec<WasiSocketsCtx>) -> Result<Vec<WasiSocketsCtx>, All
             ip_name_lookup: true,
             udp: true,
             tcp: true,
+            write_limit: u64::MAX,
         })?;
     }
     Ok(contexts)

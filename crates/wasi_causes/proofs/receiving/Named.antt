@@ -185,9 +185,9 @@ collected_first (WriteState.Closing job) f = by_end job.end
     by_end (Refused c given) = tt
 collected_first (WriteState.Closed e) f = f
 
-pub moves_first : (old now : WriteState) → WriterMoves old now → IsFirst (job_name old) → IsFirst (job_name now)
+pub moves_first : {most : ℕ} (old now : WriteState) → WriterMoves most old now → IsFirst (job_name old) → IsFirst (job_name now)
 moves_first _ _ (Collects w) f = collected_first w f
-moves_first _ _ (Permits half old) f = f
+moves_first _ _ (Permits half old n fits) f = f
 moves_first _ _ (Lasts job) f = f
 moves_first _ _ (LastsAfter job) f = f
 moves_first _ _ (Closes w) f = tt

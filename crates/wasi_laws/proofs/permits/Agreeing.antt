@@ -150,9 +150,9 @@ module _ (taken bytes : List ℕ) where
   same_bytes left now (Done given) p h = h
   same_bytes left now (Refused c given) p h = h
 
-  pub writer_agrees : (w now : WriteState) → WriterMoves w now → Agrees taken bytes w → Agrees taken bytes now
+  pub writer_agrees : {most : ℕ} (w now : WriteState) → WriterMoves most w now → Agrees taken bytes w → Agrees taken bytes now
   writer_agrees w _ (Collects _) h = collected_agrees w h
-  writer_agrees _ _ (Permits half old) h = h
+  writer_agrees _ _ (Permits half old n fits) h = h
   writer_agrees _ _ (Lasts job) h = h
   writer_agrees _ _ (LastsAfter job) h = same_bytes job.write.left (then_closed job.write.left) job.end (bytes_closed job.write.left) h
   writer_agrees w _ _ h = tt

@@ -88,12 +88,12 @@ closed_is : (at : OpId) (job : Job) (e : End) → JobIs at job → WriterIs at (
 closed_is at job Waits k = k
 closed_is at job _ k = tt
 
-pub writer_moves : (at : OpId) (w now : WriteState) → WriterMoves w now → WriterIs at w → WriterIs at now
+pub writer_moves : {most : ℕ} (at : OpId) (w now : WriteState) → WriterMoves most w now → WriterIs at w → WriterIs at now
 writer_moves at _ _ (Collects (writing.Ready half permit)) k = k
 writer_moves at _ _ (Collects (writing.Writing job)) k = written_is at job job.end k
 writer_moves at _ _ (Collects (writing.Closing job)) k = closed_is at job job.end k
 writer_moves at _ _ (Collects (writing.Closed e)) k = k
-writer_moves at _ _ (Permits half old) k = k
+writer_moves at _ _ (Permits half old n fits) k = k
 writer_moves at _ _ (Lasts job) k = k
 writer_moves at _ _ (LastsAfter job) k = record { side = k.side; last = k.last; left = left_closed job.write.left k.left }
 writer_moves at _ _ _ k = tt
@@ -120,12 +120,12 @@ abbrev pub IsUsed : WriteState → Type 0
 IsUsed (writing.Closed e) = ⊥
 IsUsed _ = ⊤
 
-pub moves_used : (w now : WriteState) → WriterMoves w now → IsUsed now → IsUsed w
+pub moves_used : {most : ℕ} (w now : WriteState) → WriterMoves most w now → IsUsed now → IsUsed w
 moves_used _ _ (Collects (writing.Ready half permit)) u = tt
 moves_used _ _ (Collects (writing.Writing job)) u = tt
 moves_used _ _ (Collects (writing.Closing job)) u = tt
 moves_used _ _ (Collects (writing.Closed e)) u = u
-moves_used _ _ (Permits half old) u = tt
+moves_used _ _ (Permits half old n fits) u = tt
 moves_used _ _ (Lasts job) u = tt
 moves_used _ _ (LastsAfter job) u = tt
 moves_used w _ _ u = absurd u

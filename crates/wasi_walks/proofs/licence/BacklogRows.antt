@@ -41,7 +41,7 @@ sets = listens Told.Done
     ∷ [])
 
 abbrev listening : Machine
-listening = record { table = two_handles; store = record { records = rec.Tcp (listening_record 9 InProgress.Nothing) ∷ []; jobs = []; standing = None; beside = [] } }
+listening = record { table = two_handles; store = record { records = rec.Tcp (listening_record 9 InProgress.Nothing) ∷ []; jobs = []; standing = None; beside = []; limits = record { context = 0; most = 18446744073709551615 } ∷ [] } }
 
 abbrev done : Reply
 done = Reply.Ok no_fields

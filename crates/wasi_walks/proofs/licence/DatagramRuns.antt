@@ -52,7 +52,7 @@ calls None = 9
 calls (Some done) = length done.1.store.beside
 
 abbrev ctx : WasiSocketsCtx
-ctx = record { name = 0; ip_name_lookup = true; udp = true; tcp = true }
+ctx = record { name = 0; ip_name_lookup = true; udp = true; tcp = true; write_limit = 0 }
 
 abbrev runs : List Step → Asks (List Reply × Machine)
 runs steps = run (ctx ∷ []) [] first_state 1 steps

@@ -56,6 +56,7 @@ listening_record backlog doing = record {
   listening = Accepts (record { side = own_of 2; maker = 0; family = SocketAddressFamily.Ipv4; accept = Accepting.Idle });
   streams = None;
   dropped = false;
+  maker = 0;
 }
 
 -- the listener, and the connection with its streams
@@ -77,6 +78,7 @@ accepted = record {
     jobs = [];
     standing = None;
     beside = [];
+    limits = record { context = 0; most = 18446744073709551615 } ∷ [];
   };
 }
 

@@ -1,7 +1,7 @@
 -- Each move keeps that the state fits the log.
 use Rattle.wasi_walks.proofs.licence.Ends.{adds_slot, reaches_end}
 use Rattle.wasi_records.specs.Ends.{ends_of}
-use Rattle.wasi_walks.proofs.walks.Moves.{AddsSlot, DropsUdp, put_udp, OfReceive, OfSend, ReachesEnd, TakesEnd, TakesHalf, with_receive, with_send}
+use Rattle.wasi_walks.proofs.walks.Moves.{AddsSlot, DropsUdp, MakesRoom, put_udp, OfReceive, OfSend, ReachesEnd, TakesEnd, TakesHalf, with_receive, with_send}
 use Rattle.wasi_walks.proofs.walks.Moves.{Frees, Freed, IsUnheld, Joined, JoinsFault, JoinsPlain, P2, P3, RecallsListen, RemembersListen, StandsListen, ToListen, Unmade, faulted, joined_plain, joins_as, record_of, FoundUdp, Awaited, AwaitsCreate, Begun, CreateIsFor, Interface, MakesUdpFor, Recalled, Emptied, Empties, GivesBack, Numbers}
 use Rattle.wasi_walks.proofs.owners.Law.{left_none}
 use Rattle.wasi_walks.proofs.Words.{listen_first, listen_operation, IsBoundSide, kind_at, Accepting, Accepts, Bool, Connection, Done, End, Entry, Handed, InProgress, IpSocketAddress, IsMaker}
@@ -19,7 +19,7 @@ use Rattle.std.specs.Prelude.{Option, is_some, length, ◌+◌}
 use Rattle.wasi_walks.proofs.walks.Here.{IsToCome, next_shrinks, next_to_come, shrinks_to}
 use Rattle.wasi_walks.proofs.licence.State.{IsConnectStep, OpenIsFine, accept_name, ConnectIsFine, ConnectLeft, Unbound, Unchecked, ReadsOn, Whole, ToWrite, Names, BindIsFine, EndTold, ErrorTold, JobIsFine, WritesOn, StreamsAreFine, AcceptingIsFine, ListeningIsFine, SocketIsFine, RecordIsFine, IsHanded, Unarrived, AcceptingStands, ListeningStands, ListenerIsFine, MakesStreams, OfTcp, OfUdp, StreamsStand, CreateStands, name_in}
 use Rattle.wasi_walks.proofs.licence.Frames.{same_listening, listening_kept, listening_gone, Only, KeepsSide, record_kept}
-use Rattle.wasi_walks.proofs.licence.States.{state_put_udp, state_taken, state_put, state_stands, state_unstands, state_beside, state_jobs, state_renewed, state_joined}
+use Rattle.wasi_walks.proofs.licence.States.{state_put_udp, state_taken, state_put, state_stands, state_unstands, state_beside, state_jobs, state_room, state_renewed, state_joined}
 use Rattle.wasi_walks.proofs.licence.WriteJobs.{shut_after}
 use Rattle.wasi_walks.proofs.licence.Line.{put_udp_fine, some_same, AcceptsFor, IsAccept, fault_seam, same_face, put_with, keeps_plain, seam, no_listen, part_names, ListenGoesOn, NotMarked, NamesMade, Licensed, MakingStands, KeepsListen, put_fine, owned, remade, spent, elsewhere}
 use Rattle.wasi_walks.proofs.licence.LookupMoves.{another_stands, fewer_fine, records_fine}
@@ -75,7 +75,7 @@ module _ (contexts : List WasiSocketsCtx) (steps : List Step) (line : ℕ) (orig
   closed_on es side job (Done given) h t = tt
   closed_on es side job (Refused c given) h t = kept_error es side c t
 
-  writes_on : (es : List Entry) (side : OpId) (w now : WriteState) → WriterMoves w now → WritesOn steps es side w → WritesOn steps es side now
+  writes_on : {most : ℕ} (es : List Entry) (side : OpId) (w now : WriteState) → WriterMoves most w now → WritesOn steps es side w → WritesOn steps es side now
   writes_on es side _ _ (Collects (WriteState.Writing job)) on = written_on es side job job.end on on.ended
   writes_on es side _ _ (Collects (WriteState.Closing job)) on = closed_on es side job job.end on on.ended
   writes_on es side _ _ (LastsAfter job) on = record { named = on.named; on = on.on; last = on.last; left = shut_after contexts steps job.write.left on.left; ended = on.ended }
@@ -445,5 +445,6 @@ module _ (contexts : List WasiSocketsCtx) (steps : List Step) (line : ℕ) (orig
       elsewhere es now (record now { at = None }) refl refl refl (put_udp_fine es h place (UdpRecord.Open o) (UdpRecord.Open (without_udp_socket o)) g refl f i) (state_put_udp contexts steps es h.machine place (UdpRecord.Open o) (UdpRecord.Open (without_udp_socket o)) g refl f i.fine) (λ k n r a e. absurd (cc)) (λ k n u a e. absurd (cc))
   moves_fine es _ _ (GivesBack h place idle left) b w i = fewer_fine es h place (another_stands h place idle b.0 b.3 i) (left_none h place left b.2) b.2.0 i
   moves_fine es _ _ (Numbers h) b w i = remade es h _ tt tt i
+  moves_fine es _ _ (MakesRoom h ctx) b w i = elsewhere es h _ refl refl refl i (state_room contexts steps es h.machine ctx i.fine) i.names i.udp_names
   moves_fine es _ _ (Lists h jobs keeps) b w i = elsewhere es h _ refl refl refl i (state_jobs contexts steps es h.machine jobs i.fine) i.names i.udp_names
   moves_fine es _ _ (Takes h handle q past none) b w i = elsewhere es h _ refl refl refl i (state_taken contexts steps es h.machine handle i.fine) i.names i.udp_names

@@ -76,6 +76,7 @@ listener = record {
   listening = Accepts (record { side = own_of 1; maker = 0; family = SocketAddressFamily.Ipv4; accept = Accepting.Idle });
   streams = None;
   dropped = false;
+  maker = 0;
 }
 
 -- the listener, the connection with its read end, and the end's slot
@@ -95,6 +96,7 @@ after = record {
     jobs = [];
     standing = None;
     beside = [];
+    limits = [];
   };
 }
 

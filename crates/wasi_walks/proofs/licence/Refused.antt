@@ -146,8 +146,8 @@ other_check h =
     omega arith
 
 -- == the context may not use TCP
-no_tcp : (ctx : WasiSocketsCtx) → Some (record { name = 0; ip_name_lookup = true; udp = true; tcp = false }) ≡ Some ctx → ctx.tcp ≡ true → ⊥
-no_tcp ctx e t = let p : record { name = 0; ip_name_lookup = true; udp = true; tcp = false } ≡ ctx = cc in let q = ap (λ (c : WasiSocketsCtx). c.tcp) p in cc
+no_tcp : (ctx : WasiSocketsCtx) → Some (record { name = 0; ip_name_lookup = true; udp = true; tcp = false; write_limit = 0 }) ≡ Some ctx → ctx.tcp ≡ true → ⊥
+no_tcp ctx e t = let p : record { name = 0; ip_name_lookup = true; udp = true; tcp = false; write_limit = 0 } ≡ ctx = cc in let q = ap (λ (c : WasiSocketsCtx). c.tcp) p in cc
 
 forbidden_create : IsLicensed forbidden bind_script (before_create ++ create ∷ []) [] → ⊥
 forbidden_create h =

@@ -15,7 +15,7 @@ use Rattle.wasi_records.specs.declared.records.Record.TheVariants as rec
 
 -- contexts that may use all
 abbrev pub context : ℕ → WasiSocketsCtx
-context n = record { name = n; ip_name_lookup = true; udp = true; tcp = true }
+context n = record { name = n; ip_name_lookup = true; udp = true; tcp = true; write_limit = 18446744073709551615 }
 
 abbrev pub allowed : List WasiSocketsCtx
 allowed = context 0 ∷ []
@@ -25,7 +25,7 @@ two_contexts = context 0 ∷ context 1 ∷ []
 
 -- one that may not use TCP
 abbrev pub forbidden : List WasiSocketsCtx
-forbidden = record { name = 0; ip_name_lookup = true; udp = true; tcp = false } ∷ []
+forbidden = record { name = 0; ip_name_lookup = true; udp = true; tcp = false; write_limit = 0 } ∷ []
 
 abbrev pub local_80 : IpSocketAddress
 local_80 = IpSocketAddress.Ipv4 (record { port = 80; address = (127, 0, 0, 1) })
@@ -38,7 +38,7 @@ two_handles = record { next = 3; live = record { handle = 1; value = slot.Networ
 abbrev with_socket : ℕ → SocketAddressFamily → InProgress → Option Standing → Machine
 with_socket ctx f doing standing = record {
   table = two_handles;
-  store = record { records = rec.Tcp (with_progress (new_record (new_socket (own_of 2) ctx f)) doing) ∷ []; jobs = []; standing = standing; beside = [] };
+  store = record { records = rec.Tcp (with_progress (new_record (new_socket (own_of 2) ctx f)) doing) ∷ []; jobs = []; standing = standing; beside = []; limits = record { context = ctx; most = 18446744073709551615 } ∷ [] };
 }
 
 -- == a bind
@@ -128,6 +128,6 @@ abbrev forbidden_script : List Step
 forbidden_script = Step.Call 0 GuestCall.Network ∷ Step.Call 0 (GuestCall.TcpCreate SocketAddressFamily.Ipv4) ∷ []
 
 forbidden_run : Left (run forbidden [] first_state 1 forbidden_script) (entry (own_of 1) (Call.Made 1 kind.Network None None) Told.Done ∷ [])
-    (Give (Reply.Ok (number_fields 1) ∷ Reply.Err word.AccessDenied ∷ [], record { table = record { next = 2; live = record { handle = 1; value = slot.Network; parent = None } ∷ [] }; store = record { records = []; jobs = []; standing = None; beside = [] } }))
+    (Give (Reply.Ok (number_fields 1) ∷ Reply.Err word.AccessDenied ∷ [], record { table = record { next = 2; live = record { handle = 1; value = slot.Network; parent = None } ∷ [] }; store = record { records = []; jobs = []; standing = None; beside = []; limits = record { context = 0; most = 0 } ∷ [] } }))
 unfolding bind
 forbidden_run = ((refl, refl, tt), refl)

@@ -7,6 +7,7 @@ use Rattle.wasi_records.specs.Records.{tcp2_at, tcp2_pushed, udp2_at, udp2_pushe
 use Rattle.wasi_host.specs.Kinds.{name_of}
 use Rattle.wasi_records.specs.Udp.{udp_side}
 use Rattle.wasi_walks.specs.Licence.{IsMarkedAs}
+use Rattle.wasi_host.specs.Machine.{with_room}
 use Rattle.wasi_host.specs.UdpCalls.{with_udp}
 use Rattle.wasi_host.specs.declared.beside.Beside.{Beside}
 use Rattle.wasi_jobs.specs.declared.job.HostJob.{HostJob}
@@ -176,6 +177,10 @@ module _ (contexts : List WasiSocketsCtx) (steps : List Step) where
   -- other calls stand beside others
   pub state_beside : (es : List Entry) (m : Machine) (beside : List Beside) → BesidesAreFine contexts steps es beside → StateIsFine contexts steps es m → StateIsFine contexts steps es (record m { store = record m.store { beside = beside } })
   state_beside es m beside f h = record { count = h.count; handles = h.handles; records = h.records; udp = h.udp; lookups = h.lookups; besides = f; standing = h.standing; accepts = h.accepts; one = h.one }
+
+  -- nor is a limit that is kept
+  pub state_room : (es : List Entry) (m : Machine) (ctx : WasiSocketsCtx) → StateIsFine contexts steps es m → StateIsFine contexts steps es (with_room m ctx)
+  state_room es m ctx h = record { count = h.count; handles = h.handles; records = h.records; udp = h.udp; lookups = h.lookups; besides = h.besides; standing = h.standing; accepts = h.accepts; one = h.one }
 
   -- which writes are in progress is nothing to it
   pub state_jobs : (es : List Entry) (m : Machine) (jobs : List HostJob) → StateIsFine contexts steps es m → StateIsFine contexts steps es (record m { store = record m.store { jobs = jobs } })

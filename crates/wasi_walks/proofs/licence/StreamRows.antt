@@ -59,7 +59,7 @@ piped = record {
         ∷ record { handle = 6; value = slot.PlainOutput plain_output.Closed; parent = None }
         ∷ [];
   };
-  store = record { records = rec.InputPipe [] ∷ rec.OutputPipe (record { held = 1 ∷ 2 ∷ []; capacity = 16 }) ∷ []; jobs = []; standing = None; beside = [] };
+  store = record { records = rec.InputPipe [] ∷ rec.OutputPipe (record { held = 1 ∷ 2 ∷ []; capacity = 16 }) ∷ []; jobs = []; standing = None; beside = []; limits = [] };
 }
 
 pipe_run : Left (run allowed [] first_state 1 pipe_script) pipe_log (Give (pipe_replies, piped))
@@ -136,6 +136,7 @@ closed permit = record {
     jobs = [];
     standing = None;
     beside = [];
+    limits = record { context = 0; most = 18446744073709551615 } ∷ [];
   };
 }
 

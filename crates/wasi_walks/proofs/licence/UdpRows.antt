@@ -16,7 +16,7 @@ use Rattle.wasi_udp.specs.Socket.{new_socket}
 
 -- one that may not use UDP
 abbrev no_datagrams : List WasiSocketsCtx
-no_datagrams = record { name = 0; ip_name_lookup = true; udp = false; tcp = true } ∷ []
+no_datagrams = record { name = 0; ip_name_lookup = true; udp = false; tcp = true; write_limit = 0 } ∷ []
 
 -- == a bind
 abbrev udp_script : List Step
@@ -41,7 +41,7 @@ udp_log = begins ++ (entry (own_of 3) (Call.Check 0 local_80 SocketAddrUse.UdpBi
 abbrev udp_end : Machine
 udp_end = record {
   table = record { next = 3; live = record { handle = 1; value = slot.Network; parent = None } ∷ record { handle = 2; value = slot.Udp2 0; parent = None } ∷ [] };
-  store = record { records = rec.Udp (opened_udp (new_socket (own_of 2) 0 SocketAddressFamily.Ipv4)) ∷ []; jobs = []; standing = None; beside = [] };
+  store = record { records = rec.Udp (opened_udp (new_socket (own_of 2) 0 SocketAddressFamily.Ipv4)) ∷ []; jobs = []; standing = None; beside = []; limits = [] };
 }
 
 -- the machine makes these calls, and ends so
@@ -137,8 +137,8 @@ other_address h =
     omega arith
 
 -- == the context may not use UDP
-no_udp : (ctx : WasiSocketsCtx) → Some (record { name = 0; ip_name_lookup = true; udp = false; tcp = true }) ≡ Some ctx → ctx.udp ≡ true → ⊥
-no_udp ctx e t = let p : record { name = 0; ip_name_lookup = true; udp = false; tcp = true } ≡ ctx = cc in let q = ap (λ (c : WasiSocketsCtx). c.udp) p in cc
+no_udp : (ctx : WasiSocketsCtx) → Some (record { name = 0; ip_name_lookup = true; udp = false; tcp = true; write_limit = 0 }) ≡ Some ctx → ctx.udp ≡ true → ⊥
+no_udp ctx e t = let p : record { name = 0; ip_name_lookup = true; udp = false; tcp = true; write_limit = 0 } ≡ ctx = cc in let q = ap (λ (c : WasiSocketsCtx). c.udp) p in cc
 
 forbidden_create : IsLicensed no_datagrams udp_script (network ++ create ∷ []) [] → ⊥
 forbidden_create h =
@@ -148,7 +148,7 @@ forbidden_create h =
 
 -- and the machine makes none there
 forbidden_run : Left (run no_datagrams [] first_state 1 (Step.Call 0 GuestCall.Network ∷ Step.Call 0 (GuestCall.UdpCreate SocketAddressFamily.Ipv4) ∷ [])) network
-    (Give (Reply.Ok (number_fields 1) ∷ Reply.Err word.AccessDenied ∷ [], record { table = record { next = 2; live = record { handle = 1; value = slot.Network; parent = None } ∷ [] }; store = record { records = []; jobs = []; standing = None; beside = [] } }))
+    (Give (Reply.Ok (number_fields 1) ∷ Reply.Err word.AccessDenied ∷ [], record { table = record { next = 2; live = record { handle = 1; value = slot.Network; parent = None } ∷ [] }; store = record { records = []; jobs = []; standing = None; beside = []; limits = [] } }))
 unfolding bind
 forbidden_run = ((refl, refl, tt), refl)
 

@@ -251,9 +251,9 @@ closing (Write rest ∷ items) k = (tt, (tt, tt))
 closing (i ∷ items) k = k
 
 -- the moves of a writer
-pub writer_moves : (made : Option OpId) (old now : WriteState) → WriterMoves old now → WritesBy made old → WritesBy made now
+pub writer_moves : {most : ℕ} (made : Option OpId) (old now : WriteState) → WriterMoves most old now → WritesBy made old → WritesBy made now
 writer_moves made _ _ (Collects w) k = collects made w k
-writer_moves made _ _ (Permits half old) k = k
+writer_moves made _ _ (Permits half old n fits) k = k
 writer_moves made _ _ (Lasts job) k = k
 writer_moves made _ _ (LastsAfter job) k = (k.0, closing job.write.left k.1)
 writer_moves made _ _ (Closes w) k = tt

@@ -98,14 +98,14 @@ look_in_why op es _ = tt
 look_why : (op : OpId) (es : List Entry) (w : WriteState) → Gives WriterSays es (look_asks op w)
 look_why op es w = look_in_why op es (collected w)
 
-permitted_why : (es : List Entry) (looked : Result (Answer (Unit {0})) StreamStop × WriteState) → WriterSays es looked → WriterSays es (permitted looked)
-permitted_why es (Ok (Ready done), w) k = tt
-permitted_why es (Ok Pending, w) k = tt
-permitted_why es (Err (stop.Failed c), w) k = k
-permitted_why es (Err _, w) k = tt
+permitted_why : (most : ℕ) (es : List Entry) (looked : Result (Answer (Unit {0})) StreamStop × WriteState) → WriterSays es looked → WriterSays es (permitted most looked)
+permitted_why most es (Ok (Ready done), w) k = tt
+permitted_why most es (Ok Pending, w) k = tt
+permitted_why most es (Err (stop.Failed c), w) k = k
+permitted_why most es (Err _, w) k = tt
 
-pub check_why : (op : OpId) (es : List Entry) (w : WriteState) → Gives WriterSays es (check_write_asks op w)
-check_why op es w = gives_then WriterSays WriterSays es (look_asks op w) _ (look_why op es w) (λ fs looked k. permitted_why fs looked k)
+pub check_why : (most : ℕ) (op : OpId) (es : List Entry) (w : WriteState) → Gives WriterSays es (check_write_asks most op w)
+check_why most op es w = gives_then WriterSays WriterSays es (look_asks op w) _ (look_why op es w) (λ fs looked k. permitted_why most fs looked k)
 
 pub flush_why : (es : List Entry) (w : WriteState) → Gives WriterSays es (flush_asks w)
 flush_why es (WriteState.Closed (WriteError.LastOperationFailed c)) = tt
@@ -142,14 +142,14 @@ if_failed (Err (stop.Failed c)) f k = f k
 if_failed (Err _) f k = tt
 if_failed (Ok value) f k = tt
 
-writer_fails : {T : Type 0} (es : List Entry) (store : Records) (place : ℕ) (call : WriteState → Asks (Result T StreamStop × WriteState)) (o : Option TcpRecord) → tcp2_at store.records place ≡ o → ((fs : List Entry) (w : WriteState) → Gives WriterSays fs (call w))
-    → Gives (λ fs done. IfFailed done.0 (WriterFailed done.1.records place)) es (stream_at store place (writer_asks call) o)
+writer_fails : {T : Type 0} (es : List Entry) (store : Records) (place : ℕ) (call : TcpRecord → WriteState → Asks (Result T StreamStop × WriteState)) (o : Option TcpRecord) → tcp2_at store.records place ≡ o → ((r : TcpRecord) (fs : List Entry) (w : WriteState) → Gives WriterSays fs (call r w))
+    → Gives (λ fs done. IfFailed done.0 (WriterFailed done.1.records place)) es (stream_at store place (λ r. writer_asks (call r) r) o)
 writer_fails es store place call None g k = tt
-writer_fails {T} es store place call (Some r) g k = gives_then Leaves _ es (writer_asks call r) _ (by_streams r.streams) (λ fs done f. if_failed done.0 (put done.1) f)
+writer_fails {T} es store place call (Some r) g k = gives_then Leaves _ es (writer_asks (call r) r) _ (by_streams r.streams) (λ fs done f. if_failed done.0 (put done.1) f)
   where
-    by_streams : (o : Option Streams) → Gives Leaves es (writer_of r call o)
+    by_streams : (o : Option Streams) → Gives Leaves es (writer_of r (call r) o)
     by_streams None = tt
-    by_streams (Some s) = gives_then WriterSays Leaves es (call s.writer) _ (k es s.writer) (λ fs done f. if_failed done.0 (λ x. record { streams = record s { writer = done.1 }; there = refl; failed = x }) f)
+    by_streams (Some s) = gives_then WriterSays Leaves es (call r s.writer) _ (k r es s.writer) (λ fs done f. if_failed done.0 (λ x. record { streams = record s { writer = done.1 }; there = refl; failed = x }) f)
 
     put : (left : TcpRecord) → LeftFailed left → WriterFailed (tcp2_put store.records place left) place
     put left f = record { socket = left; at = put_finds tcp_sort store.records place r left g; streams = f.streams; there = f.there; failed = f.failed }
@@ -179,7 +179,7 @@ module _ (n : ℕ) (m : Machine) (handle place : ℕ) (es : List Entry) where
       gives_more (λ fs done. IfFailed done.0 (ReadFailed fs (own_of n))) (Why n m handle place) (λ fs done k. if_failed done.0 (λ f. ReadFails (is_input (kind_at m.table handle) place e) f) k) es _ (read_fails (own_of n) es m.store place len o)
 
   -- on an output
-  pub output_why : {T : Type 0} (call : WriteState → Asks (Result T StreamStop × WriteState)) → output_at m handle ≡ Some place → ((fs : List Entry) (w : WriteState) → Gives WriterSays fs (call w)) → let o = tcp2_at m.store.records place in Gives (Why n m handle place) es (stream_at m.store place (writer_asks call) o)
+  pub output_why : {T : Type 0} (call : TcpRecord → WriteState → Asks (Result T StreamStop × WriteState)) → output_at m handle ≡ Some place → ((r : TcpRecord) (fs : List Entry) (w : WriteState) → Gives WriterSays fs (call r w)) → let o = tcp2_at m.store.records place in Gives (Why n m handle place) es (stream_at m.store place (λ r. writer_asks (call r) r) o)
   output_why call e k =
       let o = tcp2_at m.store.records place in
       gives_more (λ fs done. IfFailed done.0 (WriterFailed done.1.records place)) (Why n m handle place) (λ fs done f. if_failed done.0 (λ x. WriteFails (is_output (kind_at m.table handle) place e) x) f) es _ (writer_fails es m.store place call o refl k)
@@ -187,5 +187,5 @@ module _ (n : ℕ) (m : Machine) (handle place : ℕ) (es : List Entry) where
   pub written_why : (bytes : List ℕ) → output_at m handle ≡ Some place → let o = tcp2_at m.store.records place in Gives (Why n m handle place) es (write_at m.store place (writer_asks (λ w. write_state_asks (own_of n) w bytes)) o)
   written_why bytes e =
       let o = tcp2_at m.store.records place in
-      gives_then (λ fs done. IfFailed done.0 (WriterFailed done.1.records place)) (Why n m handle place) es _ _ (writer_fails es m.store place (λ w. write_state_asks (own_of n) w bytes) o refl (write_why (own_of n) bytes))
+      gives_then (λ fs done. IfFailed done.0 (WriterFailed done.1.records place)) (Why n m handle place) es _ _ (writer_fails es m.store place (λ r w. write_state_asks (own_of n) w bytes) o refl (λ r. write_why (own_of n) bytes))
       (λ fs done k. if_failed done.0 (λ f. WriteFails (is_output (kind_at m.table handle) place e) (noted_failed done.1 place (begins_job o (tcp2_at done.1.records place)) f)) k)

@@ -12,6 +12,10 @@ use Rattle.wasi_walks.proofs.Words.{side_of, standing_as, true, wildcard, with_a
 use Rattle.wasi_walks.proofs.Words.{with_progress, with_reader, with_state, with_writer, without_handle, ℕ, ⊤}
 use Rattle.wasi_walks.proofs.Words.{◌≡◌, ◌⊎◌, ◌++◌, ◌∷◌, []}
 use Rattle.wasi_world.specs.declared.ids.Ids.{Ids}
+use Rattle.wasi_world.specs.declared.outcome.WasiSocketsCtx.{WasiSocketsCtx}
+use Rattle.wasi_tcp.specs.Bounds.{held}
+use Rattle.wasi_host.specs.Limits.{left}
+use Rattle.wasi_host.specs.Machine.{with_room}
 pub use Rattle.wasi_walks.proofs.walks.Here.{Interface, ListenerGoes, NoListener, NotYet, NoMore, OfNothing, P2, P3, tcp_kind, KeepsJobs, IsRecord, job_place, keeps_incoming, StreamGoes, StreamIsMade, StreamIsTaken, StreamMoves, StreamStays, StreamsUnder, TakesFrom, ConnectIsOver, HasNewStream, KeepsStreams, MarksNext, TakesOver, one_stream, IsCreated, IsOpenUdp, NoStart, NoStartIn, NoStartStands, Releases, ReleasesUdp, WithHandle, Unheld, GoesBack, WhenIdle, WhenClosed, CallKind, OfPollables, OfStreams, Found, FoundUdp, Here, Own, Names, ToConnect, ToWrite, Unused, Used, Made, Awaited, Calls, Emptied, Faulted, Freed, Joined, Marked, Past, ToListen, ToSend, ToStream, Unmade, part_of, put, put_udp, with_beside, with_records, IsLeft, IsNumbered, OfTcp, OfUdp, OfLookup, OfUnnamed, OfInput, OfOutput, OfSlot, without_record, Numbered, ToResult, end_in, end_of, MakesEnds, MakesEnd, IsEndAt}
 use Rattle.wasi_records.specs.Records.{tcp2_put, tcp2_pushed}
 use Rattle.std.specs.Prelude.{◌+◌}
@@ -248,10 +252,12 @@ pub data Move (line : ℕ) (origin : Step) : Here → Here → Type 0 where
   ReachesEnd : (h : Here) (handle place : ℕ) (end : ConnectionEnd) (r : TcpRecord) → Has (handles_of origin) handle → end_of (kind_at h.machine.table handle) ≡ Some end → end.socket ≡ Some place → Found h place r → Move line origin h (record h { at = Some (place, line) })
   Leaves : (h : Here) → Move line origin h (record h { at = None; made = Past })
   Spends : (h : Here) → h.own ≡ Unused → Move line origin h (record h { own = Used })
+  -- room is made for a socket of a context, whose limit is kept
+  MakesRoom : (h : Here) (ctx : WasiSocketsCtx) → Move line origin h (record h { machine = with_room h.machine ctx })
   -- the record
   Changes : (h : Here) (place : ℕ) (r now : TcpRecord) → Found h place r → Plain (h.made ≡ Emptied (Tcp3 place)) (IsOfOld h place) r now → Move line origin h (put h place now)
   ClosesReader : (h : Here) (place : ℕ) (r : TcpRecord) (s : Streams) → Found h place r → r.streams ≡ Some s → Move line origin h (put h place (with_reader r s ReadState.Closed))
-  Writes : (h : Here) (place : ℕ) (r : TcpRecord) (s : Streams) (w : WriteState) → Found h place r → r.streams ≡ Some s → WriterMoves s.writer w → Move line origin h (put h place (with_writer r s w))
+  Writes : (h : Here) (place : ℕ) (r : TcpRecord) (s : Streams) (w : WriteState) → Found h place r → r.streams ≡ Some s → WriterMoves (left h.machine.store r.maker (held s.writer)) s.writer w → Move line origin h (put h place (with_writer r s w))
   IsGone : (h : Here) (place : ℕ) (r : TcpRecord) → Releases h place → Found h place r → side_of r.inner ≡ None → Move line origin h (put h place (gone r r.inner))
   -- a connection, whose halves are taken where no connect is in progress
   Reconnects : (h : Here) (place : ℕ) (r : TcpRecord) (c now : Connection) → Found h place r → r.inner.state ≡ TcpState.Connected c → now.side ≡ c.side → (c.send_taken ≡ true → now.send_taken ≡ true) → (is_connect r.in_progress ≡ true → TakesNone c now) → Move line origin h (put h place (with_inner r (with_state r.inner (TcpState.Connected now))))

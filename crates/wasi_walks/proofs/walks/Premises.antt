@@ -125,6 +125,7 @@ pub record Plain (goes begins : Type 0) (old now : TcpRecord) : Type 0 where
   pub listening : now.listening ≡ old.listening
   pub does : now.inner.state ≡ old.inner.state
   pub maker : now.inner.maker ≡ old.inner.maker
+  pub counts : now.maker ≡ old.maker
   pub family : now.inner.family ≡ old.inner.family
   pub bound : (side : OpId) → old.inner.state ≡ TcpState.Default side → now.inner.bound ≡ true → old.inner.bound ≡ true
   pub stays : now.inner.bound ≡ false → old.inner.bound ≡ false
@@ -132,13 +133,13 @@ pub record Plain (goes begins : Type 0) (old now : TcpRecord) : Type 0 where
   pub connects : is_connect now.in_progress ≡ true → (is_connect old.in_progress ≡ true) ⊎ (IsConnecting old.inner.state × begins)
   pub dropped : (now.dropped ≡ old.dropped) ⊎ goes
 
--- of a writer: a job that ended is collected, another permit, a write that is to be the last, the end
-pub data WriterMoves : WriteState → WriteState → Type 0 where
-  Collects : (w : WriteState) → WriterMoves w (collected w)
-  Permits : (half : TcpSendStream) (old : ℕ) → WriterMoves (WriteState.Ready half old) (WriteState.Ready half 65536)
-  Lasts : (job : Job) → WriterMoves (WriteState.Writing job) (WriteState.Closing job)
-  LastsAfter : (job : Job) → WriterMoves (WriteState.Writing job) (WriteState.Closing (closing_job job))
-  Closes : (w : WriteState) → WriterMoves w (WriteState.Closed WriteError.Closed)
+-- of a writer that this much is left to: a job that ended is collected, another permit, a write that is to be the last, the end
+pub data WriterMoves (most : ℕ) : WriteState → WriteState → Type 0 where
+  Collects : (w : WriteState) → WriterMoves most w (collected w)
+  Permits : (half : TcpSendStream) (old n : ℕ) → n ≤ most → WriterMoves most (WriteState.Ready half old) (WriteState.Ready half n)
+  Lasts : (job : Job) → WriterMoves most (WriteState.Writing job) (WriteState.Closing job)
+  LastsAfter : (job : Job) → WriterMoves most (WriteState.Writing job) (WriteState.Closing (closing_job job))
+  Closes : (w : WriteState) → WriterMoves most w (WriteState.Closed WriteError.Closed)
 
 -- the TCP socket that is watched
 abbrev pub tcp_place : Watched → Option ℕ

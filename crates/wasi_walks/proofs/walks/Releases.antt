@@ -21,11 +21,11 @@ use Rattle.wasi_walks.proofs.walks.Law.{Law, HasRecord, Walks, give, and_then, m
 use Rattle.wasi_tcp.specs.Closing.{close_in}
 use Rattle.wasi_walks.proofs.walks.States.{OverIn, At, streams_are, none_stands, Put, there}
 use Rattle.wasi_host.specs.declared.kind.Kind.TheVariants.{Listen3, Tcp3}
-use Rattle.wasi_walks.proofs.walks.Streams.{look_walks, reader_up_walks, writer_up_walks}
+use Rattle.wasi_walks.proofs.walks.Streams.{drop_look_walks, look_walks, reader_up_walks, writer_up_walks}
 
 -- the handle of a socket of 0.3 goes
 handle_gone : {goes begins : Type 0} (r : TcpRecord) → goes → Plain goes begins r (without_socket r)
-handle_gone r its = record { side = refl; streams = refl; listening = refl; does = refl; maker = refl; family = refl; bound = λ side d b. b; stays = λ b. b; binds = inl refl; connects = λ e. inl e; dropped = inr its }
+handle_gone r its = record { side = refl; streams = refl; listening = refl; does = refl; maker = refl; counts = refl; family = refl; bound = λ side d b. b; stays = λ b. b; binds = inl refl; connects = λ e. inl e; dropped = inr its }
 
 -- nothing holds the record that it works on, whose network socket goes where it has one
 abbrev pub Freeing : Here → ℕ → Here
@@ -94,7 +94,7 @@ module _ {contexts : List WasiSocketsCtx} {line : ℕ} {origin : Step} {law : La
   module _ (ids : Ids) (place : ℕ) where
     wait_walks : (m : Machine) (r : TcpRecord) (here : HasRecord (At ids.line m place Used) place) (o : Option Streams) → r.streams ≡ o → Walks law (put (At ids.line m place Used) place r) (λ done. put (At ids.line m place Used) place done.1) (wait_writer (own_of ids.line) r o)
     wait_walks m r here None e = give _
-    wait_walks m r here (Some s) e = from (streams_are (At ids.line m place Used) place r s e) (and_then (look_walks here refl r s s.writer) (λ done. give _))
+    wait_walks m r here (Some s) e = from (streams_are (At ids.line m place Used) place r s e) (and_then (drop_look_walks here refl r s s.writer) (λ done. give _))
 
     stands_or : (m : Machine) → NoStartStands m.store.standing → (r : TcpRecord) (here : HasRecord (At ids.line m place Used) place) (done : Answer (Unit {0}) × TcpRecord) → Walks law (put (At ids.line m place Used) place done.1) (Put ids.line m place) (Give (drop_waits ids place (wait_put m.store place done)))
     stands_or m q r here (Ready d, now) = give _

@@ -59,7 +59,7 @@ usable_known s false side e = absurd (cc)
 
 -- nothing is in progress
 pub idled : {goes begins : Type 0} (r : TcpRecord) → IsSettled r.in_progress → Plain goes begins r (with_progress r InProgress.Nothing)
-idled r settled = record { side = refl; streams = refl; listening = refl; does = refl; maker = refl; family = refl; bound = λ side d b. b; stays = λ b. b; binds = inr (settled, tt); connects = λ e. absurd (cc); dropped = inl refl }
+idled r settled = record { side = refl; streams = refl; listening = refl; does = refl; maker = refl; counts = refl; family = refl; bound = λ side d b. b; stays = λ b. b; binds = inr (settled, tt); connects = λ e. absurd (cc); dropped = inl refl }
 
 pub connect_settles : (doing : InProgress) → is_connect doing ≡ true → IsSettled doing
 connect_settles (InProgress.Binding op) e = absurd (cc)
@@ -372,7 +372,7 @@ module _ {contexts : List WasiSocketsCtx} {line : ℕ} {origin : Step} {law : La
 module _ {contexts : List WasiSocketsCtx} {line : ℕ} {origin : Step} {law : Law contexts line origin} {h : Here} {place : ℕ} (here : HasRecord h place) (at : h.at ≡ Some (place, line)) where
   -- == a bind
   is_bound : (r : TcpRecord) → ((side : OpId) → r.inner.state ≡ TcpState.Default side → ⊥) → Walks law (put h place r) (Inner h place r) (Give (true, record r.inner { bound = true }))
-  is_bound r other = on here r _ (Changes _ _ _ _ (found here r) (record { side = refl; streams = refl; listening = refl; does = refl; maker = refl; family = refl; bound = λ side d b. absurd (other side d); stays = λ b. absurd (cc); binds = inl refl; connects = λ e. inl e; dropped = inl refl })) (give _)
+  is_bound r other = on here r _ (Changes _ _ _ _ (found here r) (record { side = refl; streams = refl; listening = refl; does = refl; maker = refl; counts = refl; family = refl; bound = λ side d b. absurd (other side d); stays = λ b. absurd (cc); binds = inl refl; connects = λ e. inl e; dropped = inl refl })) (give _)
 
   bound_in : (r : TcpRecord) (s : TcpState) → r.inner.state ≡ s → Walks law (put h place r) (Inner h place r) (ask_bound (own_of line) r.inner s)
   unfolding bind
@@ -410,7 +410,7 @@ module _ {contexts : List WasiSocketsCtx} {line : ℕ} {origin : Step} {law : La
   begin_connect_walks r a to idle free old = and_given BeginsSo (begun_given (own_of line) r.inner a r.inner.state) (start_connect_walks r a r.inner.state refl to idle free) begun
     where
       begun : (done : Result (Unit {0}) ErrorCode × Socket) → BeginsSo done → Walks law (Spent h place r done) (λ d. record (put h place d.1) { own = Used }) (Give (connect_begun r done))
-      begun (Ok d, socket) so = on (spent here) (with_inner r socket) _ (Changes _ _ _ _ (found (spent here) (with_inner r socket)) (record { side = refl; streams = refl; listening = refl; does = refl; maker = refl; family = refl; bound = λ side d b. b; stays = λ b. b; binds = inr (idle_settles r.in_progress idle, tt); connects = λ e. inr (so, record { handle = old.handle; socket = old.socket }); dropped = inl refl })) (give _)
+      begun (Ok d, socket) so = on (spent here) (with_inner r socket) _ (Changes _ _ _ _ (found (spent here) (with_inner r socket)) (record { side = refl; streams = refl; listening = refl; does = refl; maker = refl; counts = refl; family = refl; bound = λ side d b. b; stays = λ b. b; binds = inr (idle_settles r.in_progress idle, tt); connects = λ e. inr (so, record { handle = old.handle; socket = old.socket }); dropped = inl refl })) (give _)
       begun (Err c, socket) so = give _
 
   pub local_walks : (r : TcpRecord) → Walks law (put h place r) (λ done. put h place done.1) (tell_local_asks (own_of line) r)
@@ -418,7 +418,7 @@ module _ {contexts : List WasiSocketsCtx} {line : ℕ} {origin : Step} {law : La
 
 -- == the backlog, and whether it is ready
 backlog_kept : {goes begins : Type 0} (r : TcpRecord) (b : ℕ) → Plain goes begins r (with_inner r (with_backlog r.inner b))
-backlog_kept r b = record { side = refl; streams = refl; listening = refl; does = refl; maker = refl; family = refl; bound = λ side d e. e; stays = λ b. b; binds = inl refl; connects = λ e. inl e; dropped = inl refl }
+backlog_kept r b = record { side = refl; streams = refl; listening = refl; does = refl; maker = refl; counts = refl; family = refl; bound = λ side d e. e; stays = λ b. b; binds = inl refl; connects = λ e. inl e; dropped = inl refl }
 
 module _ {contexts : List WasiSocketsCtx} {line : ℕ} {origin : Step} {law : Law contexts line origin} {h : Here} {place : ℕ} (here : HasRecord h place) (at : h.at ≡ Some (place, line)) where
   backlog_told : (r : TcpRecord) (b : ℕ) (told : Result (Unit {0}) ErrorCode) → Walks law (put h place r) (Inner h place r) (Give (after_backlog r.inner b told))

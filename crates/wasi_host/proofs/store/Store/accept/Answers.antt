@@ -19,7 +19,7 @@ returns-in_err-reserve-clause-asked g c = host_none c.from_residual.result c.fro
 
 pub returns-in_default-clause-asked : goal.returns-in_default-clause-asked
 returns-in_default-clause-asked g c =
-    let store : Records = record { records = c.self.inside.records.items; jobs = c.self.inside.jobs.items; standing = c.self.inside.standing; beside = c.self.inside.beside } in
+    let store : Records = record { records = c.self.inside.records.items; jobs = c.self.inside.jobs.items; standing = c.self.inside.standing; beside = c.self.inside.beside; limits = c.self.inside.limits.items } in
     rw (← c.self.view_is, none_still c.reserve.new.self.items c.self.inside.records.items c.args.place c.reserve.ensures.items c.in_default.ensures.item)
     (asks_given _ _ refl (ap (λ (l : List Record). Give (Err (Trap NoSuchHandle), record store { records = l })) (sym {A = List Record} c.reserve.ensures.items)))
 
@@ -28,7 +28,7 @@ returns-in_default-clause-names g c = rw (← c.self.view_is, none_still c.reser
 
 pub returns-in_err-answer-clause-asked : goal.returns-in_err-answer-clause-asked
 returns-in_err-answer-clause-asked g c =
-    let store : Records = record { records = c.self.inside.records.items; jobs = c.self.inside.jobs.items; standing = c.self.inside.standing; beside = c.self.inside.beside } in
+    let store : Records = record { records = c.self.inside.records.items; jobs = c.self.inside.jobs.items; standing = c.self.inside.standing; beside = c.self.inside.beside; limits = c.self.inside.limits.items } in
     let found = found_still c.reserve.new.self.items c.self.inside.records.items c.args.place c.in-Some.record c.reserve.ensures.items c.in-Some.ensures.item in
     rw (← c.self.view_is, found)
     (host_refused _ _ c.from_residual-in_err-answer.result c.from_residual-in_err-answer.ensures.1 c.in_err-answer.ensures.asked
@@ -36,7 +36,7 @@ returns-in_err-answer-clause-asked g c =
 
 pub returns-in_err-answer-clause-sides : goal.returns-in_err-answer-clause-sides
 returns-in_err-answer-clause-sides g c = λ k.
-    let store : Records = record { records = c.self.inside.records.items; jobs = c.self.inside.jobs.items; standing = c.self.inside.standing; beside = c.self.inside.beside } in
+    let store : Records = record { records = c.self.inside.records.items; jobs = c.self.inside.jobs.items; standing = c.self.inside.standing; beside = c.self.inside.beside; limits = c.self.inside.limits.items } in
     let found = found_still c.reserve.new.self.items c.self.inside.records.items c.args.place c.in-Some.record c.reserve.ensures.items c.in-Some.ensures.item in
     rw c.reserve.ensures.items
     (knows_polled store c.args.place c.in-Some.record.now c.poll_accept.new.self found c.in_err-answer.ensures.sides (rw (← c.self.view_is) at k))
@@ -48,7 +48,7 @@ returns-in_err-answer-clause-names g c =
 
 pub returns-in-Pending-clause-asked : goal.returns-in-Pending-clause-asked
 returns-in-Pending-clause-asked g c =
-    let store : Records = record { records = c.self.inside.records.items; jobs = c.self.inside.jobs.items; standing = c.self.inside.standing; beside = c.self.inside.beside } in
+    let store : Records = record { records = c.self.inside.records.items; jobs = c.self.inside.jobs.items; standing = c.self.inside.standing; beside = c.self.inside.beside; limits = c.self.inside.limits.items } in
     let found = found_still c.reserve.new.self.items c.self.inside.records.items c.args.place c.in-Some.record c.reserve.ensures.items c.in-Some.ensures.item in
     rw (← c.self.view_is, found)
     (asks_end _ (rw c.in-Pending.is at c.in_ok-answer.ensures.asked.ok)
@@ -56,7 +56,7 @@ returns-in-Pending-clause-asked g c =
 
 pub returns-in-Pending-clause-sides : goal.returns-in-Pending-clause-sides
 returns-in-Pending-clause-sides g c = λ k.
-    let store : Records = record { records = c.self.inside.records.items; jobs = c.self.inside.jobs.items; standing = c.self.inside.standing; beside = c.self.inside.beside } in
+    let store : Records = record { records = c.self.inside.records.items; jobs = c.self.inside.jobs.items; standing = c.self.inside.standing; beside = c.self.inside.beside; limits = c.self.inside.limits.items } in
     let found = found_still c.reserve.new.self.items c.self.inside.records.items c.args.place c.in-Some.record c.reserve.ensures.items c.in-Some.ensures.item in
     rw c.reserve.ensures.items
     (knows_polled store c.args.place c.in-Some.record.now c.poll_accept.new.self found (rw c.in-Pending.is at c.in_ok-answer.ensures.sides) (rw (← c.self.view_is) at k))
@@ -68,7 +68,7 @@ returns-in-Pending-clause-names g c =
 
 pub returns-in-Ready-clause-asked : goal.returns-in-Ready-clause-asked
 returns-in-Ready-clause-asked g c =
-    let store : Records = record { records = c.self.inside.records.items; jobs = c.self.inside.jobs.items; standing = c.self.inside.standing; beside = c.self.inside.beside } in
+    let store : Records = record { records = c.self.inside.records.items; jobs = c.self.inside.jobs.items; standing = c.self.inside.standing; beside = c.self.inside.beside; limits = c.self.inside.limits.items } in
     let found = found_still c.reserve.new.self.items c.self.inside.records.items c.args.place c.in-Some.record c.reserve.ensures.items c.in-Some.ensures.item in
     rw (← c.self.view_is, found, c.keep_accepted.ensures.told, c.keep_accepted.ensures.records)
     (asks_end _ (rw c.in-Ready.is at c.in_ok-answer.ensures.asked.ok)
@@ -76,7 +76,7 @@ returns-in-Ready-clause-asked g c =
 
 pub returns-in-Ready-clause-sides : goal.returns-in-Ready-clause-sides
 returns-in-Ready-clause-sides g c = λ k.
-    let store : Records = record { records = c.self.inside.records.items; jobs = c.self.inside.jobs.items; standing = c.self.inside.standing; beside = c.self.inside.beside } in
+    let store : Records = record { records = c.self.inside.records.items; jobs = c.self.inside.jobs.items; standing = c.self.inside.standing; beside = c.self.inside.beside; limits = c.self.inside.limits.items } in
     let found = found_still c.reserve.new.self.items c.self.inside.records.items c.args.place c.in-Some.record c.reserve.ensures.items c.in-Some.ensures.item in
     knows_accepted store c.args.place c.in-Some.record.now c.poll_accept.new.self c.in-Ready.socket c.reserve.new.self.items c.keep_accepted.new.records.items c.reserve.ensures.items c.keep_accepted.ensures.records found (rw c.in-Ready.is at c.in_ok-answer.ensures.accepted) (rw c.in-Ready.is at c.in_ok-answer.ensures.sides) (rw (← c.self.view_is) at k)
 

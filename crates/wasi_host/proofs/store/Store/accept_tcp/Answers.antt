@@ -20,7 +20,7 @@ returns-in_err-reserve-clause-asked g c = ends_none c.from_residual.result c.fro
 
 pub returns-in_default-clause-asked : goal.returns-in_default-clause-asked
 returns-in_default-clause-asked g c =
-    let store : Records = record { records = c.self.inside.records.items; jobs = c.self.inside.jobs.items; standing = c.self.inside.standing; beside = c.self.inside.beside } in
+    let store : Records = record { records = c.self.inside.records.items; jobs = c.self.inside.jobs.items; standing = c.self.inside.standing; beside = c.self.inside.beside; limits = c.self.inside.limits.items } in
     rw (← c.self.view_is, none_still c.reserve.new.self.items c.self.inside.records.items c.args.place c.reserve.ensures.items c.in_default.ensures.item)
     (asks_given (Err (Trap NoSuchHandle)) _ refl (ap (λ (l : List Record). Give (Err (Trap NoSuchHandle), record store { records = l })) (sym {A = List Record} c.reserve.ensures.items)))
 
@@ -29,7 +29,7 @@ returns-in_default-clause-names g c = rw (← c.self.view_is, none_still c.reser
 
 pub returns-in_err-answer-clause-asked : goal.returns-in_err-answer-clause-asked
 returns-in_err-answer-clause-asked g c =
-    let store : Records = record { records = c.self.inside.records.items; jobs = c.self.inside.jobs.items; standing = c.self.inside.standing; beside = c.self.inside.beside } in
+    let store : Records = record { records = c.self.inside.records.items; jobs = c.self.inside.jobs.items; standing = c.self.inside.standing; beside = c.self.inside.beside; limits = c.self.inside.limits.items } in
     let found = found_still c.reserve.new.self.items c.self.inside.records.items c.args.place c.in-Some.record c.reserve.ensures.items c.in-Some.ensures.item in
     rw (← c.self.view_is, found)
     (base_passed _ c.poll_accept.result _ c.from_residual-in_err-answer.result c.from_residual-in_err-answer.ensures.1 c.in_err-answer.ensures.told c.poll_accept.ensures.asked
@@ -37,7 +37,7 @@ returns-in_err-answer-clause-asked g c =
 
 pub returns-in_err-answer-clause-sides : goal.returns-in_err-answer-clause-sides
 returns-in_err-answer-clause-sides g c = λ k.
-    let store : Records = record { records = c.self.inside.records.items; jobs = c.self.inside.jobs.items; standing = c.self.inside.standing; beside = c.self.inside.beside } in
+    let store : Records = record { records = c.self.inside.records.items; jobs = c.self.inside.jobs.items; standing = c.self.inside.standing; beside = c.self.inside.beside; limits = c.self.inside.limits.items } in
     let found = found_still c.reserve.new.self.items c.self.inside.records.items c.args.place c.in-Some.record c.reserve.ensures.items c.in-Some.ensures.item in
     rw c.reserve.ensures.items
     (knows_polled store c.args.place c.in-Some.record.now c.poll_accept.new.self found (none_given c.poll_accept.result _ c.in_err-answer.ensures.told c.poll_accept.ensures.sides) (rw (← c.self.view_is) at k))
@@ -49,7 +49,7 @@ returns-in_err-answer-clause-names g c =
 
 pub returns-in-Pending-clause-asked : goal.returns-in-Pending-clause-asked
 returns-in-Pending-clause-asked g c =
-    let store : Records = record { records = c.self.inside.records.items; jobs = c.self.inside.jobs.items; standing = c.self.inside.standing; beside = c.self.inside.beside } in
+    let store : Records = record { records = c.self.inside.records.items; jobs = c.self.inside.jobs.items; standing = c.self.inside.standing; beside = c.self.inside.beside; limits = c.self.inside.limits.items } in
     let found = found_still c.reserve.new.self.items c.self.inside.records.items c.args.place c.in-Some.record c.reserve.ensures.items c.in-Some.ensures.item in
     rw (← c.self.view_is, found)
     (asks_end _ (rw (c.in_ok-answer.ensures.ok, c.in-Pending.is) at c.poll_accept.ensures.asked).ok
@@ -57,7 +57,7 @@ returns-in-Pending-clause-asked g c =
 
 pub returns-in-Pending-clause-sides : goal.returns-in-Pending-clause-sides
 returns-in-Pending-clause-sides g c = λ k.
-    let store : Records = record { records = c.self.inside.records.items; jobs = c.self.inside.jobs.items; standing = c.self.inside.standing; beside = c.self.inside.beside } in
+    let store : Records = record { records = c.self.inside.records.items; jobs = c.self.inside.jobs.items; standing = c.self.inside.standing; beside = c.self.inside.beside; limits = c.self.inside.limits.items } in
     let found = found_still c.reserve.new.self.items c.self.inside.records.items c.args.place c.in-Some.record c.reserve.ensures.items c.in-Some.ensures.item in
     rw c.reserve.ensures.items
     (knows_polled store c.args.place c.in-Some.record.now c.poll_accept.new.self found (rw (c.in_ok-answer.ensures.ok, c.in-Pending.is) at c.poll_accept.ensures.sides) (rw (← c.self.view_is) at k))
@@ -69,7 +69,7 @@ returns-in-Pending-clause-names g c =
 
 pub returns-in-Ready-clause-asked : goal.returns-in-Ready-clause-asked
 returns-in-Ready-clause-asked g c =
-    let store : Records = record { records = c.self.inside.records.items; jobs = c.self.inside.jobs.items; standing = c.self.inside.standing; beside = c.self.inside.beside } in
+    let store : Records = record { records = c.self.inside.records.items; jobs = c.self.inside.jobs.items; standing = c.self.inside.standing; beside = c.self.inside.beside; limits = c.self.inside.limits.items } in
     let found = found_still c.reserve.new.self.items c.self.inside.records.items c.args.place c.in-Some.record c.reserve.ensures.items c.in-Some.ensures.item in
     rw (← c.self.view_is, found, c.len-accepted.ensures, c.push_reserved.ensures.items, c.new.ensures)
     (asks_end _ (rw (c.in_ok-answer.ensures.ok, c.in-Ready.is) at c.poll_accept.ensures.asked).ok
@@ -77,7 +77,7 @@ returns-in-Ready-clause-asked g c =
 
 pub returns-in-Ready-clause-sides : goal.returns-in-Ready-clause-sides
 returns-in-Ready-clause-sides g c = λ k.
-    let store : Records = record { records = c.self.inside.records.items; jobs = c.self.inside.jobs.items; standing = c.self.inside.standing; beside = c.self.inside.beside } in
+    let store : Records = record { records = c.self.inside.records.items; jobs = c.self.inside.jobs.items; standing = c.self.inside.standing; beside = c.self.inside.beside; limits = c.self.inside.limits.items } in
     let found = found_still c.reserve.new.self.items c.self.inside.records.items c.args.place c.in-Some.record c.reserve.ensures.items c.in-Some.ensures.item in
     rw (c.push_reserved.ensures.items, c.new.ensures)
     (knows_kept store c.args.place c.in-Some.record.now c.poll_accept.new.self c.in-Ready.socket c.reserve.new.self.items c.reserve.ensures.items found (rw (c.in_ok-answer.ensures.ok, c.in-Ready.is) at c.poll_accept.ensures.sides) (rw (← c.self.view_is) at k))

@@ -19,7 +19,7 @@ returns-in_default-clause-asked g c = rw (← c.self.view_is, none_at c.self.ins
 
 pub returns-then-not-is_nothing-clause-asked : goal.returns-then-not-is_nothing-clause-asked
 returns-then-not-is_nothing-clause-asked g c =
-    let store : Records = record { records = c.self.inside.records.items; jobs = c.self.inside.jobs.items; standing = c.self.inside.standing; beside = c.self.inside.beside } in
+    let store : Records = record { records = c.self.inside.records.items; jobs = c.self.inside.jobs.items; standing = c.self.inside.standing; beside = c.self.inside.beside; limits = c.self.inside.limits.items } in
     rw (← c.self.view_is, found_at c.self.inside.records.items c.args.place c.in-Some.record c.in-Some.ensures.item, ← c.is_nothing.ensures, c.if-not-is_nothing.true)
     (asks_given (Err (Code InvalidState)) _ refl (ap (λ (l : List Record). Give (Err (Code InvalidState), record store { records = l })) (sym (set_back c.self.inside.records.items c.args.place c.in-Some.record c.in-Some.ensures.item))))
 
@@ -32,7 +32,7 @@ returns-in_err-answer-clause-asked g c = rw (← c.self.view_is, found_at c.self
 
 pub returns-in_err-answer-clause-sides : goal.returns-in_err-answer-clause-sides
 returns-in_err-answer-clause-sides g c = λ k.
-    let store : Records = record { records = c.self.inside.records.items; jobs = c.self.inside.jobs.items; standing = c.self.inside.standing; beside = c.self.inside.beside } in
+    let store : Records = record { records = c.self.inside.records.items; jobs = c.self.inside.jobs.items; standing = c.self.inside.standing; beside = c.self.inside.beside; limits = c.self.inside.limits.items } in
     knows_polled store c.args.place c.in-Some.record.now c.listen.new.record (found_at c.self.inside.records.items c.args.place c.in-Some.record c.in-Some.ensures.item) c.listen.ensures.sides (rw (← c.self.view_is) at k)
 
 pub returns-clause-asked : goal.returns-clause-asked
@@ -42,6 +42,6 @@ returns-clause-asked g c = rw (← c.self.view_is, found_at c.self.inside.record
 
 pub returns-clause-sides : goal.returns-clause-sides
 returns-clause-sides g c = λ k.
-    let store : Records = record { records = c.self.inside.records.items; jobs = c.self.inside.jobs.items; standing = c.self.inside.standing; beside = c.self.inside.beside } in
+    let store : Records = record { records = c.self.inside.records.items; jobs = c.self.inside.jobs.items; standing = c.self.inside.standing; beside = c.self.inside.beside; limits = c.self.inside.limits.items } in
     knows_stood (with_socket store c.args.place c.listen.new.record) _ _ _ _ _ c.stand.ensures
     (knows_polled store c.args.place c.in-Some.record.now c.listen.new.record (found_at c.self.inside.records.items c.args.place c.in-Some.record c.in-Some.ensures.item) c.listen.ensures.sides (rw (← c.self.view_is) at k))

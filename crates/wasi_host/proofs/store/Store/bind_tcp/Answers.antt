@@ -37,7 +37,7 @@ returns-clause-asked g c = rw (← c.self.view_is, found_at c.self.inside.record
 
 pub returns-clause-sides : goal.returns-clause-sides
 returns-clause-sides g c = λ k.
-    let store : Records = record { records = c.self.inside.records.items; jobs = c.self.inside.jobs.items; standing = c.self.inside.standing; beside = c.self.inside.beside } in
+    let store : Records = record { records = c.self.inside.records.items; jobs = c.self.inside.jobs.items; standing = c.self.inside.standing; beside = c.self.inside.beside; limits = c.self.inside.limits.items } in
     knows_stood (with_socket store c.args.place c.leave_bound.new.record) _ _ _ _ _ c.stand.ensures
     (knows_none store (with_socket store c.args.place c.leave_bound.new.record) c.begin_bind.ensures.none
     (held_in-set c.self.inside.records.items c.args.place c.in-Some.record.now c.leave_bound.new.record (found_at c.self.inside.records.items c.args.place c.in-Some.record c.in-Some.ensures.item)

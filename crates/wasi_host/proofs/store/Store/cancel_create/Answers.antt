@@ -17,7 +17,7 @@ returns-in_err-cancel-clause-asked g c =
 
 pub returns-clause-asked : goal.returns-clause-asked
 returns-clause-asked g c =
-    let store : Records = record { records = c.self.inside.records.items; jobs = c.self.inside.jobs.items; standing = c.self.inside.standing; beside = c.self.inside.beside } in
+    let store : Records = record { records = c.self.inside.records.items; jobs = c.self.inside.jobs.items; standing = c.self.inside.standing; beside = c.self.inside.beside; limits = c.self.inside.limits.items } in
     let found = sym c.in-Some.ensures.item ∙ ap (λ (u : UdpRecord). Some u) c.in-Creating.is in
     let gone = c.give_back.ensures.state ∙ ap (given_back c.args.place) (sym c.self.view_is) in
     rw (← c.self.view_is, found, gone)
@@ -25,7 +25,7 @@ returns-clause-asked g c =
 
 pub returns-clause-sides : goal.returns-clause-sides
 returns-clause-sides g c = λ k.
-    let store : Records = record { records = c.self.inside.records.items; jobs = c.self.inside.jobs.items; standing = c.self.inside.standing; beside = c.self.inside.beside } in
+    let store : Records = record { records = c.self.inside.records.items; jobs = c.self.inside.jobs.items; standing = c.self.inside.standing; beside = c.self.inside.beside; limits = c.self.inside.limits.items } in
     let found = sym c.in-Some.ensures.item ∙ ap (λ (u : UdpRecord). Some u) c.in-Creating.is in
     let gone = c.give_back.ensures.state ∙ ap (given_back c.args.place) (sym c.self.view_is) in
     rw gone (knows_cancelled store c.args.place c.in-Creating.create found c.in_ok-cancel.ensures.closed (rw (← c.self.view_is) at k))

@@ -11,19 +11,19 @@ returns-in_default-clause-asked g c = rw (← c.self.view_is, none_at c.self.ins
 
 pub returns-clause-asked : goal.returns-clause-asked
 returns-clause-asked g c =
-    let store : Records = record { records = c.self.inside.records.items; jobs = c.self.inside.jobs.items; standing = c.self.inside.standing; beside = c.self.inside.beside } in
+    let store : Records = record { records = c.self.inside.records.items; jobs = c.self.inside.jobs.items; standing = c.self.inside.standing; beside = c.self.inside.beside; limits = c.self.inside.limits.items } in
     rw (← c.self.view_is, found_at c.self.inside.records.items c.args.place c.in-Some.record c.in-Some.ensures.item)
     (listen_cancelled store c.args.place c.in-Some.record.now c.give_listening_up.new.self c.give_listening_up.result c.give_listening_up.ensures.asked c.give_listening_up.ensures.ok)
 
 pub returns-clause-sides : goal.returns-clause-sides
 returns-clause-sides g c = λ k.
-    let store : Records = record { records = c.self.inside.records.items; jobs = c.self.inside.jobs.items; standing = c.self.inside.standing; beside = c.self.inside.beside } in
+    let store : Records = record { records = c.self.inside.records.items; jobs = c.self.inside.jobs.items; standing = c.self.inside.standing; beside = c.self.inside.beside; limits = c.self.inside.limits.items } in
     knows_polled store c.args.place c.in-Some.record.now c.give_listening_up.new.self (found_at c.self.inside.records.items c.args.place c.in-Some.record c.in-Some.ensures.item)
     (listen_balances c.in-Some.record.now c.give_listening_up.new.self c.give_listening_up.result c.give_listening_up.ensures.asked c.give_listening_up.ensures.ok c.give_listening_up.ensures.err c.give_listening_up.ensures.unasked) (rw (← c.self.view_is) at k)
 
 pub returns-clause-left : goal.returns-clause-left
 returns-clause-left g c =
-    let store : Records = record { records = c.self.inside.records.items; jobs = c.self.inside.jobs.items; standing = c.self.inside.standing; beside = c.self.inside.beside } in
+    let store : Records = record { records = c.self.inside.records.items; jobs = c.self.inside.jobs.items; standing = c.self.inside.standing; beside = c.self.inside.beside; limits = c.self.inside.limits.items } in
     rw (← c.self.view_is, found_at c.self.inside.records.items c.args.place c.in-Some.record c.in-Some.ensures.item)
     (listen_stays store c.args.place c.in-Some.record.now c.give_listening_up.new.self c.give_listening_up.result c.give_listening_up.ensures.err)
 

@@ -6,16 +6,16 @@ use Rattle.wasi_host.proofs.store.Store.check_send.Goals as goal
 
 pub returns-in_default-outgoing-clause-sides : goal.returns-in_default-outgoing-clause-sides
 returns-in_default-outgoing-clause-sides c = λ s k.
-    let store : Records = record { records = c.self.inside.records.items; jobs = c.self.inside.jobs.items; standing = c.self.inside.standing; beside = c.self.inside.beside } in
+    let store : Records = record { records = c.self.inside.records.items; jobs = c.self.inside.jobs.items; standing = c.self.inside.standing; beside = c.self.inside.beside; limits = c.self.inside.limits.items } in
     knows_back store c.args.place c.in-Some.socket c.in-Some.ensures.item (rw (← c.self.view_is) at k)
 
 pub returns-in_default-outgoing-clause-state : goal.returns-in_default-outgoing-clause-state
 returns-in_default-outgoing-clause-state c =
-    let store : Records = record { records = c.self.inside.records.items; jobs = c.self.inside.jobs.items; standing = c.self.inside.standing; beside = c.self.inside.beside } in
+    let store : Records = record { records = c.self.inside.records.items; jobs = c.self.inside.jobs.items; standing = c.self.inside.standing; beside = c.self.inside.beside; limits = c.self.inside.limits.items } in
     rw (← c.self.view_is, open_found c.self.inside.records.items c.args.place c.in-Some.socket c.in-Some.ensures.item)
     (given_back store c.args.place c.in-Some.socket c.in-Some.ensures.item ∙ sym (ap (λ d. d.1) (not_permitted store c.args.place c.in-Some.socket.now c.in-Some.socket.now.outgoing c.in_default-outgoing.not-Some)))
 
 pub returns-clause-sides : goal.returns-clause-sides
 returns-clause-sides c = λ s k.
-    let store : Records = record { records = c.self.inside.records.items; jobs = c.self.inside.jobs.items; standing = c.self.inside.standing; beside = c.self.inside.beside } in
+    let store : Records = record { records = c.self.inside.records.items; jobs = c.self.inside.jobs.items; standing = c.self.inside.standing; beside = c.self.inside.beside; limits = c.self.inside.limits.items } in
     knows_put store c.args.place c.in-Some.socket _ c.in-Some.ensures.item refl (rw (← c.self.view_is) at k)

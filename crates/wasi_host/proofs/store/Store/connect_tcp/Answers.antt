@@ -21,7 +21,7 @@ returns-in_default-clause-asked g c = rw (← c.self.view_is, none_at c.self.ins
 
 pub returns-then-not-is_nothing-clause-asked : goal.returns-then-not-is_nothing-clause-asked
 returns-then-not-is_nothing-clause-asked g c =
-    let store : Records = record { records = c.self.inside.records.items; jobs = c.self.inside.jobs.items; standing = c.self.inside.standing; beside = c.self.inside.beside } in
+    let store : Records = record { records = c.self.inside.records.items; jobs = c.self.inside.jobs.items; standing = c.self.inside.standing; beside = c.self.inside.beside; limits = c.self.inside.limits.items } in
     rw (← c.self.view_is, found_at c.self.inside.records.items c.args.place c.in-Some.record c.in-Some.ensures.item, ← c.is_nothing.ensures, c.if-not-is_nothing.true)
     (asks_end _ (reaches_all _ _) (ap (λ (l : List Record). Give (Err (Code InvalidState), record store { records = l })) (sym (set_back c.self.inside.records.items c.args.place c.in-Some.record c.in-Some.ensures.item))))
 
@@ -36,12 +36,12 @@ returns-in_err-push-clause-sides g c = λ k. knows_same _ _ (ap held_in (set_bac
 
 pub returns-clause-asked : goal.returns-clause-asked
 returns-clause-asked g c =
-    let store : Records = record { records = c.self.inside.records.items; jobs = c.self.inside.jobs.items; standing = c.self.inside.standing; beside = c.self.inside.beside } in
+    let store : Records = record { records = c.self.inside.records.items; jobs = c.self.inside.jobs.items; standing = c.self.inside.standing; beside = c.self.inside.beside; limits = c.self.inside.limits.items } in
     let call = beside_as c.args.ids.line (Connect c.args.place) in
     rw (← c.self.view_is, found_at c.self.inside.records.items c.args.place c.in-Some.record c.in-Some.ensures.item, ← c.is_nothing.ensures, c.if-not-is_nothing.false, c.unnamed.ensures.told, c.keep_begun.ensures store.beside call c.in_ok-push.ensures.ok)
     (begun_asked store c.args.place c.connect-connected.new.record call c.connect-connected.result (asks_at (λ (op : OpId). connects op c.args.addr c.in-Some.record.now) (sym c.own.ensures) c.connect-connected.ensures.asked))
 
 pub returns-clause-sides : goal.returns-clause-sides
 returns-clause-sides g c = λ k.
-    let store : Records = record { records = c.self.inside.records.items; jobs = c.self.inside.jobs.items; standing = c.self.inside.standing; beside = c.self.inside.beside } in
+    let store : Records = record { records = c.self.inside.records.items; jobs = c.self.inside.jobs.items; standing = c.self.inside.standing; beside = c.self.inside.beside; limits = c.self.inside.limits.items } in
     knows_same _ _ refl (knows_polled store c.args.place c.in-Some.record.now c.connect-connected.new.record (found_at c.self.inside.records.items c.args.place c.in-Some.record c.in-Some.ensures.item) c.connect-connected.ensures.sides (rw (← c.self.view_is) at k))

@@ -20,7 +20,7 @@ returns-in_default-clause-asked g c = rw (← c.self.view_is, not_open c.self.in
 
 pub returns-then-has_streams-clause-asked : goal.returns-then-has_streams-clause-asked
 returns-then-has_streams-clause-asked g c =
-    let store : Records = record { records = c.self.inside.records.items; jobs = c.self.inside.jobs.items; standing = c.self.inside.standing; beside = c.self.inside.beside } in
+    let store : Records = record { records = c.self.inside.records.items; jobs = c.self.inside.jobs.items; standing = c.self.inside.standing; beside = c.self.inside.beside; limits = c.self.inside.limits.items } in
     rw (← c.self.view_is, open_found c.self.inside.records.items c.args.place c.in-Some.socket c.in-Some.ensures.item, ← c.has_streams.ensures, c.if-has_streams.true)
     (asks_given (Err (Code InvalidState)) _ refl (ap (λ (l : List Record). Give (Err (Code InvalidState), record store { records = l })) (sym (open_back c.self.inside.records.items c.args.place c.in-Some.socket c.in-Some.ensures.item))))
 
@@ -44,7 +44,7 @@ returns-clause-asked g c = rw (← c.self.view_is, open_found c.self.inside.reco
 
 pub returns-clause-sides : goal.returns-clause-sides
 returns-clause-sides g c = λ k.
-    let store : Records = record { records = c.self.inside.records.items; jobs = c.self.inside.jobs.items; standing = c.self.inside.standing; beside = c.self.inside.beside } in
+    let store : Records = record { records = c.self.inside.records.items; jobs = c.self.inside.jobs.items; standing = c.self.inside.standing; beside = c.self.inside.beside; limits = c.self.inside.limits.items } in
     knows_stood (with_open_udp store c.args.place c.connect.new.self) _ _ _ _ _ c.stand.ensures
     (knows_none store (with_open_udp store c.args.place c.connect.new.self) c.connect.ensures.none
     (held_in-open c.self.inside.records.items c.args.place c.in-Some.socket.now c.connect.new.self (open_found c.self.inside.records.items c.args.place c.in-Some.socket c.in-Some.ensures.item) c.connect.ensures.side)

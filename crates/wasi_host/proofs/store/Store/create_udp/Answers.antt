@@ -16,7 +16,7 @@ returns-in_err-reserve-clause-asked g c = ends_none c.from_residual.result c.fro
 pub returns-in_err-create-clause-asked : goal.returns-in_err-create-clause-asked
 returns-in_err-create-clause-asked g c = rw (← c.self.view_is)
     (base_passed _ c.new.result _ c.from_residual-in_err-create.result c.from_residual-in_err-create.ensures.1 c.in_err-create.ensures.told (rw c.own.ensures at c.new.ensures.asked)
-    (λ code. ap (λ (l : List Record). let m : Machine = record { table = c.args.table.now; store = record { records = l; jobs = c.self.inside.jobs.items; standing = c.self.inside.standing; beside = c.self.inside.beside } } in Give (Err (Code code), m)) (sym c.reserve.ensures.items)))
+    (λ code. ap (λ (l : List Record). let m : Machine = record { table = c.args.table.now; store = record { records = l; jobs = c.self.inside.jobs.items; standing = c.self.inside.standing; beside = c.self.inside.beside; limits = c.self.inside.limits.items } } in Give (Err (Code code), m)) (sym c.reserve.ensures.items)))
 
 pub returns-in_err-create-clause-sides : goal.returns-in_err-create-clause-sides
 returns-in_err-create-clause-sides g c = λ k. rw c.reserve.ensures.items (knows_refused c.own.result c.args.ctx.now c.args.family c.new.result _ _ c.in_err-create.ensures.told c.new.ensures.asked c.new.ensures.unasked (rw (← c.self.view_is) at k))
@@ -24,12 +24,12 @@ returns-in_err-create-clause-sides g c = λ k. rw c.reserve.ensures.items (knows
 pub returns-clause-asked : goal.returns-clause-asked
 returns-clause-asked g c = rw (← c.self.view_is)
     (asks_then _ (rw (c.own.ensures, c.in_ok-create.ensures.ok) at c.new.ensures.asked).ok
-    (begun_on c.args.interface (record { table = c.args.table.now; store = record { records = c.self.inside.records.items; jobs = c.self.inside.jobs.items; standing = c.self.inside.standing; beside = c.self.inside.beside } }) c.args.ids c.in_ok-create.create
+    (begun_on c.args.interface (record { table = c.args.table.now; store = record { records = c.self.inside.records.items; jobs = c.self.inside.jobs.items; standing = c.self.inside.standing; beside = c.self.inside.beside; limits = c.self.inside.limits.items } }) c.args.ids c.in_ok-create.create
     (c.len-place.ensures ∙ ap length c.reserve.ensures.items) (rw (c.reserve.ensures.items, c.new-2.ensures) at c.push_reserved.ensures.items) c.create_on.ensures.asked))
 
 pub returns-clause-sides : goal.returns-clause-sides
 returns-clause-sides g c = λ k.
-    let store : Records = record { records = c.self.inside.records.items; jobs = c.self.inside.jobs.items; standing = c.self.inside.standing; beside = c.self.inside.beside } in
+    let store : Records = record { records = c.self.inside.records.items; jobs = c.self.inside.jobs.items; standing = c.self.inside.standing; beside = c.self.inside.beside; limits = c.self.inside.limits.items } in
     c.create_on.ensures.sides
     (subst (λ (l : List Record). KnowsSides (g.W.World.seen c.new.new.world) (record store { records = l })) (sym (rw (c.reserve.ensures.items, c.new-2.ensures) at c.push_reserved.ensures.items))
     (knows_begun c.own.result c.args.ctx.now c.args.family c.in_ok-create.create store (rw c.in_ok-create.ensures.ok at c.new.ensures.asked).ok (rw (← c.self.view_is) at k)))

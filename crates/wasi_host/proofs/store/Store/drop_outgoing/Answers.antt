@@ -11,17 +11,17 @@ use Rattle.wasi_host.proofs.store.Store.drop_outgoing.Goals as goal
 
 pub returns-then-sends-clause-sides : goal.returns-then-sends-clause-sides
 returns-then-sends-clause-sides c = λ s k.
-    let store : Records = record { records = c.self.inside.records.items; jobs = c.self.inside.jobs.items; standing = c.self.inside.standing; beside = c.self.inside.beside } in
+    let store : Records = record { records = c.self.inside.records.items; jobs = c.self.inside.jobs.items; standing = c.self.inside.standing; beside = c.self.inside.beside; limits = c.self.inside.limits.items } in
     knows_stood (with_open_udp store c.args.place c.in-Some.socket.now) _ c.args.ids (DropOutgoing c.args.place) Pending _ c.stand.ensures (knows_back store c.args.place c.in-Some.socket c.in-Some.ensures.item (rw (← c.self.view_is) at k))
 
 pub returns-then-sends-clause-dropped : goal.returns-then-sends-clause-dropped
 returns-then-sends-clause-dropped c =
-    let store : Records = record { records = c.self.inside.records.items; jobs = c.self.inside.jobs.items; standing = c.self.inside.standing; beside = c.self.inside.beside } in
+    let store : Records = record { records = c.self.inside.records.items; jobs = c.self.inside.jobs.items; standing = c.self.inside.standing; beside = c.self.inside.beside; limits = c.self.inside.limits.items } in
     rw (← c.self.view_is, open_found c.self.inside.records.items c.args.place c.in-Some.socket c.in-Some.ensures.item)
     (c.stand.ensures ∙ (ap (λ (r : Records). drop_outgoing_by r c.args.ids c.args.place c.in-Some.socket.now true) (given_back store c.args.place c.in-Some.socket c.in-Some.ensures.item)
     ∙ ap (drop_outgoing_by store c.args.ids c.args.place c.in-Some.socket.now) (sym (sym c.sends.ensures ∙ c.if-sends.true))))
 
 pub returns-clause-sides : goal.returns-clause-sides
 returns-clause-sides c = λ s k.
-    let store : Records = record { records = c.self.inside.records.items; jobs = c.self.inside.jobs.items; standing = c.self.inside.standing; beside = c.self.inside.beside } in
+    let store : Records = record { records = c.self.inside.records.items; jobs = c.self.inside.jobs.items; standing = c.self.inside.standing; beside = c.self.inside.beside; limits = c.self.inside.limits.items } in
     knows_put store c.args.place c.in-Some.socket _ c.in-Some.ensures.item refl (rw (← c.self.view_is) at k)

@@ -10,7 +10,7 @@ use Rattle.wasi_host.proofs.store.Store.finish_udp_bind.Goals as goal
 
 pub returns-then-not-is_bound-clause-state : goal.returns-then-not-is_bound-clause-state
 returns-then-not-is_bound-clause-state c =
-    let store : Records = record { records = c.self.inside.records.items; jobs = c.self.inside.jobs.items; standing = c.self.inside.standing; beside = c.self.inside.beside } in
+    let store : Records = record { records = c.self.inside.records.items; jobs = c.self.inside.jobs.items; standing = c.self.inside.standing; beside = c.self.inside.beside; limits = c.self.inside.limits.items } in
     rw (← c.self.view_is, open_found c.self.inside.records.items c.args.place c.in-Some.socket c.in-Some.ensures.item)
     (ap (λ (l : List Record). let r : Records = record store { records = l } in r) (open_back c.self.inside.records.items c.args.place c.in-Some.socket c.in-Some.ensures.item)
     ∙ sym (ap (λ (b : Bool). (finish_udp_bind_by store c.args.place c.in-Some.socket.now b).1) (sym c.is_bound.ensures ∙ c.if-not-is_bound.true)))

@@ -9,5 +9,5 @@ returns-clause-state c = rw (← c.self.view_is, c.give_back.ensures, c.forget.e
 
 pub returns-clause-sides : goal.returns-clause-sides
 returns-clause-sides c = λ s none k.
-    let before : Records = record { records = c.self.inside.records.items; jobs = c.self.inside.jobs.items; standing = c.self.inside.standing; beside = c.self.inside.beside } in
+    let before : Records = record { records = c.self.inside.records.items; jobs = c.self.inside.jobs.items; standing = c.self.inside.standing; beside = c.self.inside.beside; limits = c.self.inside.limits.items } in
     rw c.give_back.ensures (knows_same before _ (held_still c.self.inside.records.items c.args.place (rw (← c.self.view_is) at none)) (rw (← c.self.view_is) at k))

@@ -16,7 +16,7 @@ returns-in_err-push-clause-asked g c = fault_none c.from_residual.result c.from_
 
 pub returns-in_err-push-clause-sides : goal.returns-in_err-push-clause-sides
 returns-in_err-push-clause-sides g c = λ k.
-    let store : Records = record { records = c.self.inside.records.items; jobs = c.self.inside.jobs.items; standing = c.self.inside.standing; beside = c.self.inside.beside } in
+    let store : Records = record { records = c.self.inside.records.items; jobs = c.self.inside.jobs.items; standing = c.self.inside.standing; beside = c.self.inside.beside; limits = c.self.inside.limits.items } in
     knows_same store _ (ap held_in (open_back c.self.inside.records.items c.args.place c.in-Some.socket c.in-Some.ensures.item)) (rw (← c.self.view_is) at k)
 
 pub returns-in_err-looked-clause-asked : goal.returns-in_err-looked-clause-asked
@@ -26,12 +26,12 @@ returns-in_err-looked-clause-asked g c =
 
 pub returns-in_err-looked-clause-sides : goal.returns-in_err-looked-clause-sides
 returns-in_err-looked-clause-sides g c = λ k.
-    let store : Records = record { records = c.self.inside.records.items; jobs = c.self.inside.jobs.items; standing = c.self.inside.standing; beside = c.self.inside.beside } in
+    let store : Records = record { records = c.self.inside.records.items; jobs = c.self.inside.jobs.items; standing = c.self.inside.standing; beside = c.self.inside.beside; limits = c.self.inside.limits.items } in
     knows_same _ _ refl (knows_open store c.args.place c.in-Some.socket c.look_incoming-looked.new.self c.in-Some.ensures.item c.look_incoming-looked.ensures.side c.look_incoming-looked.ensures.none (rw (← c.self.view_is) at k))
 
 pub returns-clause-asked : goal.returns-clause-asked
 returns-clause-asked g c =
-    let store : Records = record { records = c.self.inside.records.items; jobs = c.self.inside.jobs.items; standing = c.self.inside.standing; beside = c.self.inside.beside } in
+    let store : Records = record { records = c.self.inside.records.items; jobs = c.self.inside.jobs.items; standing = c.self.inside.standing; beside = c.self.inside.beside; limits = c.self.inside.limits.items } in
     let began : c.if-not-before.keep_job ≡ begins_receive c.in-Some.socket.now c.look_incoming-looked.new.self = elim c.if-not-before.branch [ then-not-before w ↦ begins_now _ _ _ (sym c.receives-before.ensures ∙ w.if-not-before.true) (w.keep_job-is ∙ c.receives-waits.ensures) | else-not-before w ↦ begins_none _ _ _ (sym c.receives-before.ensures ∙ w.if-not-before.false) (w.keep_job-is ∙ ap not w.if-not-before.false) ] in
     rw (← c.self.view_is, open_found c.self.inside.records.items c.args.place c.in-Some.socket c.in-Some.ensures.item)
     (asks_end _ c.in_ok-looked.ensures.asked.ok (looked_so store _ c.args.place c.in-Some.socket.now c.look_incoming-looked.new.self c.receives-waits.result c.receives-waits.ensures
@@ -39,5 +39,5 @@ returns-clause-asked g c =
 
 pub returns-clause-sides : goal.returns-clause-sides
 returns-clause-sides g c = λ k.
-    let store : Records = record { records = c.self.inside.records.items; jobs = c.self.inside.jobs.items; standing = c.self.inside.standing; beside = c.self.inside.beside } in
+    let store : Records = record { records = c.self.inside.records.items; jobs = c.self.inside.jobs.items; standing = c.self.inside.standing; beside = c.self.inside.beside; limits = c.self.inside.limits.items } in
     knows_same _ _ refl (knows_open store c.args.place c.in-Some.socket c.look_incoming-looked.new.self c.in-Some.ensures.item c.look_incoming-looked.ensures.side c.look_incoming-looked.ensures.none (rw (← c.self.view_is) at k))

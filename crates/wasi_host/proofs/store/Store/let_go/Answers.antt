@@ -17,7 +17,7 @@ returns-in_err-let_go-clause-asked g c =
 
 pub returns-in_err-let_go-clause-sides : goal.returns-in_err-let_go-clause-sides
 returns-in_err-let_go-clause-sides g c = λ k.
-    let store : Records = record { records = c.self.inside.records.items; jobs = c.self.inside.jobs.items; standing = c.self.inside.standing; beside = c.self.inside.beside } in
+    let store : Records = record { records = c.self.inside.records.items; jobs = c.self.inside.jobs.items; standing = c.self.inside.standing; beside = c.self.inside.beside; limits = c.self.inside.limits.items } in
     knows_polled store c.args.place c.in-Some.record.now c.let_go.new.self (found_at c.self.inside.records.items c.args.place c.in-Some.record c.in-Some.ensures.item) c.let_go.ensures.sides (rw (← c.self.view_is) at k)
 
 pub returns-then-branch-clause-asked : goal.returns-then-branch-clause-asked
@@ -27,7 +27,7 @@ returns-then-branch-clause-asked g c =
 
 pub returns-then-branch-clause-sides : goal.returns-then-branch-clause-sides
 returns-then-branch-clause-sides g c = λ k.
-    let store : Records = record { records = c.self.inside.records.items; jobs = c.self.inside.jobs.items; standing = c.self.inside.standing; beside = c.self.inside.beside } in
+    let store : Records = record { records = c.self.inside.records.items; jobs = c.self.inside.jobs.items; standing = c.self.inside.standing; beside = c.self.inside.beside; limits = c.self.inside.limits.items } in
     c.give_back.ensures.sides (g.W.World.seen c.let_go.new.world) (put_none c.self.inside.records.items c.args.place (Tcp c.let_go.new.self) (c.in_ok-let_go.ensures.none c.if-branch.true))
     (knows_polled store c.args.place c.in-Some.record.now c.let_go.new.self (found_at c.self.inside.records.items c.args.place c.in-Some.record c.in-Some.ensures.item) c.let_go.ensures.sides (rw (← c.self.view_is) at k))
 
@@ -38,5 +38,5 @@ returns-clause-asked g c =
 
 pub returns-clause-sides : goal.returns-clause-sides
 returns-clause-sides g c = λ k.
-    let store : Records = record { records = c.self.inside.records.items; jobs = c.self.inside.jobs.items; standing = c.self.inside.standing; beside = c.self.inside.beside } in
+    let store : Records = record { records = c.self.inside.records.items; jobs = c.self.inside.jobs.items; standing = c.self.inside.standing; beside = c.self.inside.beside; limits = c.self.inside.limits.items } in
     knows_polled store c.args.place c.in-Some.record.now c.let_go.new.self (found_at c.self.inside.records.items c.args.place c.in-Some.record c.in-Some.ensures.item) c.let_go.ensures.sides (rw (← c.self.view_is) at k)

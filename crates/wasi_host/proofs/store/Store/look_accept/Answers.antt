@@ -14,13 +14,13 @@ returns-in_default-clause-names g c = rw (← c.self.view_is, none_at c.self.ins
 
 pub returns-clause-asked : goal.returns-clause-asked
 returns-clause-asked g c =
-    let store : Records = record { records = c.self.inside.records.items; jobs = c.self.inside.jobs.items; standing = c.self.inside.standing; beside = c.self.inside.beside } in
+    let store : Records = record { records = c.self.inside.records.items; jobs = c.self.inside.jobs.items; standing = c.self.inside.standing; beside = c.self.inside.beside; limits = c.self.inside.limits.items } in
     rw (← c.self.view_is, found_at c.self.inside.records.items c.args.place c.in-Some.record c.in-Some.ensures.item, c.unnamed.ensures.told)
     (settled_asked store c.args.place c.look_accept.new.self c.look_accept.result c.look_accept.ensures.asked)
 
 pub returns-clause-sides : goal.returns-clause-sides
 returns-clause-sides g c = λ k.
-    let store : Records = record { records = c.self.inside.records.items; jobs = c.self.inside.jobs.items; standing = c.self.inside.standing; beside = c.self.inside.beside } in
+    let store : Records = record { records = c.self.inside.records.items; jobs = c.self.inside.jobs.items; standing = c.self.inside.standing; beside = c.self.inside.beside; limits = c.self.inside.limits.items } in
     knows_polled store c.args.place c.in-Some.record.now c.look_accept.new.self (found_at c.self.inside.records.items c.args.place c.in-Some.record c.in-Some.ensures.item) c.look_accept.ensures.sides (rw (← c.self.view_is) at k)
 
 pub returns-clause-names : goal.returns-clause-names

@@ -13,6 +13,6 @@ returns-clause-asked g c = rw (← c.self.view_is, found_at c.self.inside.record
 
 pub returns-clause-same : goal.returns-clause-same
 returns-clause-same g c =
-    let store : Records = record { records = c.self.inside.records.items; jobs = c.self.inside.jobs.items; standing = c.self.inside.standing; beside = c.self.inside.beside } in
+    let store : Records = record { records = c.self.inside.records.items; jobs = c.self.inside.jobs.items; standing = c.self.inside.standing; beside = c.self.inside.beside; limits = c.self.inside.limits.items } in
     rw (← c.self.view_is, c.look_to_read.ensures.same)
     (ap (λ (l : List Record). record store { records = l }) (set_back c.self.inside.records.items c.args.place c.in-Some.record c.in-Some.ensures.item))

@@ -10,13 +10,13 @@ use Rattle.wasi_host.proofs.store.Store.make_tcp.Goals as goal
 
 pub returns-in_err-reserve-clause-made : goal.returns-in_err-reserve-clause-made
 returns-in_err-reserve-clause-made g c =
-    let store : Records = record { records = c.self.inside.records.items; jobs = c.self.inside.jobs.items; standing = c.self.inside.standing; beside = c.self.inside.beside } in
+    let store : Records = record { records = c.self.inside.records.items; jobs = c.self.inside.jobs.items; standing = c.self.inside.standing; beside = c.self.inside.beside; limits = c.self.inside.limits.items } in
     rw (← c.self.view_is) (makes_none c.args.own c.args.ctx.now c.args.family _ c.from_residual.result c.from_residual.ensures.1 (ap (λ (l : List Record). let n : Records = record store { records = l } in n) c.reserve.ensures.items)
     (asks_err (new_asks c.args.own c.args.ctx.now c.args.family) (reaches_all _ _)))
 
 pub returns-in_err-socket-clause-made : goal.returns-in_err-socket-clause-made
 returns-in_err-socket-clause-made g c =
-    let store : Records = record { records = c.self.inside.records.items; jobs = c.self.inside.jobs.items; standing = c.self.inside.standing; beside = c.self.inside.beside } in
+    let store : Records = record { records = c.self.inside.records.items; jobs = c.self.inside.jobs.items; standing = c.self.inside.standing; beside = c.self.inside.beside; limits = c.self.inside.limits.items } in
     rw (← c.self.view_is) (makes_none c.args.own c.args.ctx.now c.args.family _ c.from_residual-in_err-socket.result c.from_residual-in_err-socket.ensures.1 (ap (λ (l : List Record). let n : Records = record store { records = l } in n) c.reserve.ensures.items) c.in_err-socket.ensures.asked)
 
 pub returns-in_err-socket-clause-sides : goal.returns-in_err-socket-clause-sides
@@ -24,7 +24,7 @@ returns-in_err-socket-clause-sides g c = λ k. rw c.reserve.ensures.items (knows
 
 pub returns-clause-made : goal.returns-clause-made
 returns-clause-made g c =
-    let store : Records = record { records = c.self.inside.records.items; jobs = c.self.inside.jobs.items; standing = c.self.inside.standing; beside = c.self.inside.beside } in
+    let store : Records = record { records = c.self.inside.records.items; jobs = c.self.inside.jobs.items; standing = c.self.inside.standing; beside = c.self.inside.beside; limits = c.self.inside.limits.items } in
     rw (← c.self.view_is) (record {
       socket = c.in_ok-socket.socket;
       asked = c.in_ok-socket.ensures.asked;
@@ -34,6 +34,6 @@ returns-clause-made g c =
 
 pub returns-clause-sides : goal.returns-clause-sides
 returns-clause-sides g c = λ k.
-    let store : Records = record { records = c.self.inside.records.items; jobs = c.self.inside.jobs.items; standing = c.self.inside.standing; beside = c.self.inside.beside } in
+    let store : Records = record { records = c.self.inside.records.items; jobs = c.self.inside.jobs.items; standing = c.self.inside.standing; beside = c.self.inside.beside; limits = c.self.inside.limits.items } in
     subst (λ (l : List Record). KnowsSides (g.W.World.seen c.new.new.world) (record store { records = l })) (sym (rw (c.reserve.ensures.items, c.new-2.ensures) at c.push_reserved.ensures.items))
     (knows_created c.args.own c.args.ctx.now c.args.family c.in_ok-socket.socket store c.in_ok-socket.ensures.asked.ok c.in_ok-socket.ensures.side (rw (← c.self.view_is) at k))

@@ -14,17 +14,17 @@ returns-in-Ok-clause-asked g c = rw (← c.self.view_is, udp_at c.self.inside.re
 
 pub returns-in-Ok-clause-sides : goal.returns-in-Ok-clause-sides
 returns-in-Ok-clause-sides g c = λ k.
-    let store : Records = record { records = c.self.inside.records.items; jobs = c.self.inside.jobs.items; standing = c.self.inside.standing; beside = c.self.inside.beside } in
+    let store : Records = record { records = c.self.inside.records.items; jobs = c.self.inside.jobs.items; standing = c.self.inside.standing; beside = c.self.inside.beside; limits = c.self.inside.limits.items } in
     knows_fewer store c.args.place c.in-Some.record.now c.poll_create.new.self (udp_at c.self.inside.records.items c.args.place c.in-Some.record c.in-Some.ensures.item) c.poll_create.ensures.held (rw (← c.self.view_is) at k)
 
 pub returns-in-Err-clause-asked : goal.returns-in-Err-clause-asked
 returns-in-Err-clause-asked g c =
-    let store : Records = record { records = c.self.inside.records.items; jobs = c.self.inside.jobs.items; standing = c.self.inside.standing; beside = c.self.inside.beside } in
+    let store : Records = record { records = c.self.inside.records.items; jobs = c.self.inside.jobs.items; standing = c.self.inside.standing; beside = c.self.inside.beside; limits = c.self.inside.limits.items } in
     let found = udp_at c.self.inside.records.items c.args.place c.in-Some.record c.in-Some.ensures.item in
     let left = c.leave_udp.ensures.state c.poll_create.new.self (udp_there store.records c.args.place c.in-Some.record.now c.poll_create.new.self found) ∙ left_put store c.args.place c.poll_create.new.self in
     rw (← c.self.view_is, found) (base_refused _ c.in-Err.refusal c.unnamed.result c.unnamed.ensures.told c.in-Err.ensures.asked (λ code. ap (λ (now : Records). Give (Err (Code code), now)) (sym left)))
 
 pub returns-in-Err-clause-sides : goal.returns-in-Err-clause-sides
 returns-in-Err-clause-sides g c = λ k.
-    let store : Records = record { records = c.self.inside.records.items; jobs = c.self.inside.jobs.items; standing = c.self.inside.standing; beside = c.self.inside.beside } in
+    let store : Records = record { records = c.self.inside.records.items; jobs = c.self.inside.jobs.items; standing = c.self.inside.standing; beside = c.self.inside.beside; limits = c.self.inside.limits.items } in
     c.leave_udp.ensures.sides _ (knows_fewer store c.args.place c.in-Some.record.now c.poll_create.new.self (udp_at c.self.inside.records.items c.args.place c.in-Some.record c.in-Some.ensures.item) c.poll_create.ensures.held (rw (← c.self.view_is) at k))

@@ -6,10 +6,10 @@ use Rattle.wasi_host.proofs.store.Store.read_plain.Goals as goal
 
 pub returns-clause-memory : goal.returns-clause-memory
 returns-clause-memory c =
-    let store : Records = record { records = c.self.inside.records.items; jobs = c.self.inside.jobs.items; standing = c.self.inside.standing; beside = c.self.inside.beside } in
+    let store : Records = record { records = c.self.inside.records.items; jobs = c.self.inside.jobs.items; standing = c.self.inside.standing; beside = c.self.inside.beside; limits = c.self.inside.limits.items } in
     on_err (stream_outcome c.read_octets.result) (λ same. input_back store c.in-Pipe.place c.in-Some.pipe c.read_octets.new.self c.in-Some.ensures.item same ∙ c.self.view_is) c.read_octets.ensures.memory
 
 pub returns-clause-sides : goal.returns-clause-sides
 returns-clause-sides c = λ s k.
-    let store : Records = record { records = c.self.inside.records.items; jobs = c.self.inside.jobs.items; standing = c.self.inside.standing; beside = c.self.inside.beside } in
+    let store : Records = record { records = c.self.inside.records.items; jobs = c.self.inside.jobs.items; standing = c.self.inside.standing; beside = c.self.inside.beside; limits = c.self.inside.limits.items } in
     knows_input store c.in-Pipe.place c.in-Some.pipe _ c.in-Some.ensures.item (rw (← c.self.view_is) at k)

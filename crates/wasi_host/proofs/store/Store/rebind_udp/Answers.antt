@@ -32,7 +32,7 @@ returns-clause-asked g c = rw (← c.self.view_is, open_found c.self.inside.reco
 
 pub returns-clause-sides : goal.returns-clause-sides
 returns-clause-sides g c = λ k.
-    let store : Records = record { records = c.self.inside.records.items; jobs = c.self.inside.jobs.items; standing = c.self.inside.standing; beside = c.self.inside.beside } in
+    let store : Records = record { records = c.self.inside.records.items; jobs = c.self.inside.jobs.items; standing = c.self.inside.standing; beside = c.self.inside.beside; limits = c.self.inside.limits.items } in
     knows_stood (with_open_udp store c.args.place c.leave_udp_bound.new.socket) _ _ _ _ _ c.stand.ensures
     (knows_none store (with_open_udp store c.args.place c.leave_udp_bound.new.socket) c.poll_bind.ensures.none
     (held_in-open c.self.inside.records.items c.args.place c.in-Some.socket.now c.leave_udp_bound.new.socket (open_found c.self.inside.records.items c.args.place c.in-Some.socket c.in-Some.ensures.item)

@@ -30,7 +30,7 @@ returns-in_err-receive-clause-sides g c = λ k.
 
 pub returns-clause-asked : goal.returns-clause-asked
 returns-clause-asked g c =
-    let store : Records = record { records = c.self.inside.records.items; jobs = c.self.inside.jobs.items; standing = c.self.inside.standing; beside = c.self.inside.beside } in
+    let store : Records = record { records = c.self.inside.records.items; jobs = c.self.inside.jobs.items; standing = c.self.inside.standing; beside = c.self.inside.beside; limits = c.self.inside.limits.items } in
     let now = with_udp_inner c.in-Some.socket.now c.recv.new.self in
     rw (← c.self.view_is, open_found c.self.inside.records.items c.args.place c.in-Some.socket c.in-Some.ensures.item, ← c.own.ensures)
     (asks_then _ (reaches_on _ c.in_ok-receive.ensures.asked.ok)

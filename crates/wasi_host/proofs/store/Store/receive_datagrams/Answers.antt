@@ -17,12 +17,12 @@ returns-in_err-push-clause-asked g c = host_none c.from_residual.result c.from_r
 
 pub returns-in_err-push-clause-sides : goal.returns-in_err-push-clause-sides
 returns-in_err-push-clause-sides g c = λ k.
-    let store : Records = record { records = c.self.inside.records.items; jobs = c.self.inside.jobs.items; standing = c.self.inside.standing; beside = c.self.inside.beside } in
+    let store : Records = record { records = c.self.inside.records.items; jobs = c.self.inside.jobs.items; standing = c.self.inside.standing; beside = c.self.inside.beside; limits = c.self.inside.limits.items } in
     knows_same store _ (ap held_in (open_back c.self.inside.records.items c.args.place c.in-Some.socket c.in-Some.ensures.item)) (rw (← c.self.view_is) at k)
 
 pub returns-clause-asked : goal.returns-clause-asked
 returns-clause-asked g c =
-    let store : Records = record { records = c.self.inside.records.items; jobs = c.self.inside.jobs.items; standing = c.self.inside.standing; beside = c.self.inside.beside } in
+    let store : Records = record { records = c.self.inside.records.items; jobs = c.self.inside.jobs.items; standing = c.self.inside.standing; beside = c.self.inside.beside; limits = c.self.inside.limits.items } in
     let recs : c.if-not-before.self-inside.records.items ≡ open_put store.records c.args.place c.receive_datagrams-received.new.self = elim c.if-not-before.branch [ then-not-before w ↦ rw w.self-inside-is refl | else-not-before w ↦ rw w.self-inside-is refl ] in
     let pushed : c.if-not-before.self-inside.jobs.items ≡ store.jobs ++ Receive c.args.place ∷ [] = elim c.if-not-before.branch [ then-not-before w ↦ rw w.self-inside-is c.in_ok-push.ensures.ok | else-not-before w ↦ rw w.self-inside-is c.in_ok-push.ensures.ok ] in
     let stands : c.if-not-before.self-inside.standing ≡ store.standing = elim c.if-not-before.branch [ then-not-before w ↦ rw w.self-inside-is refl | else-not-before w ↦ rw w.self-inside-is refl ] in
@@ -34,19 +34,19 @@ returns-clause-asked g c =
 
 pub returns-clause-sides : goal.returns-clause-sides
 returns-clause-sides g c = λ k.
-    let store : Records = record { records = c.self.inside.records.items; jobs = c.self.inside.jobs.items; standing = c.self.inside.standing; beside = c.self.inside.beside } in
+    let store : Records = record { records = c.self.inside.records.items; jobs = c.self.inside.jobs.items; standing = c.self.inside.standing; beside = c.self.inside.beside; limits = c.self.inside.limits.items } in
     let recs : c.if-not-before.self-inside.records.items ≡ open_put store.records c.args.place c.receive_datagrams-received.new.self = elim c.if-not-before.branch [ then-not-before w ↦ rw w.self-inside-is refl | else-not-before w ↦ rw w.self-inside-is refl ] in
     knows_none store _ c.receive_datagrams-received.ensures.none (ap held_in recs ∙ held_in-open c.self.inside.records.items c.args.place c.in-Some.socket.now c.receive_datagrams-received.new.self (open_found c.self.inside.records.items c.args.place c.in-Some.socket c.in-Some.ensures.item) c.receive_datagrams-received.ensures.side) (rw (← c.self.view_is) at k)
 
 pub returns-in_err-push-clause-lost : goal.returns-in_err-push-clause-lost
 returns-in_err-push-clause-lost g c =
-    let store : Records = record { records = c.self.inside.records.items; jobs = c.self.inside.jobs.items; standing = c.self.inside.standing; beside = c.self.inside.beside } in
+    let store : Records = record { records = c.self.inside.records.items; jobs = c.self.inside.jobs.items; standing = c.self.inside.standing; beside = c.self.inside.beside; limits = c.self.inside.limits.items } in
     rw (← c.self.view_is, open_found c.self.inside.records.items c.args.place c.in-Some.socket c.in-Some.ensures.item, c.in_err-push.ensures.err)
     (nothing_taken c.from_residual.result c.args.most c.args.ids.now c.args.place store _ c.in-Some.socket.now _ refl)
 
 pub returns-clause-lost : goal.returns-clause-lost
 returns-clause-lost g c =
-    let store : Records = record { records = c.self.inside.records.items; jobs = c.self.inside.jobs.items; standing = c.self.inside.standing; beside = c.self.inside.beside } in
+    let store : Records = record { records = c.self.inside.records.items; jobs = c.self.inside.jobs.items; standing = c.self.inside.standing; beside = c.self.inside.beside; limits = c.self.inside.limits.items } in
     let recs : c.if-not-before.self-inside.records.items ≡ open_put store.records c.args.place c.receive_datagrams-received.new.self = elim c.if-not-before.branch [ then-not-before w ↦ rw w.self-inside-is refl | else-not-before w ↦ rw w.self-inside-is refl ] in
     let pushed : c.if-not-before.self-inside.jobs.items ≡ store.jobs ++ Receive c.args.place ∷ [] = elim c.if-not-before.branch [ then-not-before w ↦ rw w.self-inside-is c.in_ok-push.ensures.ok | else-not-before w ↦ rw w.self-inside-is c.in_ok-push.ensures.ok ] in
     let stands : c.if-not-before.self-inside.standing ≡ store.standing = elim c.if-not-before.branch [ then-not-before w ↦ rw w.self-inside-is refl | else-not-before w ↦ rw w.self-inside-is refl ] in

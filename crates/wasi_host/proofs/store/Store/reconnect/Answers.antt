@@ -15,7 +15,7 @@ returns-in_err-answer-clause-asked g c =
 
 pub returns-in_err-answer-clause-sides : goal.returns-in_err-answer-clause-sides
 returns-in_err-answer-clause-sides g c = λ k.
-    let store : Records = record { records = c.self.inside.records.items; jobs = c.self.inside.jobs.items; standing = c.self.inside.standing; beside = c.self.inside.beside } in
+    let store : Records = record { records = c.self.inside.records.items; jobs = c.self.inside.jobs.items; standing = c.self.inside.standing; beside = c.self.inside.beside; limits = c.self.inside.limits.items } in
     knows_open store c.args.place c.in-Some.socket c.poll_connect.new.self c.in-Some.ensures.item c.poll_connect.ensures.side c.poll_connect.ensures.none (rw (← c.self.view_is) at k)
 
 pub returns-clause-asked : goal.returns-clause-asked
@@ -25,5 +25,5 @@ returns-clause-asked g c =
 
 pub returns-clause-sides : goal.returns-clause-sides
 returns-clause-sides g c = λ k.
-    let store : Records = record { records = c.self.inside.records.items; jobs = c.self.inside.jobs.items; standing = c.self.inside.standing; beside = c.self.inside.beside } in
+    let store : Records = record { records = c.self.inside.records.items; jobs = c.self.inside.jobs.items; standing = c.self.inside.standing; beside = c.self.inside.beside; limits = c.self.inside.limits.items } in
     knows_open-stood store _ c.args.place c.in-Some.socket c.poll_connect.new.self _ _ _ _ c.stand.ensures c.in-Some.ensures.item c.poll_connect.ensures.side c.poll_connect.ensures.none (rw (← c.self.view_is) at k)

@@ -11,13 +11,13 @@ returns-in_default-clause-asked g c = rw (← c.self.view_is, none_at c.self.ins
 
 pub returns-clause-asked : goal.returns-clause-asked
 returns-clause-asked g c =
-    let store : Records = record { records = c.self.inside.records.items; jobs = c.self.inside.jobs.items; standing = c.self.inside.standing; beside = c.self.inside.beside } in
+    let store : Records = record { records = c.self.inside.records.items; jobs = c.self.inside.jobs.items; standing = c.self.inside.standing; beside = c.self.inside.beside; limits = c.self.inside.limits.items } in
     rw (← c.self.view_is, found_at c.self.inside.records.items c.args.place c.in-Some.record c.in-Some.ensures.item, c.unnamed.ensures.told, c.keep_polled.ensures)
     (polled_asked store c.args.place c.reconnect-connected.new.record c.args.line c.reconnect-connected.result c.reconnect-connected.ensures.asked)
 
 pub returns-clause-sides : goal.returns-clause-sides
 returns-clause-sides g c = λ k.
-    let store : Records = record { records = c.self.inside.records.items; jobs = c.self.inside.jobs.items; standing = c.self.inside.standing; beside = c.self.inside.beside } in
+    let store : Records = record { records = c.self.inside.records.items; jobs = c.self.inside.jobs.items; standing = c.self.inside.standing; beside = c.self.inside.beside; limits = c.self.inside.limits.items } in
     knows_same _ _ refl (knows_polled store c.args.place c.in-Some.record.now c.reconnect-connected.new.record (found_at c.self.inside.records.items c.args.place c.in-Some.record c.in-Some.ensures.item) c.reconnect-connected.ensures.sides (rw (← c.self.view_is) at k))
 
 pub returns-clause-stays : goal.returns-clause-stays

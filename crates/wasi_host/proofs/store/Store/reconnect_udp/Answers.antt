@@ -29,7 +29,7 @@ returns-clause-asked g c = rw (← c.self.view_is, open_found c.self.inside.reco
 
 pub returns-clause-sides : goal.returns-clause-sides
 returns-clause-sides g c = λ k.
-    let store : Records = record { records = c.self.inside.records.items; jobs = c.self.inside.jobs.items; standing = c.self.inside.standing; beside = c.self.inside.beside } in
+    let store : Records = record { records = c.self.inside.records.items; jobs = c.self.inside.jobs.items; standing = c.self.inside.standing; beside = c.self.inside.beside; limits = c.self.inside.limits.items } in
     knows_stood (with_open_udp store c.args.place c.reconnect.new.self) _ _ _ _ _ c.stand.ensures
     (knows_none store (with_open_udp store c.args.place c.reconnect.new.self) c.reconnect.ensures.none
     (held_in-open c.self.inside.records.items c.args.place c.in-Some.socket.now c.reconnect.new.self (open_found c.self.inside.records.items c.args.place c.in-Some.socket c.in-Some.ensures.item) c.reconnect.ensures.side)

@@ -18,24 +18,24 @@ returns-in_err-close-clause-asked g c = rw (← c.self.view_is, udp_at c.self.in
 
 pub returns-in_err-close-clause-sides : goal.returns-in_err-close-clause-sides
 returns-in_err-close-clause-sides g c = λ k.
-    let store : Records = record { records = c.self.inside.records.items; jobs = c.self.inside.jobs.items; standing = c.self.inside.standing; beside = c.self.inside.beside } in
+    let store : Records = record { records = c.self.inside.records.items; jobs = c.self.inside.jobs.items; standing = c.self.inside.standing; beside = c.self.inside.beside; limits = c.self.inside.limits.items } in
     knows_fewer store c.args.place c.in-Some.record.now c.close.new.self (udp_at c.self.inside.records.items c.args.place c.in-Some.record c.in-Some.ensures.item) c.close.ensures.held (rw (← c.self.view_is) at k)
 
 pub returns-clause-asked : goal.returns-clause-asked
 returns-clause-asked g c =
-    let store : Records = record { records = c.self.inside.records.items; jobs = c.self.inside.jobs.items; standing = c.self.inside.standing; beside = c.self.inside.beside } in
+    let store : Records = record { records = c.self.inside.records.items; jobs = c.self.inside.jobs.items; standing = c.self.inside.standing; beside = c.self.inside.beside; limits = c.self.inside.limits.items } in
     let found = udp_at c.self.inside.records.items c.args.place c.in-Some.record c.in-Some.ensures.item in
     let left = c.leave_udp.ensures.state c.close.new.self (udp_there store.records c.args.place c.in-Some.record.now c.close.new.self found) ∙ left_put store c.args.place c.close.new.self in
     rw (← c.self.view_is, found) (asks_end _ c.in_ok-close.ensures.asked.ok (ap (λ (now : Records). Give (tt, now)) (sym left)))
 
 pub returns-clause-sides : goal.returns-clause-sides
 returns-clause-sides g c = λ k.
-    let store : Records = record { records = c.self.inside.records.items; jobs = c.self.inside.jobs.items; standing = c.self.inside.standing; beside = c.self.inside.beside } in
+    let store : Records = record { records = c.self.inside.records.items; jobs = c.self.inside.jobs.items; standing = c.self.inside.standing; beside = c.self.inside.beside; limits = c.self.inside.limits.items } in
     c.leave_udp.ensures.sides _ (knows_fewer store c.args.place c.in-Some.record.now c.close.new.self (udp_at c.self.inside.records.items c.args.place c.in-Some.record c.in-Some.ensures.item) c.close.ensures.held (rw (← c.self.view_is) at k))
 
 pub returns-in_err-close-clause-err : goal.returns-in_err-close-clause-err
 returns-in_err-close-clause-err g c =
-    let store : Records = record { records = c.self.inside.records.items; jobs = c.self.inside.jobs.items; standing = c.self.inside.standing; beside = c.self.inside.beside } in
+    let store : Records = record { records = c.self.inside.records.items; jobs = c.self.inside.jobs.items; standing = c.self.inside.standing; beside = c.self.inside.beside; limits = c.self.inside.limits.items } in
     let found = udp_at c.self.inside.records.items c.args.place c.in-Some.record c.in-Some.ensures.item in
     let same : with_udp store c.args.place c.close.new.self ≡ store = rw c.in_err-close.ensures.err (ap (λ (l : List Record). let r : Records = record store { records = l } in r) (udp_put_same c.self.inside.records.items c.args.place c.in-Some.record.now found)) in
     on_err c.from_residual.result (same ∙ c.self.view_is)

@@ -19,7 +19,7 @@ anyone = record { remote = None; receiving = receiving.Nothing }
 
 pub returns-in_ok-drop_datagram-in-Ok-Ready-clause-asked : goal.returns-in_ok-drop_datagram-in-Ok-Ready-clause-asked
 returns-in_ok-drop_datagram-in-Ok-Ready-clause-asked g c = λ op its.
-    let store : Records = record { records = c.self.inside.records.items; jobs = c.self.inside.jobs.items; standing = c.self.inside.standing; beside = c.self.inside.beside } in
+    let store : Records = record { records = c.self.inside.records.items; jobs = c.self.inside.jobs.items; standing = c.self.inside.standing; beside = c.self.inside.beside; limits = c.self.inside.limits.items } in
     let same : op ≡ c.in-Some-Receive.receive = same_receive c.replace.result _ c.args.place _ op c.in-Some-Receive.receive c.in-Some-Receive.field-0 c.in-Some-Receive.is c.in-Some-Receive.field-0-is c.replace.ensures.before (rw (← c.self.view_is) at its) in
     let told = rw (c.into_inner-receive.ensures.receive, c.in-Ok-Ready.field-0-is) at (c.in-Ok-Ready.ensures.polled c.into_inner-receive.ensures.going) in
     rw (← c.self.view_is, ← c.in-Some.ensures.item, same, c.datagram_of.ensures)
@@ -27,7 +27,7 @@ returns-in_ok-drop_datagram-in-Ok-Ready-clause-asked g c = λ op its.
 
 pub returns-in_err-drop_datagram-in-Ok-Ready-clause-asked : goal.returns-in_err-drop_datagram-in-Ok-Ready-clause-asked
 returns-in_err-drop_datagram-in-Ok-Ready-clause-asked g c = λ op its.
-    let store : Records = record { records = c.self.inside.records.items; jobs = c.self.inside.jobs.items; standing = c.self.inside.standing; beside = c.self.inside.beside } in
+    let store : Records = record { records = c.self.inside.records.items; jobs = c.self.inside.jobs.items; standing = c.self.inside.standing; beside = c.self.inside.beside; limits = c.self.inside.limits.items } in
     let same : op ≡ c.in-Some-Receive.receive = same_receive c.replace.result _ c.args.place _ op c.in-Some-Receive.receive c.in-Some-Receive.field-0 c.in-Some-Receive.is c.in-Some-Receive.field-0-is c.replace.ensures.before (rw (← c.self.view_is) at its) in
     let told = rw (c.into_inner-receive.ensures.receive, c.in-Ok-Ready.field-0-is) at (c.in-Ok-Ready.ensures.polled c.into_inner-receive.ensures.going) in
     rw (← c.self.view_is, ← c.in-Some.ensures.item, same)
@@ -35,7 +35,7 @@ returns-in_err-drop_datagram-in-Ok-Ready-clause-asked g c = λ op its.
 
 pub returns-in_ok-drop_datagram-in-Err-Code-clause-asked : goal.returns-in_ok-drop_datagram-in-Err-Code-clause-asked
 returns-in_ok-drop_datagram-in-Err-Code-clause-asked g c = λ op its.
-    let store : Records = record { records = c.self.inside.records.items; jobs = c.self.inside.jobs.items; standing = c.self.inside.standing; beside = c.self.inside.beside } in
+    let store : Records = record { records = c.self.inside.records.items; jobs = c.self.inside.jobs.items; standing = c.self.inside.standing; beside = c.self.inside.beside; limits = c.self.inside.limits.items } in
     let same : op ≡ c.in-Some-Receive.receive = same_receive c.replace.result _ c.args.place _ op c.in-Some-Receive.receive c.in-Some-Receive.field-0 c.in-Some-Receive.is c.in-Some-Receive.field-0-is c.replace.ensures.before (rw (← c.self.view_is) at its) in
     let told = rw (c.into_inner-receive.ensures.receive, c.in-Err-Code.field-0-is) at (c.in-Err-Code.ensures.polled c.into_inner-receive.ensures.going) in
     rw (← c.self.view_is, ← c.in-Some.ensures.item, same)
@@ -43,7 +43,7 @@ returns-in_ok-drop_datagram-in-Err-Code-clause-asked g c = λ op its.
 
 pub returns-in_err-drop_datagram-in-Err-Code-clause-asked : goal.returns-in_err-drop_datagram-in-Err-Code-clause-asked
 returns-in_err-drop_datagram-in-Err-Code-clause-asked g c = λ op its.
-    let store : Records = record { records = c.self.inside.records.items; jobs = c.self.inside.jobs.items; standing = c.self.inside.standing; beside = c.self.inside.beside } in
+    let store : Records = record { records = c.self.inside.records.items; jobs = c.self.inside.jobs.items; standing = c.self.inside.standing; beside = c.self.inside.beside; limits = c.self.inside.limits.items } in
     let same : op ≡ c.in-Some-Receive.receive = same_receive c.replace.result _ c.args.place _ op c.in-Some-Receive.receive c.in-Some-Receive.field-0 c.in-Some-Receive.is c.in-Some-Receive.field-0-is c.replace.ensures.before (rw (← c.self.view_is) at its) in
     let told = rw (c.into_inner-receive.ensures.receive, c.in-Err-Code.field-0-is) at (c.in-Err-Code.ensures.polled c.into_inner-receive.ensures.going) in
     rw (← c.self.view_is, ← c.in-Some.ensures.item, same)
@@ -51,7 +51,7 @@ returns-in_err-drop_datagram-in-Err-Code-clause-asked g c = λ op its.
 
 pub returns-in-Ok-Pending-clause-asked : goal.returns-in-Ok-Pending-clause-asked
 returns-in-Ok-Pending-clause-asked g c = λ op its.
-    let store : Records = record { records = c.self.inside.records.items; jobs = c.self.inside.jobs.items; standing = c.self.inside.standing; beside = c.self.inside.beside } in
+    let store : Records = record { records = c.self.inside.records.items; jobs = c.self.inside.jobs.items; standing = c.self.inside.standing; beside = c.self.inside.beside; limits = c.self.inside.limits.items } in
     let same : op ≡ c.in-Some-Receive.receive = same_receive c.replace.result _ c.args.place _ op c.in-Some-Receive.receive c.in-Some-Receive.field-0 c.in-Some-Receive.is c.in-Some-Receive.field-0-is c.replace.ensures.before (rw (← c.self.view_is) at its) in
     let told = rw (c.into_inner-receive.ensures.receive, c.in-Ok-Pending.field-0-is) at (c.in-Ok-Pending.ensures.polled c.into_inner-receive.ensures.going) in
     rw (← c.self.view_is, ← c.in-Some.ensures.item, same, c.put_receive.ensures)
@@ -59,7 +59,7 @@ returns-in-Ok-Pending-clause-asked g c = λ op its.
 
 pub returns-in-Err-Memory-clause-asked : goal.returns-in-Err-Memory-clause-asked
 returns-in-Err-Memory-clause-asked g c = λ op its.
-    let store : Records = record { records = c.self.inside.records.items; jobs = c.self.inside.jobs.items; standing = c.self.inside.standing; beside = c.self.inside.beside } in
+    let store : Records = record { records = c.self.inside.records.items; jobs = c.self.inside.jobs.items; standing = c.self.inside.standing; beside = c.self.inside.beside; limits = c.self.inside.limits.items } in
     let same : op ≡ c.in-Some-Receive.receive = same_receive c.replace.result _ c.args.place _ op c.in-Some-Receive.receive c.in-Some-Receive.field-0 c.in-Some-Receive.is c.in-Some-Receive.field-0-is c.replace.ensures.before (rw (← c.self.view_is) at its) in
     let told = rw (c.into_inner-receive.ensures.receive, c.in-Err-Memory.field-0-is) at (c.in-Err-Memory.ensures.polled c.into_inner-receive.ensures.going) in
     rw (← c.self.view_is, ← c.in-Some.ensures.item, same)

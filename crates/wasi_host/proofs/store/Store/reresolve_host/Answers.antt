@@ -9,7 +9,7 @@ use Rattle.wasi_host.proofs.store.Store.reresolve_host.Goals as goal
 
 pub returns-clause-asked : goal.returns-clause-asked
 returns-clause-asked g c =
-    let store : Records = record { records = c.self.inside.records.items; jobs = c.self.inside.jobs.items; standing = c.self.inside.standing; beside = c.self.inside.beside } in
+    let store : Records = record { records = c.self.inside.records.items; jobs = c.self.inside.jobs.items; standing = c.self.inside.standing; beside = c.self.inside.beside; limits = c.self.inside.limits.items } in
     rw (← c.self.view_is, c.resolved.ensures, c.keep_polled.ensures)
     (polled_asked store c.args.line c.args.host c.lookup-told.result c.lookup-told.ensures.asked)
 

@@ -13,7 +13,7 @@ use Rattle.wasi_host.proofs.store.Store.resend.Goals as goal
 
 pub returns-in_ok-drop_datagram-in-Ok-Ready-clause-asked : goal.returns-in_ok-drop_datagram-in-Ok-Ready-clause-asked
 returns-in_ok-drop_datagram-in-Ok-Ready-clause-asked g c = λ op its.
-    let store : Records = record { records = c.self.inside.records.items; jobs = c.self.inside.jobs.items; standing = c.self.inside.standing; beside = c.self.inside.beside } in
+    let store : Records = record { records = c.self.inside.records.items; jobs = c.self.inside.jobs.items; standing = c.self.inside.standing; beside = c.self.inside.beside; limits = c.self.inside.limits.items } in
     let same : op ≡ c.in-Some-Send.send = same_send c.replace.result _ c.args.place _ op c.in-Some-Send.send c.in-Some-Send.field-0 c.in-Some-Send.is c.in-Some-Send.field-0-is c.replace.ensures.before (rw (← c.self.view_is) at its) in
     let told = rw (c.into_inner-send.ensures.send, c.in-Ok-Ready.field-0-is) at (c.in-Ok-Ready.ensures.polled c.into_inner-send.ensures.going) in
     rw (← c.self.view_is, ← c.in-Some.ensures.item, same)
@@ -21,7 +21,7 @@ returns-in_ok-drop_datagram-in-Ok-Ready-clause-asked g c = λ op its.
 
 pub returns-in_err-drop_datagram-in-Ok-Ready-clause-asked : goal.returns-in_err-drop_datagram-in-Ok-Ready-clause-asked
 returns-in_err-drop_datagram-in-Ok-Ready-clause-asked g c = λ op its.
-    let store : Records = record { records = c.self.inside.records.items; jobs = c.self.inside.jobs.items; standing = c.self.inside.standing; beside = c.self.inside.beside } in
+    let store : Records = record { records = c.self.inside.records.items; jobs = c.self.inside.jobs.items; standing = c.self.inside.standing; beside = c.self.inside.beside; limits = c.self.inside.limits.items } in
     let same : op ≡ c.in-Some-Send.send = same_send c.replace.result _ c.args.place _ op c.in-Some-Send.send c.in-Some-Send.field-0 c.in-Some-Send.is c.in-Some-Send.field-0-is c.replace.ensures.before (rw (← c.self.view_is) at its) in
     let told = rw (c.into_inner-send.ensures.send, c.in-Ok-Ready.field-0-is) at (c.in-Ok-Ready.ensures.polled c.into_inner-send.ensures.going) in
     rw (← c.self.view_is, ← c.in-Some.ensures.item, same)
@@ -29,7 +29,7 @@ returns-in_err-drop_datagram-in-Ok-Ready-clause-asked g c = λ op its.
 
 pub returns-in_ok-drop_datagram-in-Err-Code-clause-asked : goal.returns-in_ok-drop_datagram-in-Err-Code-clause-asked
 returns-in_ok-drop_datagram-in-Err-Code-clause-asked g c = λ op its.
-    let store : Records = record { records = c.self.inside.records.items; jobs = c.self.inside.jobs.items; standing = c.self.inside.standing; beside = c.self.inside.beside } in
+    let store : Records = record { records = c.self.inside.records.items; jobs = c.self.inside.jobs.items; standing = c.self.inside.standing; beside = c.self.inside.beside; limits = c.self.inside.limits.items } in
     let same : op ≡ c.in-Some-Send.send = same_send c.replace.result _ c.args.place _ op c.in-Some-Send.send c.in-Some-Send.field-0 c.in-Some-Send.is c.in-Some-Send.field-0-is c.replace.ensures.before (rw (← c.self.view_is) at its) in
     let told = rw (c.into_inner-send.ensures.send, c.in-Err-Code.field-0-is) at (c.in-Err-Code.ensures.polled c.into_inner-send.ensures.going) in
     rw (← c.self.view_is, ← c.in-Some.ensures.item, same)
@@ -37,7 +37,7 @@ returns-in_ok-drop_datagram-in-Err-Code-clause-asked g c = λ op its.
 
 pub returns-in_err-drop_datagram-in-Err-Code-clause-asked : goal.returns-in_err-drop_datagram-in-Err-Code-clause-asked
 returns-in_err-drop_datagram-in-Err-Code-clause-asked g c = λ op its.
-    let store : Records = record { records = c.self.inside.records.items; jobs = c.self.inside.jobs.items; standing = c.self.inside.standing; beside = c.self.inside.beside } in
+    let store : Records = record { records = c.self.inside.records.items; jobs = c.self.inside.jobs.items; standing = c.self.inside.standing; beside = c.self.inside.beside; limits = c.self.inside.limits.items } in
     let same : op ≡ c.in-Some-Send.send = same_send c.replace.result _ c.args.place _ op c.in-Some-Send.send c.in-Some-Send.field-0 c.in-Some-Send.is c.in-Some-Send.field-0-is c.replace.ensures.before (rw (← c.self.view_is) at its) in
     let told = rw (c.into_inner-send.ensures.send, c.in-Err-Code.field-0-is) at (c.in-Err-Code.ensures.polled c.into_inner-send.ensures.going) in
     rw (← c.self.view_is, ← c.in-Some.ensures.item, same)
@@ -45,7 +45,7 @@ returns-in_err-drop_datagram-in-Err-Code-clause-asked g c = λ op its.
 
 pub returns-in-Ok-Pending-clause-asked : goal.returns-in-Ok-Pending-clause-asked
 returns-in-Ok-Pending-clause-asked g c = λ op its.
-    let store : Records = record { records = c.self.inside.records.items; jobs = c.self.inside.jobs.items; standing = c.self.inside.standing; beside = c.self.inside.beside } in
+    let store : Records = record { records = c.self.inside.records.items; jobs = c.self.inside.jobs.items; standing = c.self.inside.standing; beside = c.self.inside.beside; limits = c.self.inside.limits.items } in
     let same : op ≡ c.in-Some-Send.send = same_send c.replace.result _ c.args.place _ op c.in-Some-Send.send c.in-Some-Send.field-0 c.in-Some-Send.is c.in-Some-Send.field-0-is c.replace.ensures.before (rw (← c.self.view_is) at its) in
     let told = rw (c.into_inner-send.ensures.send, c.in-Ok-Pending.field-0-is) at (c.in-Ok-Pending.ensures.polled c.into_inner-send.ensures.going) in
     rw (← c.self.view_is, ← c.in-Some.ensures.item, same, c.put_send.ensures)
@@ -53,7 +53,7 @@ returns-in-Ok-Pending-clause-asked g c = λ op its.
 
 pub returns-in-Err-Memory-clause-asked : goal.returns-in-Err-Memory-clause-asked
 returns-in-Err-Memory-clause-asked g c = λ op its.
-    let store : Records = record { records = c.self.inside.records.items; jobs = c.self.inside.jobs.items; standing = c.self.inside.standing; beside = c.self.inside.beside } in
+    let store : Records = record { records = c.self.inside.records.items; jobs = c.self.inside.jobs.items; standing = c.self.inside.standing; beside = c.self.inside.beside; limits = c.self.inside.limits.items } in
     let same : op ≡ c.in-Some-Send.send = same_send c.replace.result _ c.args.place _ op c.in-Some-Send.send c.in-Some-Send.field-0 c.in-Some-Send.is c.in-Some-Send.field-0-is c.replace.ensures.before (rw (← c.self.view_is) at its) in
     let told = rw (c.into_inner-send.ensures.send, c.in-Err-Memory.field-0-is) at (c.in-Err-Memory.ensures.polled c.into_inner-send.ensures.going) in
     rw (← c.self.view_is, ← c.in-Some.ensures.item, same)

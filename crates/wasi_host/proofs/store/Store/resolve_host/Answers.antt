@@ -21,7 +21,7 @@ returns-in_err-push-clause-asked g c = ends_none c.from_residual-in_err-push.res
 
 pub returns-clause-asked : goal.returns-clause-asked
 returns-clause-asked g c =
-    let store : Records = record { records = c.self.inside.records.items; jobs = c.self.inside.jobs.items; standing = c.self.inside.standing; beside = c.self.inside.beside } in
+    let store : Records = record { records = c.self.inside.records.items; jobs = c.self.inside.jobs.items; standing = c.self.inside.standing; beside = c.self.inside.beside; limits = c.self.inside.limits.items } in
     let call = beside_as c.args.ids.line (Resolve c.args.host) in
     rw (← c.self.view_is, c.resolved.ensures, c.keep_begun.ensures store.beside call c.in_ok-push.ensures.ok)
     (begun_asked store c.args.ids.line c.args.host call c.lookup-told.result (asks_at (λ (op : OpId). ask_lookup op c.args.host) (sym c.own.ensures) (rw c.in_ok-asked.ensures at c.lookup-told.ensures.asked)))

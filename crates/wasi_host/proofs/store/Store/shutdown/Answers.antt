@@ -13,7 +13,7 @@ returns-in_default-clause-asked g c = rw (← c.self.view_is, none_at c.self.ins
 
 pub returns-clause-asked : goal.returns-clause-asked
 returns-clause-asked g c =
-    let store : Records = record { records = c.self.inside.records.items; jobs = c.self.inside.jobs.items; standing = c.self.inside.standing; beside = c.self.inside.beside } in
+    let store : Records = record { records = c.self.inside.records.items; jobs = c.self.inside.jobs.items; standing = c.self.inside.standing; beside = c.self.inside.beside; limits = c.self.inside.limits.items } in
     rw (← c.self.view_is, found_at c.self.inside.records.items c.args.place c.in-Some.record c.in-Some.ensures.item)
     (asks_gives (shut_put store c.args.place) c.shutdown.ensures.asked)
 

@@ -15,36 +15,36 @@ use Rattle.wasi_host.proofs.store.Store.start_streams.Goals as goal
 
 pub returns-then-has_streams-clause-asked : goal.returns-then-has_streams-clause-asked
 returns-then-has_streams-clause-asked g c =
-    let store : Records = record { records = c.self.inside.records.items; jobs = c.self.inside.jobs.items; standing = c.self.inside.standing; beside = c.self.inside.beside } in
+    let store : Records = record { records = c.self.inside.records.items; jobs = c.self.inside.jobs.items; standing = c.self.inside.standing; beside = c.self.inside.beside; limits = c.self.inside.limits.items } in
     rw (← c.self.view_is, open_found c.self.inside.records.items c.args.place c.in-Some.socket c.in-Some.ensures.item)
     (asks_at (start_streams_by store c.args.ids c.args.place c.args.handle c.args.remote c.in-Some.socket.now) (sym c.has_streams.ensures ∙ c.if-has_streams.true)
     (asks_given (Err (Trap StreamsAlive)) _ refl (ap (λ (r : Records). Give (Err (Trap StreamsAlive), r)) (sym (given_back store c.args.place c.in-Some.socket c.in-Some.ensures.item)))))
 
 pub returns-then-has_streams-clause-sides : goal.returns-then-has_streams-clause-sides
 returns-then-has_streams-clause-sides g c = λ k.
-    let store : Records = record { records = c.self.inside.records.items; jobs = c.self.inside.jobs.items; standing = c.self.inside.standing; beside = c.self.inside.beside } in
+    let store : Records = record { records = c.self.inside.records.items; jobs = c.self.inside.jobs.items; standing = c.self.inside.standing; beside = c.self.inside.beside; limits = c.self.inside.limits.items } in
     knows_back store c.args.place c.in-Some.socket c.in-Some.ensures.item (rw (← c.self.view_is) at k)
 
 pub returns-in_err-answer-clause-asked : goal.returns-in_err-answer-clause-asked
 returns-in_err-answer-clause-asked g c =
-    let store : Records = record { records = c.self.inside.records.items; jobs = c.self.inside.jobs.items; standing = c.self.inside.standing; beside = c.self.inside.beside } in
+    let store : Records = record { records = c.self.inside.records.items; jobs = c.self.inside.jobs.items; standing = c.self.inside.standing; beside = c.self.inside.beside; limits = c.self.inside.limits.items } in
     rw (← c.self.view_is, open_found c.self.inside.records.items c.args.place c.in-Some.socket c.in-Some.ensures.item)
     (asks_at (start_streams_by store c.args.ids c.args.place c.args.handle c.args.remote c.in-Some.socket.now) (sym c.has_streams.ensures ∙ c.if-has_streams.false)
     (host_refused _ _ c.from_residual.result c.from_residual.ensures.1 (asks_at (λ (x : OpId). begin_streams_asks x c.in-Some.socket.now c.args.remote) (sym c.own.ensures) c.in_err-answer.ensures.asked) (λ code. refl)))
 
 pub returns-in_err-answer-clause-sides : goal.returns-in_err-answer-clause-sides
 returns-in_err-answer-clause-sides g c = λ k.
-    let store : Records = record { records = c.self.inside.records.items; jobs = c.self.inside.jobs.items; standing = c.self.inside.standing; beside = c.self.inside.beside } in
+    let store : Records = record { records = c.self.inside.records.items; jobs = c.self.inside.jobs.items; standing = c.self.inside.standing; beside = c.self.inside.beside; limits = c.self.inside.limits.items } in
     knows_open store c.args.place c.in-Some.socket c.begin_streams.new.self c.in-Some.ensures.item c.begin_streams.ensures.side c.begin_streams.ensures.none (rw (← c.self.view_is) at k)
 
 pub returns-clause-asked : goal.returns-clause-asked
 returns-clause-asked g c =
-    let store : Records = record { records = c.self.inside.records.items; jobs = c.self.inside.jobs.items; standing = c.self.inside.standing; beside = c.self.inside.beside } in
+    let store : Records = record { records = c.self.inside.records.items; jobs = c.self.inside.jobs.items; standing = c.self.inside.standing; beside = c.self.inside.beside; limits = c.self.inside.limits.items } in
     rw (← c.self.view_is, open_found c.self.inside.records.items c.args.place c.in-Some.socket c.in-Some.ensures.item)
     (asks_at (start_streams_by store c.args.ids c.args.place c.args.handle c.args.remote c.in-Some.socket.now) (sym c.has_streams.ensures ∙ c.if-has_streams.false)
     (asks_end _ (asks_at (λ (x : OpId). begin_streams_asks x c.in-Some.socket.now c.args.remote) (sym c.own.ensures) c.in_ok-answer.ensures.asked).ok (ap (λ d. Give (allowed_answer d)) (sym c.stand.ensures))))
 
 pub returns-clause-sides : goal.returns-clause-sides
 returns-clause-sides g c = λ k.
-    let store : Records = record { records = c.self.inside.records.items; jobs = c.self.inside.jobs.items; standing = c.self.inside.standing; beside = c.self.inside.beside } in
+    let store : Records = record { records = c.self.inside.records.items; jobs = c.self.inside.jobs.items; standing = c.self.inside.standing; beside = c.self.inside.beside; limits = c.self.inside.limits.items } in
     knows_open-stood store _ c.args.place c.in-Some.socket c.begin_streams.new.self _ _ _ _ c.stand.ensures c.in-Some.ensures.item c.begin_streams.ensures.side c.begin_streams.ensures.none (rw (← c.self.view_is) at k)

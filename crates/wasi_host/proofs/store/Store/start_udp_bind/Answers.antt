@@ -20,14 +20,14 @@ returns-in_default-clause-asked g c = rw (← c.self.view_is, not_open c.self.in
 
 pub returns-then-not-is_nothing-clause-asked : goal.returns-then-not-is_nothing-clause-asked
 returns-then-not-is_nothing-clause-asked g c =
-    let store : Records = record { records = c.self.inside.records.items; jobs = c.self.inside.jobs.items; standing = c.self.inside.standing; beside = c.self.inside.beside } in
+    let store : Records = record { records = c.self.inside.records.items; jobs = c.self.inside.jobs.items; standing = c.self.inside.standing; beside = c.self.inside.beside; limits = c.self.inside.limits.items } in
     rw (← c.self.view_is, open_found c.self.inside.records.items c.args.place c.in-Some.socket c.in-Some.ensures.item)
     (asks_at (start_udp_bind_by store c.args.ids c.args.place c.args.addr c.in-Some.socket.now) (sym c.is_nothing.ensures ∙ c.if-not-is_nothing.true)
     (asks_given (Err (Code ConcurrencyConflict)) _ refl (ap (λ (l : List Record). Give (Err (Code ConcurrencyConflict), record store { records = l })) (sym (open_back c.self.inside.records.items c.args.place c.in-Some.socket c.in-Some.ensures.item)))))
 
 pub returns-in_err-answer-clause-asked : goal.returns-in_err-answer-clause-asked
 returns-in_err-answer-clause-asked g c =
-    let store : Records = record { records = c.self.inside.records.items; jobs = c.self.inside.jobs.items; standing = c.self.inside.standing; beside = c.self.inside.beside } in
+    let store : Records = record { records = c.self.inside.records.items; jobs = c.self.inside.jobs.items; standing = c.self.inside.standing; beside = c.self.inside.beside; limits = c.self.inside.limits.items } in
     rw (← c.self.view_is, open_found c.self.inside.records.items c.args.place c.in-Some.socket c.in-Some.ensures.item)
     (asks_at (start_udp_bind_by store c.args.ids c.args.place c.args.addr c.in-Some.socket.now) (sym c.is_nothing.ensures ∙ c.if-not-is_nothing.false)
     (asks_at (start_udp_bind_unless store c.args.ids c.args.place c.args.addr c.in-Some.socket.now) (sym c.has_streams.ensures ∙ c.if-has_streams.false)
@@ -39,7 +39,7 @@ returns-in_err-answer-clause-sides g c = λ k.
 
 pub returns-clause-asked : goal.returns-clause-asked
 returns-clause-asked g c =
-    let store : Records = record { records = c.self.inside.records.items; jobs = c.self.inside.jobs.items; standing = c.self.inside.standing; beside = c.self.inside.beside } in
+    let store : Records = record { records = c.self.inside.records.items; jobs = c.self.inside.jobs.items; standing = c.self.inside.standing; beside = c.self.inside.beside; limits = c.self.inside.limits.items } in
     rw (← c.self.view_is, open_found c.self.inside.records.items c.args.place c.in-Some.socket c.in-Some.ensures.item)
     (asks_at (start_udp_bind_by store c.args.ids c.args.place c.args.addr c.in-Some.socket.now) (sym c.is_nothing.ensures ∙ c.if-not-is_nothing.false)
     (asks_at (start_udp_bind_unless store c.args.ids c.args.place c.args.addr c.in-Some.socket.now) (sym c.has_streams.ensures ∙ c.if-has_streams.false)
@@ -47,7 +47,7 @@ returns-clause-asked g c =
 
 pub returns-clause-sides : goal.returns-clause-sides
 returns-clause-sides g c = λ k.
-    let store : Records = record { records = c.self.inside.records.items; jobs = c.self.inside.jobs.items; standing = c.self.inside.standing; beside = c.self.inside.beside } in
+    let store : Records = record { records = c.self.inside.records.items; jobs = c.self.inside.jobs.items; standing = c.self.inside.standing; beside = c.self.inside.beside; limits = c.self.inside.limits.items } in
     knows_stood (with_open_udp store c.args.place c.begin_bind.new.self) _ _ _ _ _ c.stand.ensures
     (knows_none store (with_open_udp store c.args.place c.begin_bind.new.self) c.begin_bind.ensures.none
     (held_in-open c.self.inside.records.items c.args.place c.in-Some.socket.now c.begin_bind.new.self (open_found c.self.inside.records.items c.args.place c.in-Some.socket c.in-Some.ensures.item) c.begin_bind.ensures.side)
@@ -58,7 +58,7 @@ returns-then-not-is_nothing-clause-sides g c = λ k. knows_same _ _ (ap held_in 
 
 pub returns-then-has_streams-clause-asked : goal.returns-then-has_streams-clause-asked
 returns-then-has_streams-clause-asked g c =
-    let store : Records = record { records = c.self.inside.records.items; jobs = c.self.inside.jobs.items; standing = c.self.inside.standing; beside = c.self.inside.beside } in
+    let store : Records = record { records = c.self.inside.records.items; jobs = c.self.inside.jobs.items; standing = c.self.inside.standing; beside = c.self.inside.beside; limits = c.self.inside.limits.items } in
     rw (← c.self.view_is, open_found c.self.inside.records.items c.args.place c.in-Some.socket c.in-Some.ensures.item)
     (asks_at (start_udp_bind_by store c.args.ids c.args.place c.args.addr c.in-Some.socket.now) (sym c.is_nothing.ensures ∙ c.if-not-is_nothing.false)
     (asks_at (start_udp_bind_unless store c.args.ids c.args.place c.args.addr c.in-Some.socket.now) (sym c.has_streams.ensures ∙ c.if-has_streams.true)

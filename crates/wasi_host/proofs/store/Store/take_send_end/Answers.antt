@@ -19,7 +19,7 @@ returns-in_err-reserve-clause-sides c = λ s k. knows_same _ _ (ap held_in c.res
 
 pub returns-in_default-clause-taken : goal.returns-in_default-clause-taken
 returns-in_default-clause-taken c =
-    let store : Records = record { records = c.self.inside.records.items; jobs = c.self.inside.jobs.items; standing = c.self.inside.standing; beside = c.self.inside.beside } in
+    let store : Records = record { records = c.self.inside.records.items; jobs = c.self.inside.jobs.items; standing = c.self.inside.standing; beside = c.self.inside.beside; limits = c.self.inside.limits.items } in
     rw (← c.self.view_is, none_still c.reserve.new.self.items c.self.inside.records.items c.args.place c.reserve.ensures.items c.in_default.ensures.item)
     (ap (λ (l : List Record). (Err (Trap NoSuchHandle), record store { records = l })) c.reserve.ensures.items)
 
@@ -28,7 +28,7 @@ returns-in_default-clause-sides c = λ s k. knows_same _ _ (ap held_in c.reserve
 
 pub returns-clause-taken : goal.returns-clause-taken
 returns-clause-taken c =
-    let store : Records = record { records = c.self.inside.records.items; jobs = c.self.inside.jobs.items; standing = c.self.inside.standing; beside = c.self.inside.beside } in
+    let store : Records = record { records = c.self.inside.records.items; jobs = c.self.inside.jobs.items; standing = c.self.inside.standing; beside = c.self.inside.beside; limits = c.self.inside.limits.items } in
     rw (← c.self.view_is, found_still c.reserve.new.self.items c.self.inside.records.items c.args.place c.in-Some.record c.reserve.ensures.items c.in-Some.ensures.item, c.new-2.ensures, c.len-slot.ensures, c.push_reserved.ensures.items, c.new.ensures, c.take_send_end-taken.ensures.told, c.take_send_end-taken.ensures.record)
     (ap (λ (l : List Record). (Ok (end_of c.args.place (length l) (take_send_end c.in-Some.record.now).0), with_end c.args.place (take_send_end c.in-Some.record.now) (record store { records = l }))) c.reserve.ensures.items)
 

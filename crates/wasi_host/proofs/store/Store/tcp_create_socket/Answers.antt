@@ -1,18 +1,19 @@
 use Rattle.wasi_host.specs.declared.kind.Kind.TheVariants.{Tcp2}
+use Rattle.wasi_host.specs.Limits.{with_limit}
 use Rattle.wasi_host.specs.Machine.{same_told, code_told}
 use Rattle.wasi_records.proofs.Hosts.{fault_told}
 use Rattle.wasi_host.proofs.TcpHandles.{asks_made, create_refused}
 use Rattle.wasi_host.proofs.store.Store.tcp_create_socket.Goals as goal
 
 pub returns-in_err-place-clause-asked : goal.returns-in_err-place-clause-asked
-returns-in_err-place-clause-asked g c = create_refused (record { table = c.args.table.now; store = c.args.self.now }) c.args.own c.args.ctx.now c.args.family _ c.from_residual.result c.from_residual.ensures.1 c.in_err-place.ensures.made
+returns-in_err-place-clause-asked g c = create_refused (record { table = c.args.table.now; store = with_limit c.args.self.now c.args.ctx.now }) c.args.own c.args.ctx.now c.args.family _ c.from_residual.result c.from_residual.ensures.1 c.in_err-place.ensures.made
 
 pub returns-in_err-handle-clause-asked : goal.returns-in_err-handle-clause-asked
 returns-in_err-handle-clause-asked g c = rw (fault_told _ c.from_residual-in_err-handle.result c.from_residual-in_err-handle.ensures.1)
-    (asks_made same_told code_told Tcp2 (record { table = c.args.table.now; store = c.args.self.now }) c.args.own c.args.ctx.now c.args.family c.in_ok-place.ensures.made c.side-side.ensures c.in_err-handle.ensures.asked)
+    (asks_made same_told code_told Tcp2 (record { table = c.args.table.now; store = with_limit c.args.self.now c.args.ctx.now }) c.args.own c.args.ctx.now c.args.family c.in_ok-place.ensures.made c.side-side.ensures c.in_err-handle.ensures.asked)
 
 pub returns-clause-asked : goal.returns-clause-asked
-returns-clause-asked g c = asks_made same_told code_told Tcp2 (record { table = c.args.table.now; store = c.args.self.now }) c.args.own c.args.ctx.now c.args.family c.in_ok-place.ensures.made c.side-side.ensures c.in_ok-handle.ensures.asked
+returns-clause-asked g c = asks_made same_told code_told Tcp2 (record { table = c.args.table.now; store = with_limit c.args.self.now c.args.ctx.now }) c.args.own c.args.ctx.now c.args.family c.in_ok-place.ensures.made c.side-side.ensures c.in_ok-handle.ensures.asked
 
 pub returns-in_err-handle-clause-sides : goal.returns-in_err-handle-clause-sides
 returns-in_err-handle-clause-sides g c = λ k. c.in_err-handle.ensures.sides _ (c.in_ok-place.ensures.sides k)

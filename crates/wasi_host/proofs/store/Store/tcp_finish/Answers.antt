@@ -11,7 +11,7 @@ use Rattle.wasi_host.proofs.store.Store.tcp_finish.Goals as goal
 
 pub returns-then-not-is_started-clause-state : goal.returns-then-not-is_started-clause-state
 returns-then-not-is_started-clause-state c =
-    let store : Records = record { records = c.self.inside.records.items; jobs = c.self.inside.jobs.items; standing = c.self.inside.standing; beside = c.self.inside.beside } in
+    let store : Records = record { records = c.self.inside.records.items; jobs = c.self.inside.jobs.items; standing = c.self.inside.standing; beside = c.self.inside.beside; limits = c.self.inside.limits.items } in
     rw (← c.self.view_is, found_at c.self.inside.records.items c.args.place c.in-Some.record c.in-Some.ensures.item)
     (ap (λ (l : List Record). let r : Records = record store { records = l } in r) (set_back c.self.inside.records.items c.args.place c.in-Some.record c.in-Some.ensures.item)
     ∙ sym (ap (λ (b : Bool). (finish_by store c.args.place c.in-Some.record.now b).1) (sym c.is_started.ensures ∙ c.if-not-is_started.true)))

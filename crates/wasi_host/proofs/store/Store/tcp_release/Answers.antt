@@ -17,7 +17,7 @@ returns-in_err-release-clause-asked g c =
 
 pub returns-in_err-release-clause-sides : goal.returns-in_err-release-clause-sides
 returns-in_err-release-clause-sides g c = λ k.
-    let store : Records = record { records = c.self.inside.records.items; jobs = c.self.inside.jobs.items; standing = c.self.inside.standing; beside = c.self.inside.beside } in
+    let store : Records = record { records = c.self.inside.records.items; jobs = c.self.inside.jobs.items; standing = c.self.inside.standing; beside = c.self.inside.beside; limits = c.self.inside.limits.items } in
     knows_polled store c.args.place c.in-Some.record.now c.release.new.self (found_at c.self.inside.records.items c.args.place c.in-Some.record c.in-Some.ensures.item) c.release.ensures.sides (rw (← c.self.view_is) at k)
 
 pub returns-clause-asked : goal.returns-clause-asked
@@ -27,6 +27,6 @@ returns-clause-asked g c =
 
 pub returns-clause-sides : goal.returns-clause-sides
 returns-clause-sides g c = λ k.
-    let store : Records = record { records = c.self.inside.records.items; jobs = c.self.inside.jobs.items; standing = c.self.inside.standing; beside = c.self.inside.beside } in
+    let store : Records = record { records = c.self.inside.records.items; jobs = c.self.inside.jobs.items; standing = c.self.inside.standing; beside = c.self.inside.beside; limits = c.self.inside.limits.items } in
     c.give_back.ensures.sides (g.W.World.seen c.release.new.world) (put_none c.self.inside.records.items c.args.place (Tcp c.release.new.self) c.in_ok-release.ensures.none)
     (knows_polled store c.args.place c.in-Some.record.now c.release.new.self (found_at c.self.inside.records.items c.args.place c.in-Some.record c.in-Some.ensures.item) c.release.ensures.sides (rw (← c.self.view_is) at k))

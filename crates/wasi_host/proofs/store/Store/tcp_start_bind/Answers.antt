@@ -21,14 +21,14 @@ returns-in_default-clause-asked g c = rw (← c.self.view_is, none_at c.self.ins
 
 pub returns-then-not-is_nothing-clause-asked : goal.returns-then-not-is_nothing-clause-asked
 returns-then-not-is_nothing-clause-asked g c =
-    let store : Records = record { records = c.self.inside.records.items; jobs = c.self.inside.jobs.items; standing = c.self.inside.standing; beside = c.self.inside.beside } in
+    let store : Records = record { records = c.self.inside.records.items; jobs = c.self.inside.jobs.items; standing = c.self.inside.standing; beside = c.self.inside.beside; limits = c.self.inside.limits.items } in
     rw (← c.self.view_is, found_at c.self.inside.records.items c.args.place c.in-Some.record c.in-Some.ensures.item)
     (asks_at (start_bind_by store c.args.ids c.args.place c.args.addr c.in-Some.record.now) (sym c.is_nothing.ensures ∙ c.if-not-is_nothing.true)
     (asks_given (Err (Code ConcurrencyConflict)) _ refl (ap (λ (l : List Record). Give (Err (Code ConcurrencyConflict), record store { records = l })) (sym (set_back c.self.inside.records.items c.args.place c.in-Some.record c.in-Some.ensures.item)))))
 
 pub returns-in_err-answer-clause-asked : goal.returns-in_err-answer-clause-asked
 returns-in_err-answer-clause-asked g c =
-    let store : Records = record { records = c.self.inside.records.items; jobs = c.self.inside.jobs.items; standing = c.self.inside.standing; beside = c.self.inside.beside } in
+    let store : Records = record { records = c.self.inside.records.items; jobs = c.self.inside.jobs.items; standing = c.self.inside.standing; beside = c.self.inside.beside; limits = c.self.inside.limits.items } in
     rw (← c.self.view_is, found_at c.self.inside.records.items c.args.place c.in-Some.record c.in-Some.ensures.item)
     (asks_at (start_bind_by store c.args.ids c.args.place c.args.addr c.in-Some.record.now) (sym c.is_nothing.ensures ∙ c.if-not-is_nothing.false)
     (host_refused _ _ c.from_residual.result c.from_residual.ensures.1 (asks_at (λ (x : OpId). begin_bind_asks x c.in-Some.record.now c.args.addr) (sym c.own.ensures) c.in_err-answer.ensures.asked) (λ code. refl)))
@@ -41,14 +41,14 @@ returns-in_err-answer-clause-sides g c = λ k.
 
 pub returns-clause-asked : goal.returns-clause-asked
 returns-clause-asked g c =
-    let store : Records = record { records = c.self.inside.records.items; jobs = c.self.inside.jobs.items; standing = c.self.inside.standing; beside = c.self.inside.beside } in
+    let store : Records = record { records = c.self.inside.records.items; jobs = c.self.inside.jobs.items; standing = c.self.inside.standing; beside = c.self.inside.beside; limits = c.self.inside.limits.items } in
     rw (← c.self.view_is, found_at c.self.inside.records.items c.args.place c.in-Some.record c.in-Some.ensures.item)
     (asks_at (start_bind_by store c.args.ids c.args.place c.args.addr c.in-Some.record.now) (sym c.is_nothing.ensures ∙ c.if-not-is_nothing.false)
     (asks_end _ (asks_at (λ (x : OpId). begin_bind_asks x c.in-Some.record.now c.args.addr) (sym c.own.ensures) c.in_ok-answer.ensures.asked).ok (ap (λ d. Give (allowed_answer d)) (sym c.stand.ensures))))
 
 pub returns-clause-sides : goal.returns-clause-sides
 returns-clause-sides g c = λ k.
-    let store : Records = record { records = c.self.inside.records.items; jobs = c.self.inside.jobs.items; standing = c.self.inside.standing; beside = c.self.inside.beside } in
+    let store : Records = record { records = c.self.inside.records.items; jobs = c.self.inside.jobs.items; standing = c.self.inside.standing; beside = c.self.inside.beside; limits = c.self.inside.limits.items } in
     knows_stood (with_socket store c.args.place c.begin_bind.new.self) _ _ _ _ _ c.stand.ensures
     (knows_none store (with_socket store c.args.place c.begin_bind.new.self) c.begin_bind.ensures.none
     (held_in-set c.self.inside.records.items c.args.place c.in-Some.record.now c.begin_bind.new.self (found_at c.self.inside.records.items c.args.place c.in-Some.record c.in-Some.ensures.item) c.begin_bind.ensures.side c.begin_bind.ensures.listening)

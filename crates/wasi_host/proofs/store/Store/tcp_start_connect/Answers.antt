@@ -18,21 +18,21 @@ returns-in_default-clause-asked g c = rw (← c.self.view_is, none_at c.self.ins
 
 pub returns-then-not-is_nothing-clause-asked : goal.returns-then-not-is_nothing-clause-asked
 returns-then-not-is_nothing-clause-asked g c =
-    let store : Records = record { records = c.self.inside.records.items; jobs = c.self.inside.jobs.items; standing = c.self.inside.standing; beside = c.self.inside.beside } in
+    let store : Records = record { records = c.self.inside.records.items; jobs = c.self.inside.jobs.items; standing = c.self.inside.standing; beside = c.self.inside.beside; limits = c.self.inside.limits.items } in
     rw (← c.self.view_is, found_at c.self.inside.records.items c.args.place c.in-Some.record c.in-Some.ensures.item)
     (asks_at (start_connect_by store c.args.op c.args.place c.args.addr c.in-Some.record.now) (sym c.is_nothing.ensures ∙ c.if-not-is_nothing.true)
     (asks_given (Err (Code ConcurrencyConflict)) _ refl (ap (λ (l : List Record). Give (Err (Code ConcurrencyConflict), record store { records = l })) (sym (set_back c.self.inside.records.items c.args.place c.in-Some.record c.in-Some.ensures.item)))))
 
 pub returns-in_err-begin_connect-clause-asked : goal.returns-in_err-begin_connect-clause-asked
 returns-in_err-begin_connect-clause-asked g c =
-    let store : Records = record { records = c.self.inside.records.items; jobs = c.self.inside.jobs.items; standing = c.self.inside.standing; beside = c.self.inside.beside } in
+    let store : Records = record { records = c.self.inside.records.items; jobs = c.self.inside.jobs.items; standing = c.self.inside.standing; beside = c.self.inside.beside; limits = c.self.inside.limits.items } in
     rw (← c.self.view_is, found_at c.self.inside.records.items c.args.place c.in-Some.record c.in-Some.ensures.item)
     (asks_at (start_connect_by store c.args.op c.args.place c.args.addr c.in-Some.record.now) (sym c.is_nothing.ensures ∙ c.if-not-is_nothing.false)
     (host_refused _ _ c.from_residual.result c.from_residual.ensures.1 c.in_err-begin_connect.ensures.asked (λ code. refl)))
 
 pub returns-clause-asked : goal.returns-clause-asked
 returns-clause-asked g c =
-    let store : Records = record { records = c.self.inside.records.items; jobs = c.self.inside.jobs.items; standing = c.self.inside.standing; beside = c.self.inside.beside } in
+    let store : Records = record { records = c.self.inside.records.items; jobs = c.self.inside.jobs.items; standing = c.self.inside.standing; beside = c.self.inside.beside; limits = c.self.inside.limits.items } in
     rw (← c.self.view_is, found_at c.self.inside.records.items c.args.place c.in-Some.record c.in-Some.ensures.item)
     (asks_at (start_connect_by store c.args.op c.args.place c.args.addr c.in-Some.record.now) (sym c.is_nothing.ensures ∙ c.if-not-is_nothing.false)
     (asks_end _ c.in_ok-begin_connect.ensures.asked.ok refl))

@@ -16,7 +16,7 @@ use Rattle.wasi_host.proofs.store.Store.write.Goals as goal
 
 pub returns-in_default-clause-asked : goal.returns-in_default-clause-asked
 returns-in_default-clause-asked g c =
-    let store : Records = record { records = c.self.inside.records.items; jobs = c.self.inside.jobs.items; standing = c.self.inside.standing; beside = c.self.inside.beside } in
+    let store : Records = record { records = c.self.inside.records.items; jobs = c.self.inside.jobs.items; standing = c.self.inside.standing; beside = c.self.inside.beside; limits = c.self.inside.limits.items } in
     let none = none_at c.self.inside.records.items c.args.place c.in_default.ensures.item in
     rw (← c.self.view_is) (asks_at (write_at store c.args.place (writer_asks (λ w. write_state_asks c.args.op w c.args.bytes))) none (asks_given _ _ refl (noted_none store c.args.place (writer_asks (λ w. write_state_asks c.args.op w c.args.bytes)) none)))
 
@@ -25,12 +25,12 @@ returns-in_err-push-clause-asked g c = stream_none c.from_residual.result c.from
 
 pub returns-in_err-push-clause-sides : goal.returns-in_err-push-clause-sides
 returns-in_err-push-clause-sides g c = λ k.
-    let store : Records = record { records = c.self.inside.records.items; jobs = c.self.inside.jobs.items; standing = c.self.inside.standing; beside = c.self.inside.beside } in
+    let store : Records = record { records = c.self.inside.records.items; jobs = c.self.inside.jobs.items; standing = c.self.inside.standing; beside = c.self.inside.beside; limits = c.self.inside.limits.items } in
     knows_same store _ (ap held_in (set_back c.self.inside.records.items c.args.place c.in-Some.record c.in-Some.ensures.item)) (rw (← c.self.view_is) at k)
 
 pub returns-clause-asked : goal.returns-clause-asked
 returns-clause-asked g c =
-    let store : Records = record { records = c.self.inside.records.items; jobs = c.self.inside.jobs.items; standing = c.self.inside.standing; beside = c.self.inside.beside } in
+    let store : Records = record { records = c.self.inside.records.items; jobs = c.self.inside.jobs.items; standing = c.self.inside.standing; beside = c.self.inside.beside; limits = c.self.inside.limits.items } in
     let found = found_at c.self.inside.records.items c.args.place c.in-Some.record c.in-Some.ensures.item in
     let jobs = c.keep_job.ensures store.jobs (Write c.args.place) c.in_ok-push.ensures.ok in
     let is = noted_as store c.args.place c.in-Some.record.now c.write_noting-written.new.self c.write_noting-written.result.1 c.keep_job.new.jobs.items found c.write_noting-written.ensures.begins jobs in

@@ -9,5 +9,5 @@ pub returns : goal.returns
 returns c =
     rw (← c.self.view_is) (
     ap or_gone c.record_of.ensures ∙ ap (λ key. or_gone (of_number c.args.place (get c.self.inside.slots key))) c.key_of.ensures
-    ∙ item c.self.inside.slots c.self.inside.keys c.self.inside.next c.self.invariant c.args.place
+    ∙ item c.self.inside.slots c.self.inside.keys c.self.inside.next c.self.invariant.0 c.args.place
     )
