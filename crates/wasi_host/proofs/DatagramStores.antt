@@ -56,10 +56,10 @@ asks_as {S} {T} {asks} {s} {t} {r} e h = let P : S → Type 0 = λ z. AsksFor as
 
 -- a job that is noted, where one began
 pub job_noted : (store : Records) (place : ℕ) (now : OpenUdp) (job : HostJob) (b begins : Bool) (kept jobs : List HostJob) → jobs ≡ jobs_with kept job b → kept ≡ store.jobs → b ≡ begins
-    → with_job (with_open_udp store place now) job begins ≡ record { records = open_put store.records place now; jobs = jobs; standing = store.standing; beside = store.beside }
+    → with_job (with_open_udp store place now) job begins ≡ record { records = open_put store.records place now; jobs = jobs; standing = store.standing; beside = store.beside; limits = store.limits }
 job_noted store place now job b begins kept jobs h k e =
     with_job_is (with_open_udp store place now) job begins
-    ∙ ap (λ (l : List HostJob). let r : Records = record { records = open_put store.records place now; jobs = l; standing = store.standing; beside = store.beside } in r) (sym (h ∙ (ap (λ (l : List HostJob). jobs_with l job b) k ∙ ap (jobs_with store.jobs job) e)))
+    ∙ ap (λ (l : List HostJob). let r : Records = record { records = open_put store.records place now; jobs = l; standing = store.standing; beside = store.beside; limits = store.limits } in r) (sym (h ∙ (ap (λ (l : List HostJob). jobs_with l job b) k ∙ ap (jobs_with store.jobs job) e)))
 
 -- one began where none was before
 pub begins_now : (before now b : Bool) → before ≡ false → b ≡ now → b ≡ (not before && now)

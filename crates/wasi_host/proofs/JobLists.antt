@@ -25,11 +25,11 @@ with_job_is store job true = refl
 with_job_is store job false = refl
 
 pub noted_as : (store : Records) (place : ℕ) (old now : TcpRecord) (b : Bool) (jobs : List HostJob) → tcp2_at store.records place ≡ Some old → b ≡ (not (works_in old.streams) && works_in now.streams) → jobs ≡ jobs_with store.jobs (Write place) b
-    → with_job (with_socket store place now) (Write place) (begins_job (Some old) (tcp2_at (tcp2_put store.records place now) place)) ≡ record { records = tcp2_put store.records place now; jobs = jobs; standing = store.standing; beside = store.beside }
+    → with_job (with_socket store place now) (Write place) (begins_job (Some old) (tcp2_at (tcp2_put store.records place now) place)) ≡ record { records = tcp2_put store.records place now; jobs = jobs; standing = store.standing; beside = store.beside; limits = store.limits }
 noted_as store place old now b jobs g e h =
     ap (λ (found : Option TcpRecord). with_job (with_socket store place now) (Write place) (begins_job (Some old) found)) (set_there store.records place now old g)
     ∙ (ap (with_job (with_socket store place now) (Write place)) (sym e)
-    ∙ (with_job_is (with_socket store place now) (Write place) b ∙ ap (λ (l : List HostJob). let r : Records = record { records = tcp2_put store.records place now; jobs = l; standing = store.standing; beside = store.beside } in r) (sym h)))
+    ∙ (with_job_is (with_socket store place now) (Write place) b ∙ ap (λ (l : List HostJob). let r : Records = record { records = tcp2_put store.records place now; jobs = l; standing = store.standing; beside = store.beside; limits = store.limits } in r) (sym h)))
 
 -- == a turn
 -- where the next job is polled, the rest follows

@@ -71,13 +71,13 @@ on_err (Err x) f h = f h
 
 -- == a pipe that is made
 pub pipe_made : (m : Machine) (own : OpId) (k : Kind) (r : Record) {records : List Record} {table : HandleTable} {s t : Seen} (x : ℕ) → records ≡ m.store.records ++ r ∷ [] → AsksFor (make_asks m.table own k None None) s t (λ (made : Result ℕ Stop). (made, table)) (Ok (Ok x))
-    → AsksFor (pipe_asks m own k r) s t (λ (made : Result ℕ Stop). let n : Machine = record { table = table; store = record { records = records; jobs = m.store.jobs; standing = m.store.standing; beside = m.store.beside } } in (made, n)) (Ok (Ok x))
+    → AsksFor (pipe_asks m own k r) s t (λ (made : Result ℕ Stop). let n : Machine = record { table = table; store = record { records = records; jobs = m.store.jobs; standing = m.store.standing; beside = m.store.beside; limits = m.store.limits } } in (made, n)) (Ok (Ok x))
 pipe_made m own k r x e h = rw e (asks_end (λ made. Give (piped m r made)) h.ok refl)
 
 -- no handle was made for it
 pub pipe_refused : (m : Machine) (own : OpId) (k : Kind) (r : Record) {records : List Record} {table : HandleTable} {s t : Seen} (x : Fault) (q : Result ℕ Fault) → records ≡ m.store.records → IsErrAnd q (λ y. y ≡ x)
     → AsksFor (make_asks m.table own k None None) s t (λ (made : Result ℕ Stop). (made, table)) (fault_outcome {T = ℕ} (Err x))
-    → AsksFor (pipe_asks m own k r) s t (λ (made : Result ℕ Stop). let n : Machine = record { table = table; store = record { records = records; jobs = m.store.jobs; standing = m.store.standing; beside = m.store.beside } } in (made, n)) (fault_outcome q)
+    → AsksFor (pipe_asks m own k r) s t (λ (made : Result ℕ Stop). let n : Machine = record { table = table; store = record { records = records; jobs = m.store.jobs; standing = m.store.standing; beside = m.store.beside; limits = m.store.limits } } in (made, n)) (fault_outcome q)
 pipe_refused m own k r x (Ok y) e i h = absurd i
 pipe_refused m own k r (fault.Trap kind) (Err y) e i h = rw (e, i) (asks_end (λ made. Give (piped m r made)) h.ok refl)
 pipe_refused m own k r (fault.Memory d) (Err y) e i h =

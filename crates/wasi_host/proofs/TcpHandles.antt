@@ -21,11 +21,12 @@ use Rattle.wasi_records.specs.Sockets.{new_record}
 use Rattle.wasi_records.specs.Stops.{Stop, SocketError, host_outcome}
 use Rattle.wasi_records.proofs.Hosts.{host_refused}
 use Rattle.wasi_host.specs.declared.kind.Kind.{Kind}
+use Rattle.wasi_host.specs.declared.kind.Kind.TheVariants.{Tcp2}
 use Rattle.wasi_host.specs.declared.machine.Machine.{Machine}
 use Rattle.wasi_host.specs.Kinds.{HandleTable, make_asks}
 use Rattle.wasi_host.specs.Making.{MadeTcp, MakesTcp}
 use Rattle.wasi_host.specs.Store.{Records, with_record}
-use Rattle.wasi_host.specs.Machine.{made_to, create_to, created_asks, create_asks, side_at}
+use Rattle.wasi_host.specs.Machine.{same_told, code_told, made_to, create_to, created_asks, side_at}
 
 -- where none was made
 pub makes_none : (own : OpId) (ctx : WasiSocketsCtx) (family : SocketAddressFamily) {s t : Seen} {old now : Records} (x : Refusal) (r : Result ℕ Refusal) → IsErrAnd r (λ y. y ≡ x) → now ≡ old
@@ -55,6 +56,6 @@ asks_made tells fails kind m own ctx family {place} {side} {now} made e k =
 
 -- a call of 0.2 that made none
 pub create_refused : (m : Machine) (own : OpId) (ctx : WasiSocketsCtx) (family : SocketAddressFamily) {s t : Seen} {now : Records} (x : Refusal) (r : Result ℕ SocketError) → IsErrAnd r (λ y. y ≡ of_refusal x) → MakesTcp own ctx family s t m.store now (outcome {T = ℕ} (Err x))
-    → AsksFor (create_asks m own ctx family) s t (λ (made : Result ℕ Stop). let n : Machine = record { table = m.table; store = now } in (made, n)) (host_outcome r)
+    → AsksFor (create_to same_told code_told Tcp2 m own ctx family) s t (λ (made : Result ℕ Stop). let n : Machine = record { table = m.table; store = now } in (made, n)) (host_outcome r)
 create_refused m own ctx family (refusal.Code c) r h k = rw k.same (host_refused (created_asks m own) (refusal.Code c) r h k.asked (λ code. refl))
 create_refused m own ctx family (refusal.Memory d) r h k = rw k.same (host_refused (created_asks m own) (refusal.Memory d) r h k.asked (λ code. refl))

@@ -180,7 +180,7 @@ impl Store {
         let Some(record) = find::<TcpRecord>(&self.records, place) else {
             return 0;
         };
-        let limit = limit_of(&self.limits, record.maker).unwrap_or(0);
+        let limit = limit_of(self.limits.as_slice(), record.maker).unwrap_or(0);
         let others = self.records.used_but(slot, place, record.maker);
         MOST_PERMITTED.min(limit.saturating_sub(others)) as usize
     }
@@ -216,7 +216,8 @@ impl Store {
         ensures records { self.new.records ≡ self.old.records }
     {
         keep_limit(&mut self.limits, ctx)?;
-        self.records.reserve_total(ctx.name)
+        self.records.reserve_total(ctx.name)?;
+        Ok(())
     }
 
     /// Creates a TCP socket and its record, which has no handle yet, and returns the number of the

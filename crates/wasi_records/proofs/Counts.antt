@@ -1,5 +1,5 @@
 -- The totals, as records are lent, come and go.
-use Rattle.std.proofs.Common.{◌≡◌, ℕ, ◌+◌, ◌<◌, ◌≤◌, List, [], ◌∷◌, ◌++◌, length, Some, None, refl, ap, ◌∙◌, sym, subst, arith}
+use Rattle.std.proofs.Common.{◌≡◌, ◌≢◌, ℕ, ◌+◌, ◌-◌, ◌<◌, ◌≤◌, List, [], ◌∷◌, ◌++◌, length, Some, None, true, min, refl, ap, ◌∙◌, sym, subst, arith}
 use Rattle.std.specs.Prelude.{slice_set}
 use Rattle.slab.specs.Slab.{Slab, get, Updates}
 use Rattle.wasi_records.specs.declared.records.Record.{Record}
@@ -11,7 +11,7 @@ use Rattle.wasi_records.specs.RecordMap.{record_in, numbered, IsSound}
 use Rattle.wasi_records.specs.Totals.{total_of, Adds, Moves, Leaves, IsCounted}
 use Rattle.wasi_records.specs.Used.{used_in, used}
 use Rattle.wasi_records.proofs.RecordMaps.{item, length_numbered, written, written_slots}
-use Rattle.wasi_records.proofs.Sums.{used_put, used_gone, used_at, used_more, item_put, item_gone, item_last}
+use Rattle.wasi_records.proofs.Sums.{used_put, used_gone, used_at, used_pair, used_more, item_put, item_gone, item_last}
 
 module _ (s : Slab NumberedRecord) (keys : List (ℕ × ℕ)) (n : ℕ) (sound : IsSound s keys n) where
   abbrev items : List Record
@@ -66,3 +66,25 @@ module _ (s : Slab NumberedRecord) (keys : List (ℕ × ℕ)) (n : ℕ) (sound :
       let was = moved old new lent p counted moves exact context in
       let gone = used_gone context items p in
       let here = ap (used_in context) (item_gone items p) in omega (arith, was, gone, here)
+
+  -- what another than the one that was lent counts is part of a total
+  pub within : (totals : Totals) (lent p context : ℕ) → IsCounted totals lent items → totals.exact ≡ true → p ≢ lent → used_in context (record_in s keys p) ≤ total_of totals context
+  within totals lent p context counted exact apart =
+      let was = counted exact context in
+      let pair = used_pair context items p lent apart in
+      let here = same_use context p in omega (arith, was, pair, here)
+
+  -- so it can be left out
+  pub but_one : (totals : Totals) (lent p context : ℕ) → IsCounted totals lent items → totals.exact ≡ true → p ≢ lent
+      → (total_of totals context - used_in context (record_in s keys p)) + used_in context (record_in s keys lent) ≡ used context items - used_in context (item_at items p)
+  but_one totals lent p context counted exact apart =
+      let was = counted exact context in
+      let pair = used_pair context items p lent apart in
+      let here = same_use context p in
+      let there = same_use context lent in omega (arith, was, pair, here, there)
+
+  -- the one that was lent and the others are all
+  pub and_one : (lent context most : ℕ) → min (min (used context items - used_in context (item_at items lent)) most + used_in context (record_in s keys lent)) most ≡ min (used context items) most
+  and_one lent context most =
+      let part = used_at context items lent in
+      let there = same_use context lent in omega (arith, part, there)

@@ -1,5 +1,5 @@
 -- How what the records count for a context changes with a record.
-use Rattle.std.proofs.Common.{◌≡◌, ◌≢◌, ℕ, zero, suc, ◌+◌, ◌<◌, ◌≤◌, List, [], ◌∷◌, ◌++◌, length, refl, arith}
+use Rattle.std.proofs.Common.{◌≡◌, ◌≢◌, ℕ, zero, suc, ◌+◌, ◌<◌, ◌≤◌, List, [], ◌∷◌, ◌++◌, length, refl, ap, arith}
 use Rattle.std.specs.Prelude.{slice_set}
 use Rattle.wasi_records.specs.declared.records.Record.{Record}
 use Rattle.wasi_records.specs.declared.records.Record.TheVariants.{Gone}
@@ -21,6 +21,14 @@ used_gone context (x ∷ rs) (suc i) = let later = used_gone context rs i in ome
 -- one is a part of the sum
 pub used_at : (context : ℕ) (rs : List Record) (i : ℕ) → used_in context (item_at rs i) ≤ used context rs
 used_at context rs i = let gone = used_gone context rs i in omega (arith, gone)
+
+-- and two are
+pub used_pair : (context : ℕ) (rs : List Record) (i j : ℕ) → i ≢ j → used_in context (item_at rs i) + used_in context (item_at rs j) ≤ used context rs
+used_pair context [] i j apart = omega arith
+used_pair context (x ∷ rs) zero zero apart = absurd (apart refl)
+used_pair context (x ∷ rs) zero (suc j) apart = let part = used_at context rs j in omega arith
+used_pair context (x ∷ rs) (suc i) zero apart = let part = used_at context rs i in omega arith
+used_pair context (x ∷ rs) (suc i) (suc j) apart = let later = used_pair context rs i j (λ same. apart (ap suc same)) in omega arith
 
 -- one more comes
 pub used_more : (context : ℕ) (rs : List Record) (w : Record) → used context (rs ++ w ∷ []) ≡ used context rs + used_in context w

@@ -1,5 +1,8 @@
 //! How calls end, and what a guest is allowed.
 
+ghost use Rattle.std.specs.Prelude.{◌≡◌};
+ghost use Rattle.wasi_world.specs.Contexts.{default_context};
+
 use std::alloc::AllocError;
 use thiserror::Error;
 use wasi_addr::ErrorCode;
@@ -81,10 +84,10 @@ pub struct WasiSocketsCtx {
 }
 
 impl Default for WasiSocketsCtx {
+    ghost is_default = { λ ctx. ctx ≡ default_context };
+
     /// Context 0, which is allowed nothing; no sum of bytes reaches its limit.
-    fn default() -> WasiSocketsCtx
-        ensures { result ≡ default_context }
-    {
+    fn default() -> WasiSocketsCtx {
         WasiSocketsCtx {
             name: 0,
             ip_name_lookup: false,

@@ -1,25 +1,31 @@
-use Rattle.std.proofs.Common.{refl, ap, ◌∙◌}
+use Rattle.std.proofs.Common.{◌≡◌, refl, ap, ◌∙◌}
 use Rattle.wasi_world.proofs.Walks.{asks_gives, asks_given}
 use Rattle.wasi_host.specs.Limits.{most_at}
 use Rattle.wasi_host.specs.Store.{Records, with_record_put}
+use Rattle.wasi_records.specs.Records.{tcp2_at}
 use Rattle.wasi_records.proofs.Lookups.{found_at, none_at}
 use Rattle.wasi_records.proofs.SideCounts.{Any, held_in-set}
 use Rattle.wasi_host.proofs.KnownSides.{knows_asked}
+use Rattle.wasi_host.proofs.Limits.{most_small}
 use Rattle.wasi_records.proofs.StreamCounts.{calm_writer, calm_check}
 use Rattle.wasi_host.proofs.store.Store.check_write.Goals as goal
+
+pub check_write-requires-clause-most : goal.check_write-requires-clause-most
+check_write-requires-clause-most g c = rw c.most_for-most.ensures (most_small c.args.self.now _)
 
 pub returns-clause-asked : goal.returns-clause-asked
 returns-clause-asked g c =
     let store : Records = record { records = c.self.inside.records.items; jobs = c.self.inside.jobs.items; standing = c.self.inside.standing; beside = c.self.inside.beside; limits = c.self.inside.limits.items } in
     let here = found_at c.self.inside.records.items c.args.place c.in-Some.record c.in-Some.ensures.item in
+    let told : c.most_for-most.result ≡ most_at store (tcp2_at c.self.inside.records.items c.args.place) = rw (← c.self.view_is) at c.most_for-most.ensures in
     rw (← c.self.view_is, here)
-    (asks_gives (with_record_put store c.args.place) (rw (c.most_for.ensures ∙ ap (most_at store) here) at c.check_write.ensures.asked))
+    (asks_gives (with_record_put store c.args.place) (rw (told ∙ ap (most_at store) here) at c.check_write.ensures.asked))
 
 pub returns-in_default-clause-asked : goal.returns-in_default-clause-asked
 returns-in_default-clause-asked g c = rw (← c.self.view_is, none_at c.self.inside.records.items c.args.place c.in_default.ensures.item) (asks_given _ _ refl refl)
 
 pub returns-clause-sides : goal.returns-clause-sides
 returns-clause-sides g c = λ k.
-    knows_asked Any _ _ _ (calm_writer _ c.in-Some.record.now (calm_check _ c.args.op)) c.check_write.ensures.asked
+    knows_asked Any _ _ _ (calm_writer _ c.in-Some.record.now (calm_check c.most_for-most.result c.args.op)) c.check_write.ensures.asked
     (held_in-set c.self.inside.records.items c.args.place c.in-Some.record.now c.check_write.new.self (found_at c.self.inside.records.items c.args.place c.in-Some.record c.in-Some.ensures.item) c.check_write.ensures.side c.check_write.ensures.listening)
     (rw (← c.self.view_is) at k)

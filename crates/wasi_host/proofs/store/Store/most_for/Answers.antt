@@ -1,0 +1,19 @@
+use Rattle.std.proofs.Common.{◌≡◌, List, refl, ap, ◌∙◌}
+use Rattle.wasi_records.proofs.Lookups.{got_at, not_got}
+use Rattle.wasi_host.specs.declared.limits.Limit.{Limit}
+use Rattle.wasi_host.specs.Limits.{limit_in}
+use Rattle.wasi_host.specs.Store.{Records}
+use Rattle.wasi_host.proofs.Limits.{most_is}
+use Rattle.wasi_host.proofs.store.Store.most_for.Goals as goal
+
+pub returns-in_default : goal.returns-in_default
+returns-in_default c = rw (← c.self.view_is, not_got c.self.inside.records.items c.args.place c.in_default.ensures.item) refl
+
+pub returns : goal.returns
+returns c =
+    let store : Records = record { records = c.self.inside.records.items; jobs = c.self.inside.jobs.items; standing = c.self.inside.standing; beside = c.self.inside.beside; limits = c.self.inside.limits.items } in
+    let here = got_at c.self.inside.records.items c.args.place c.in-Some.record c.in-Some.ensures.item in
+    let kept : c.limit_of.result ≡ limit_in c.self.inside.limits.items c.in-Some.record.now.maker =
+    c.limit_of.ensures ∙ ap (λ (l : List Limit). limit_in l c.in-Some.record.now.maker) c.as_slice.ensures.value in
+    rw (← c.self.view_is, here, c.min.ensures, c.saturating_sub.ensures)
+    (most_is store c.args.place c.in-Some.record.now c.limit_of.result here c.unwrap_or-limit.ensures c.unwrap_or-limit.type_inv kept c.used_but-others.ensures)
