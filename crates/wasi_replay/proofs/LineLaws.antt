@@ -90,7 +90,7 @@ allowed_exactly = exactly
 abbrev limit_exactly : ReadsExactly (number_at 18446744073709551615) number_fields (λ n. n ≤ 18446744073709551615)
 limit_exactly = number_exactly 18446744073709551615 (omega arith)
 
-abbrev IsNamed : ℕ → WasiSocketsCtx → Type 0
+abbrev pub IsNamed : ℕ → WasiSocketsCtx → Type 0
 IsNamed number context = (context.name ≡ number) × HasLimit context
 
 fields_only : (number : ℕ) → Only (allowed_at number) (λ taken context. IsNamed number context × (codes "context" ∷ taken ≡ context_fields context))

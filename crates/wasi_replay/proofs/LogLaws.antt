@@ -13,8 +13,8 @@ use Rattle.world_text.specs.Lines.{lines_of, rest_of}
 use Rattle.world_text.specs.Written.{IsVisible}
 use Rattle.wasi_replay.specs.declared.line.Line.{Line}
 use Rattle.wasi_replay.specs.declared.line.Line.TheVariants as line
-use Rattle.wasi_replay.specs.Log.{IsEntry, entry_line, context_line, line_in, SoFar, so_far, start, add_read, with_line, next_lines, with_lines, is_whole, if_whole, log_within, log_lines, text_of_lines, log_text, IsLog}
-use Rattle.wasi_replay.proofs.LineLaws.{line_is, line_written, line_visible}
+use Rattle.wasi_replay.specs.Log.{IsEntry, entry_line, context_line, line_in, SoFar, so_far, start, add_read, with_line, next_lines, with_lines, is_whole, if_whole, log_within, log_lines, text_of_lines, log_text, HasLimit, IsLog}
+use Rattle.wasi_replay.proofs.LineLaws.{IsNamed, line_is, line_written, line_visible}
 use Rattle.wasi_replay.proofs.TextLines.{lines_are, text_is}
 
 -- == what was read is written so
@@ -28,6 +28,7 @@ said log = map context_line log.contexts ++ (map entry_line log.entries ++ end_o
 
 record IsSoFar (log : SoFar) : Type 0 where
   pub numbered : AreNumbered log.contexts
+  pub limits : AllByRecursion HasLimit log.contexts
   pub entries : AllByRecursion IsEntry log.entries
   pub some : log.contexts ≡ [] → (log.entries ≡ []) × (log.ended ≡ false)
 
@@ -53,6 +54,10 @@ all_and : (es : List Entry) (e : Entry) → AllByRecursion IsEntry es → IsEntr
 all_and [] e all last = (last, tt)
 all_and (f ∷ es) e all last = (all.0, all_and es e all.1 last)
 
+limits_and : (contexts : List WasiSocketsCtx) (context : WasiSocketsCtx) → AllByRecursion HasLimit contexts → HasLimit context → AllByRecursion HasLimit (contexts ++ context ∷ [])
+limits_and [] context all last = (last, tt)
+limits_and (c ∷ contexts) context all last = (all.0, limits_and contexts context all.1 last)
+
 not_empty : {A : Type 0} (xs : List A) (x : A) → xs ++ x ∷ [] ≡ [] → ⊥
 not_empty [] x h = cc
 not_empty (y ∷ xs) x h = cc
@@ -68,17 +73,17 @@ one_entry lines entries text =
 one_end : (lines entries : List (List ℕ)) (text : List ℕ) → lines ++ (entries ++ text ∷ []) ≡ (lines ++ (entries ++ [])) ++ text ∷ []
 one_end lines entries text = sym (append_assoc lines entries (text ∷ [])) ∙ ap (λ l. (lines ++ l) ++ text ∷ []) (sym (append-nil entries))
 
-first_context : (contexts : List WasiSocketsCtx) (context : WasiSocketsCtx) → IsSoFar (so_far contexts [] false) → context.name ≡ length contexts → Grows (so_far contexts [] false) (context_line context) (so_far (contexts ++ context ∷ []) [] false)
+first_context : (contexts : List WasiSocketsCtx) (context : WasiSocketsCtx) → IsSoFar (so_far contexts [] false) → IsNamed (length contexts) context → Grows (so_far contexts [] false) (context_line context) (so_far (contexts ++ context ∷ []) [] false)
 first_context contexts context is named = (
-  record { numbered = numbered_and contexts context named is.numbered; entries = tt; some = λ none. absurd (not_empty contexts context none) },
+  record { numbered = numbered_and contexts context named.0 is.numbered; limits = limits_and contexts context is.limits named.1; entries = tt; some = λ none. absurd (not_empty contexts context none) },
   ap (λ l. l ++ []) (map-append context_line contexts (context ∷ [])) ∙ one_context (map context_line contexts) (context_line context),
 )
 
-context_grows : (contexts : List WasiSocketsCtx) (entries : List Entry) (context : WasiSocketsCtx) → entries ≡ [] → IsSoFar (so_far contexts entries false) → context.name ≡ length contexts → Grows (so_far contexts entries false) (context_line context) (so_far (contexts ++ context ∷ []) entries false)
+context_grows : (contexts : List WasiSocketsCtx) (entries : List Entry) (context : WasiSocketsCtx) → entries ≡ [] → IsSoFar (so_far contexts entries false) → IsNamed (length contexts) context → Grows (so_far contexts entries false) (context_line context) (so_far (contexts ++ context ∷ []) entries false)
 context_grows contexts [] context none is named = first_context contexts context is named
 context_grows contexts (e ∷ entries) context none is named = absurd (some_items e entries none)
 
-context_by : (contexts : List WasiSocketsCtx) (entries : List Entry) (context : WasiSocketsCtx) (text : List ℕ) (next : SoFar) (none : Bool) → (length entries == 0) ≡ none → IsSoFar (so_far contexts entries false) → text ≡ context_line context → context.name ≡ length contexts → cond none (Some (so_far (contexts ++ context ∷ []) entries false)) None ≡ Some next → Grows (so_far contexts entries false) text next
+context_by : (contexts : List WasiSocketsCtx) (entries : List Entry) (context : WasiSocketsCtx) (text : List ℕ) (next : SoFar) (none : Bool) → (length entries == 0) ≡ none → IsSoFar (so_far contexts entries false) → text ≡ context_line context → IsNamed (length contexts) context → cond none (Some (so_far (contexts ++ context ∷ []) entries false)) None ≡ Some next → Grows (so_far contexts entries false) text next
 context_by contexts entries context text next true e is written named h =
     let same : next ≡ so_far (contexts ++ context ∷ []) entries false = cc in
     rw (same, written) (context_grows contexts entries context (nothing entries e) is named)
@@ -89,7 +94,7 @@ entry_grows contexts entries e text next true h is written fits same = cc
 entry_grows contexts entries e text next false h is written fits k =
     let same : next ≡ so_far contexts (entries ++ e ∷ []) false = cc in
     rw (same, written) (
-      record { numbered = is.numbered; entries = all_and entries e is.entries fits; some = λ none. absurd (something contexts h none) },
+      record { numbered = is.numbered; limits = is.limits; entries = all_and entries e is.entries fits; some = λ none. absurd (something contexts h none) },
       ap (λ l. map context_line contexts ++ (l ++ [])) (map-append entry_line entries (e ∷ [])) ∙ one_entry (map context_line contexts) (map entry_line entries) (entry_line e),
     )
 
@@ -98,7 +103,7 @@ end_grows contexts entries text next true h is written same = cc
 end_grows contexts entries text next false h is written k =
     let same : next ≡ so_far contexts entries true = cc in
     rw (same, written) (
-      record { numbered = is.numbered; entries = is.entries; some = λ none. absurd (something contexts h none) },
+      record { numbered = is.numbered; limits = is.limits; entries = is.entries; some = λ none. absurd (something contexts h none) },
       one_end (map context_line contexts) (map entry_line entries) (codes "end"),
     )
 
@@ -130,7 +135,7 @@ lines_grow number log last [] is h = let same : last ≡ log = cc in rw same (is
 lines_grow number log last (text ∷ lines) is h = line_then number log last text lines (with_line log text) refl is h (λ more so e. lines_grow (number + 1) more last lines so e)
 
 starts : IsSoFar start
-starts = record { numbered = λ i. tt; entries = tt; some = λ none. (refl, refl) }
+starts = record { numbered = λ i. tt; limits = tt; entries = tt; some = λ none. (refl, refl) }
 
 -- a whole text that ends
 ended_is : (last : SoFar) (lines : ℕ) (contexts : List WasiSocketsCtx) (log : List Entry) (b : Bool) → last.ended ≡ b → ◌≡◌ {A = Result (List WasiSocketsCtx × List Entry) ℕ} (cond b (Ok (last.contexts, last.entries)) (Err (lines + 1))) (Ok (contexts, log)) → last ≡ so_far contexts log true
@@ -165,6 +170,7 @@ read_is most text contexts log h =
       record {
         some = λ none. (let ends = (grown.0.some none).1 in cc);
         numbered = grown.0.numbered;
+        limits = grown.0.limits;
         entries = grown.0.entries;
       },
     )
@@ -174,16 +180,16 @@ each_at : {A : Type 0} (P : ℕ → A → Type 0) (xs : List A) (x : A) (ys : Li
 each_at P [] x ys each = each 0
 each_at P (y ∷ xs) x ys each = each_at (λ i. P (suc i)) xs x ys (λ i. each (suc i))
 
-context_read : (contexts : List WasiSocketsCtx) (context : WasiSocketsCtx) → context.name ≡ length contexts → with_line (so_far contexts [] false) (context_line context) ≡ Some (so_far (contexts ++ context ∷ []) [] false)
+context_read : (contexts : List WasiSocketsCtx) (context : WasiSocketsCtx) → IsNamed (length contexts) context → with_line (so_far contexts [] false) (context_line context) ≡ Some (so_far (contexts ++ context ∷ []) [] false)
 context_read contexts context named = ap (add_read (so_far contexts [] false)) (line_written (length contexts) (line.Context context) named)
 
-contexts_read : (number : ℕ) (before contexts : List WasiSocketsCtx) (lines : List (List ℕ)) → AreNumbered (before ++ contexts) → (m : ℕ) × (with_lines number (so_far before [] false) (map context_line contexts ++ lines) ≡ with_lines m (so_far (before ++ contexts) [] false) lines)
-contexts_read number before [] lines numbered = (number, ap (λ all. with_lines number (so_far all [] false) lines) (sym (append-nil before)))
-contexts_read number before (context ∷ contexts) lines numbered =
+contexts_read : (number : ℕ) (before contexts : List WasiSocketsCtx) (lines : List (List ℕ)) → AreNumbered (before ++ contexts) → AllByRecursion HasLimit contexts → (m : ℕ) × (with_lines number (so_far before [] false) (map context_line contexts ++ lines) ≡ with_lines m (so_far (before ++ contexts) [] false) lines)
+contexts_read number before [] lines numbered limits = (number, ap (λ all. with_lines number (so_far all [] false) lines) (sym (append-nil before)))
+contexts_read number before (context ∷ contexts) lines numbered limits =
     let named = each_at (λ i (c : WasiSocketsCtx). c.name ≡ i) before context contexts numbered in
     let same = append_assoc before (context ∷ []) contexts in
-    let more = contexts_read (number + 1) (before ++ context ∷ []) contexts lines (subst AreNumbered (sym same) numbered) in
-    (more.0, ap (λ next. next_lines number next (λ log. with_lines (number + 1) log (map context_line contexts ++ lines))) (context_read before context named) ∙ (more.1 ∙ ap (λ all. with_lines more.0 (so_far all [] false) lines) same))
+    let more = contexts_read (number + 1) (before ++ context ∷ []) contexts lines (subst AreNumbered (sym same) numbered) limits.1 in
+    (more.0, ap (λ next. next_lines number next (λ log. with_lines (number + 1) log (map context_line contexts ++ lines))) (context_read before context (named, limits.0)) ∙ (more.1 ∙ ap (λ all. with_lines more.0 (so_far all [] false) lines) same))
 
 some_length : {A : Type 0} (xs : List A) → (xs ≡ [] → ⊥) → (length xs == 0) ≡ false
 some_length [] some = absurd (some refl)
@@ -208,20 +214,20 @@ end_read number contexts entries some =
 
 all_lines : (contexts : List WasiSocketsCtx) (log : List Entry) → IsLog contexts log → with_lines 1 start (log_lines contexts log) ≡ Ok (so_far contexts log true)
 all_lines contexts log is =
-    let first = contexts_read 1 [] contexts (map entry_line log ++ codes "end" ∷ []) is.numbered in
+    let first = contexts_read 1 [] contexts (map entry_line log ++ codes "end" ∷ []) is.numbered is.limits in
     let second = entries_read first.0 contexts [] log (codes "end" ∷ []) is.some is.entries in
     first.1 ∙ (second.1 ∙ end_read second.0 contexts log is.some)
 
-contexts_visible : (contexts : List WasiSocketsCtx) (more : List (List ℕ)) → AllByRecursion IsVisible more → AllByRecursion IsVisible (map context_line contexts ++ more)
-contexts_visible [] more h = h
-contexts_visible (context ∷ contexts) more h = (line_visible context.name (line.Context context) refl, contexts_visible contexts more h)
+contexts_visible : (contexts : List WasiSocketsCtx) (more : List (List ℕ)) → AllByRecursion HasLimit contexts → AllByRecursion IsVisible more → AllByRecursion IsVisible (map context_line contexts ++ more)
+contexts_visible [] more limits h = h
+contexts_visible (context ∷ contexts) more limits h = (line_visible context.name (line.Context context) (refl, limits.0), contexts_visible contexts more limits.1 h)
 
 entries_visible : (log : List Entry) (more : List (List ℕ)) → AllByRecursion IsEntry log → AllByRecursion IsVisible more → AllByRecursion IsVisible (map entry_line log ++ more)
 entries_visible [] more fits h = h
 entries_visible (e ∷ log) more fits h = (line_visible 0 (line.Entry e) fits.0, entries_visible log more fits.1 h)
 
-lines_visible : (contexts : List WasiSocketsCtx) (log : List Entry) → AllByRecursion IsEntry log → AllByRecursion IsVisible (log_lines contexts log)
-lines_visible contexts log fits = contexts_visible contexts _ (entries_visible log (codes "end" ∷ []) fits (refl, tt))
+lines_visible : (contexts : List WasiSocketsCtx) (log : List Entry) → AllByRecursion HasLimit contexts → AllByRecursion IsEntry log → AllByRecursion IsVisible (log_lines contexts log)
+lines_visible contexts log limits fits = contexts_visible contexts _ limits (entries_visible log (codes "end" ∷ []) fits (refl, tt))
 
 short : (n most : ℕ) → n ≤ most → nat_le n most ≡ true
 short n most h = grind (arith, nat_tests)
@@ -232,7 +238,7 @@ within most text lines contexts log all are rest fits read = rw (all, are, rest,
 
 pub written_is : (most : ℕ) (contexts : List WasiSocketsCtx) (log : List Entry) → IsLog contexts log → length (log_text contexts log) ≤ most → log_within most (log_text contexts log) ≡ Ok (contexts, log)
 written_is most contexts log is fits =
-    let lines = lines_are (log_lines contexts log) (lines_visible contexts log is.entries) in
+    let lines = lines_are (log_lines contexts log) (lines_visible contexts log is.limits is.entries) in
     within most (log_text contexts log) (log_lines contexts log) contexts log (take_all most (log_text contexts log) fits) lines.0 lines.1 (short (length (log_text contexts log)) most fits) (all_lines contexts log is)
 
 pub log_exactly : (most : ℕ) (text : List ℕ) (contexts : List WasiSocketsCtx) (log : List Entry) → (log_within most text ≡ Ok (contexts, log)) ↔ ((text ≡ log_text contexts log) × (length text ≤ most) × IsLog contexts log)
