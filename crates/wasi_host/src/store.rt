@@ -30,8 +30,8 @@ use std::marker::Model;
 use wasi_addr::SocketAddressFamily;
 use wasi_jobs::{HostJob, JobList};
 use wasi_records::{
-    Record, RecordId, RecordList, SocketError, Stored, TcpRecord, close_sides, find, find_mut,
-    find_mut_in,
+    Record, RecordId, RecordList, SlotKey, SocketError, Stored, TcpRecord, close_sides, find,
+    find_mut, find_mut_in,
 };
 use wasi_streams::StreamError;
 use wasi_table::Table;
