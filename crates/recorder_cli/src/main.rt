@@ -49,7 +49,7 @@ The program ends with 0, or prints its status on standard error, with what is wr
 example: : > scenario.txt; printf '0 network\\n0 tcp-create 4\\n' | recorder record 1000; cat log.txt
     ok 1
     ok 2
-    context yes yes yes
+    context yes yes yes 18446744073709551615
     1 0 made 1 network - - = done
     2 0 tcp-create 0 4 = done
     2 0 made 2 tcp2 - 2 0 = done
