@@ -25,4 +25,4 @@ pub mod KnownSides
 pub mod LiveHandles
 pub mod LookupHandles
 pub mod TcpHandles
-pub mod Limits
+pub mod KeptLimits

@@ -1,7 +1,7 @@
 use Rattle.std.proofs.Common.{◌≡◌, List, is_some, ap, sym, ◌∙◌}
 use Rattle.wasi_host.specs.declared.limits.Limit.{Limit}
 use Rattle.wasi_host.specs.Limits.{limit_in}
-use Rattle.wasi_host.proofs.Limits.{stays_kept, newly_kept}
+use Rattle.wasi_host.proofs.KeptLimits.{stays_kept, newly_kept}
 use Rattle.wasi_host.proofs.limits.keep_limit.Goals as goal
 
 pub returns-then-is_some-clause-kept : goal.returns-then-is_some-clause-kept

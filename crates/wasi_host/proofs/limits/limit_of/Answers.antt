@@ -1,6 +1,6 @@
 use Rattle.std.proofs.Common.{option_map, ap, sym, ◌∙◌}
 use Rattle.wasi_host.specs.declared.limits.Limit.{Limit}
-use Rattle.wasi_host.proofs.Limits.{limit_found}
+use Rattle.wasi_host.proofs.KeptLimits.{limit_found}
 use Rattle.wasi_host.proofs.limits.limit_of.Goals as goal
 
 pub returns-in_err-kept : goal.returns-in_err-kept

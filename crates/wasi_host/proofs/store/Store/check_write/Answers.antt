@@ -6,7 +6,7 @@ use Rattle.wasi_records.specs.Records.{tcp2_at}
 use Rattle.wasi_records.proofs.Lookups.{found_at, none_at}
 use Rattle.wasi_records.proofs.SideCounts.{Any, held_in-set}
 use Rattle.wasi_host.proofs.KnownSides.{knows_asked}
-use Rattle.wasi_host.proofs.Limits.{most_small}
+use Rattle.wasi_host.proofs.KeptLimits.{most_small}
 use Rattle.wasi_records.proofs.StreamCounts.{calm_writer, calm_check}
 use Rattle.wasi_host.proofs.store.Store.check_write.Goals as goal
 

@@ -3,7 +3,7 @@ use Rattle.wasi_records.proofs.Lookups.{got_at, not_got}
 use Rattle.wasi_host.specs.declared.limits.Limit.{Limit}
 use Rattle.wasi_host.specs.Limits.{limit_in}
 use Rattle.wasi_host.specs.Store.{Records}
-use Rattle.wasi_host.proofs.Limits.{most_is}
+use Rattle.wasi_host.proofs.KeptLimits.{most_is}
 use Rattle.wasi_host.proofs.store.Store.most_for.Goals as goal
 
 pub returns-in_default : goal.returns-in_default
