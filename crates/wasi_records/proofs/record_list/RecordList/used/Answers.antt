@@ -1,4 +1,4 @@
-use Rattle.std.proofs.Common.{◌≡◌, ◌+◌, ◌-◌, min, ap, ◌∙◌, sym}
+use Rattle.std.proofs.Common.{◌+◌, ◌-◌, min, ap, ◌∙◌, sym}
 use Rattle.wasi_records.specs.Numbered.{Numbered, item_at}
 use Rattle.wasi_records.specs.RecordMap.{numbered, record_in}
 use Rattle.wasi_records.specs.Used.{used, used_in}

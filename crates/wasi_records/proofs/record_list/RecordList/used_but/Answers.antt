@@ -1,4 +1,4 @@
-use Rattle.std.proofs.Common.{◌≡◌, ◌+◌, ◌-◌, min, ap, ◌∙◌, sym, arith}
+use Rattle.std.proofs.Common.{◌≡◌, ◌+◌, ◌-◌, min, ap, ◌∙◌, arith}
 use Rattle.wasi_records.specs.Numbered.{Numbered, item_at}
 use Rattle.wasi_records.specs.RecordMap.{record_in}
 use Rattle.wasi_records.specs.Totals.{total_of}
