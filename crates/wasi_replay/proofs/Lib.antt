@@ -1,3 +1,4 @@
+pub mod ContextLines
 pub mod ArgumentLaws
 pub mod CallLaws
 pub mod Ends
