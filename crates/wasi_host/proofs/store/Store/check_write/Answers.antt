@@ -1,5 +1,7 @@
-use Rattle.std.proofs.Common.{◌≡◌, refl, ap, ◌∙◌}
-use Rattle.wasi_world.proofs.Walks.{asks_gives, asks_given}
+use Rattle.std.proofs.Common.{◌≡◌, ℕ, refl, ap, sym, ◌∙◌}
+use Rattle.wasi_world.proofs.Walks.{asks_at, asks_gives, asks_given}
+use Rattle.wasi_tcp.specs.Writer.{check_write_asks}
+use Rattle.wasi_records.specs.Halves.{writer_asks}
 use Rattle.wasi_host.specs.Limits.{most_at}
 use Rattle.wasi_host.specs.Store.{Records, with_record_put}
 use Rattle.wasi_records.specs.Records.{tcp2_at}
@@ -19,7 +21,8 @@ returns-clause-asked g c =
     let here = found_at c.self.inside.records.items c.args.place c.in-Some.record c.in-Some.ensures.item in
     let told : c.most_for-most.result ≡ most_at store (tcp2_at c.self.inside.records.items c.args.place) = rw (← c.self.view_is) at c.most_for-most.ensures in
     rw (← c.self.view_is, here)
-    (asks_gives (with_record_put store c.args.place) (rw (told ∙ ap (most_at store) here) at c.check_write.ensures.asked))
+    (asks_gives (with_record_put store c.args.place)
+    (asks_at (λ (n : ℕ). writer_asks (check_write_asks n c.args.op) c.in-Some.record.now) (sym (told ∙ ap (most_at store) here)) c.check_write.ensures.asked))
 
 pub returns-in_default-clause-asked : goal.returns-in_default-clause-asked
 returns-in_default-clause-asked g c = rw (← c.self.view_is, none_at c.self.inside.records.items c.args.place c.in_default.ensures.item) (asks_given _ _ refl refl)
