@@ -63,8 +63,14 @@ fn the_first_bad_line_is_named(rt: HostRuntime) -> Result<(), Fail> {
         (b"end\n", Some(1)),
         (b"context yes yes yes 18446744073709551615\n", Some(2)),
         (b"context yes yes yes 18446744073709551615\nend", Some(2)),
-        (b"context yes yes yes 18446744073709551615\nend\nend\n", Some(3)),
-        (b"context yes yes yes 18446744073709551615\n1 0 close 2 0 = yes\nend\n", Some(2)),
+        (
+            b"context yes yes yes 18446744073709551615\nend\nend\n",
+            Some(3),
+        ),
+        (
+            b"context yes yes yes 18446744073709551615\n1 0 close 2 0 = yes\nend\n",
+            Some(2),
+        ),
         (
             b"context yes yes yes 18446744073709551615\n1 0 close 2 0  = done\nend\n",
             Some(2),
@@ -77,7 +83,10 @@ fn the_first_bad_line_is_named(rt: HostRuntime) -> Result<(), Fail> {
             b"context yes yes yes 18446744073709551615\n4294967296 0 close 2 0 = done\nend\n",
             Some(2),
         ),
-        (b"1 0 close 2 0 = done\ncontext yes yes yes 18446744073709551615\nend\n", Some(1)),
+        (
+            b"1 0 close 2 0 = done\ncontext yes yes yes 18446744073709551615\nend\n",
+            Some(1),
+        ),
     ];
     let alloc = rt.alloc();
     for (text, wanted) in cases {

@@ -45,8 +45,8 @@ module _ (s : Slab NumberedRecord) (keys : List (ℕ × ℕ)) (n : ℕ) (sound :
       let long = length_numbered (record_in s keys) n in
       let below : p < length items = omega (arith, given, named, long) in
       subst (IsCounted new p) (sym (written s keys n sound key x w stood p named)) (λ exact context. (let was = moved old new lent p counted moves exact context in
-          let put = used_put context items p w below in
-          let here = ap (used_in context) (item_put items p w below) in omega (arith, was, put, here)))
+      let put = used_put context items p w below in
+      let here = ap (used_in context) (item_put items p w below) in omega (arith, was, put, here)))
 
   -- a record came as the last, and was lent with it
   pub counted_pushed : (old new : Totals) (lent : ℕ) (w : Record) → IsCounted old lent items → Adds old new (λ context. used_in context (record_in s keys lent)) → IsCounted new n (items ++ w ∷ [])

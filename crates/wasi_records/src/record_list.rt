@@ -273,12 +273,7 @@ fn find(
 }
 
 /// What the record of this number counts for, with a slot hint.
-fn share_of(
-    slots: &Slab<NumberedRecord>,
-    keys: &SlabKeys,
-    slot: SlotKey,
-    number: RecordId,
-) -> Share
+fn share_of(slots: &Slab<NumberedRecord>, keys: &SlabKeys, slot: SlotKey, number: RecordId) -> Share
     requires { IsLed slots.now keys.now }
     ensures { (context : ℕ) → share_by result context
         ≡ used_in context (record_in slots.now keys.now number) }
@@ -315,12 +310,7 @@ fn settle(
 
 /// How many bytes the writers of a context hold or are permitted, record by record, but for the
 /// record of this number.
-fn count_but(
-    slots: &Slab<NumberedRecord>,
-    keys: &SlabKeys,
-    context: u32,
-    place: RecordId,
-) -> u64
+fn count_but(slots: &Slab<NumberedRecord>, keys: &SlabKeys, context: u32, place: RecordId) -> u64
     ensures counted { result ≡ min (used_under slots.now place context keys.now) (2 ^ 64 - 1) }
     ensures ordered { IsStrictlySortedBy nat_cmp (keys_of keys.now) }
 {

@@ -101,7 +101,11 @@ fn context(line: &[u8], number: u32) -> Option<WasiSocketsCtx>
     match fields.word()? {
         "context" => {
             let context = allowed(&mut fields, number)?;
-            if fields.is_done() { Some(context) } else { None }
+            if fields.is_done() {
+                Some(context)
+            } else {
+                None
+            }
         }
         _ => None,
     }

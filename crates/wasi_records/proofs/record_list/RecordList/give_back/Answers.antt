@@ -18,7 +18,7 @@ invariant_of-self c =
     let without = taken_without c.self.inside.slots c.self.inside.keys c.self.inside.next c.self.invariant.0 _ _ _ there c.remove-then-is_in.ensures.updates in (
       sound_gone c.self.inside.slots c.self.inside.keys c.self.inside.next c.self.invariant.0 _ _ _ c.remove.ensures.found without,
       subst (IsCounted c.settle.new.totals c.args.place) (sym (gone _ _ _ _ _ _ c.self.invariant.0 c.remove.ensures.found without))
-      (counted_gone c.self.inside.slots c.self.inside.keys c.self.inside.next c.self.invariant.0 c.self.inside.totals c.settle.new.totals c.self.inside.lent c.args.place c.self.invariant.1 c.settle.ensures),
+          (counted_gone c.self.inside.slots c.self.inside.keys c.self.inside.next c.self.invariant.0 c.self.inside.totals c.settle.new.totals c.self.inside.lent c.args.place c.self.invariant.1 c.settle.ensures),
     )
 
 pub invariant_of-self-else-is_in : goal.invariant_of-self-else-is_in
@@ -28,7 +28,7 @@ invariant_of-self-else-is_in c =
     let without = none_without c.self.inside.slots c.self.inside.keys c.self.inside.next c.self.invariant.0 _ none in (
       sound_gone c.self.inside.slots c.self.inside.keys c.self.inside.next c.self.invariant.0 _ _ _ c.remove.ensures.found without,
       subst (IsCounted c.settle.new.totals c.args.place) (sym (gone _ _ _ _ _ _ c.self.invariant.0 c.remove.ensures.found without))
-      (counted_gone c.self.inside.slots c.self.inside.keys c.self.inside.next c.self.invariant.0 c.self.inside.totals c.settle.new.totals c.self.inside.lent c.args.place c.self.invariant.1 c.settle.ensures),
+          (counted_gone c.self.inside.slots c.self.inside.keys c.self.inside.next c.self.invariant.0 c.self.inside.totals c.settle.new.totals c.self.inside.lent c.args.place c.self.invariant.1 c.settle.ensures),
     )
 
 pub returns-then-is_in : goal.returns-then-is_in

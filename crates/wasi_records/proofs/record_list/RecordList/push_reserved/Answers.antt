@@ -18,7 +18,7 @@ invariant_of-self c =
     λ exact. (let a = c.add.ensures exact in (a.0, λ context. a.1 context ∙ ap (λ (n : ℕ). total_of c.self.inside.totals context + n) (c.share_of-before.ensures context))) in (
       sound_pushed _ _ _ c.self.invariant.0 _ _ _ _ c.insert_reserved-slot.ensures.was_vacant c.insert_reserved-slot.ensures.updates c.set.ensures,
       subst (IsCounted c.add.new.self c.self.inside.next) (sym (pushed _ _ _ c.self.invariant.0 _ _ _ _ c.insert_reserved-slot.ensures.was_vacant c.insert_reserved-slot.ensures.updates c.set.ensures))
-      (counted_pushed c.self.inside.slots c.self.inside.keys c.self.inside.next c.self.invariant.0 c.self.inside.totals c.add.new.self c.self.inside.lent c.args.added c.self.invariant.1 adds),
+          (counted_pushed c.self.inside.slots c.self.inside.keys c.self.inside.next c.self.invariant.0 c.self.inside.totals c.add.new.self c.self.inside.lent c.args.added c.self.invariant.1 adds),
     )
 
 pub returns : goal.returns

@@ -15,8 +15,8 @@ invariant_of-self-2 c =
     let same : (k : ℕ) → get c.reserve.new.self k ≡ get c.self.inside.slots k = λ k. ap (λ (s : Slab NumberedRecord). get s k) c.reserve.ensures.rest_kept in (
       sound_reserved c.self.inside.slots _ _ c.self.invariant.0 c.reserve.new.self _ same (λ q below. led_other _ _ _ _ c.in_ok-insert.ensures.found q (λ e. omega (arith, e, below))),
       subst (IsCounted c.self.inside.totals c.self.inside.lent)
-      (sym (reserved c.self.inside.slots _ _ c.self.invariant.0 c.reserve.new.self _ same (λ q below. led_other _ _ _ _ c.in_ok-insert.ensures.found q (λ e. omega (arith, e, below)))))
-      c.self.invariant.1,
+          (sym (reserved c.self.inside.slots _ _ c.self.invariant.0 c.reserve.new.self _ same (λ q below. led_other _ _ _ _ c.in_ok-insert.ensures.found q (λ e. omega (arith, e, below)))))
+          c.self.invariant.1,
     )
 
 -- where there is no room
