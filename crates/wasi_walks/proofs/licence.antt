@@ -50,4 +50,5 @@ pub mod DatagramRows
 pub mod StreamRows
 pub mod P3Rows
 mod DatagramRuns
+mod LimitRuns
 pub mod PollRows

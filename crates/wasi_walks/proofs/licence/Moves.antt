@@ -445,6 +445,6 @@ module _ (contexts : List WasiSocketsCtx) (steps : List Step) (line : ℕ) (orig
       elsewhere es now (record now { at = None }) refl refl refl (put_udp_fine es h place (UdpRecord.Open o) (UdpRecord.Open (without_udp_socket o)) g refl f i) (state_put_udp contexts steps es h.machine place (UdpRecord.Open o) (UdpRecord.Open (without_udp_socket o)) g refl f i.fine) (λ k n r a e. absurd (cc)) (λ k n u a e. absurd (cc))
   moves_fine es _ _ (GivesBack h place idle left) b w i = fewer_fine es h place (another_stands h place idle b.0 b.3 i) (left_none h place left b.2) b.2.0 i
   moves_fine es _ _ (Numbers h) b w i = remade es h _ tt tt i
-  moves_fine es _ _ (MakesRoom h ctx) b w i = elsewhere es h _ refl refl refl i (state_room contexts steps es h.machine ctx i.fine) i.names i.udp_names
+  moves_fine es _ _ (MakesRoom h c family ctx is) b w i = elsewhere es h _ refl refl refl i (state_room contexts steps es h.machine ctx i.fine) i.names i.udp_names
   moves_fine es _ _ (Lists h jobs keeps) b w i = elsewhere es h _ refl refl refl i (state_jobs contexts steps es h.machine jobs i.fine) i.names i.udp_names
   moves_fine es _ _ (Takes h handle q past none) b w i = elsewhere es h _ refl refl refl i (state_taken contexts steps es h.machine handle i.fine) i.names i.udp_names

@@ -17,7 +17,7 @@ use Rattle.wasi_records.specs.Halves.{with_writer}
 use Rattle.wasi_walks.proofs.walks.Here.{Here, Found, put}
 
 -- a record that is found is in the list
-in_list : (rs : List Record) (place : ℕ) (r : TcpRecord) → tcp2_at rs place ≡ Some r → (place < length rs) × (item_at rs place ≡ Tcp r)
+pub in_list : (rs : List Record) (place : ℕ) (r : TcpRecord) → tcp2_at rs place ≡ Some r → (place < length rs) × (item_at rs place ≡ Tcp r)
 in_list [] place r e = absurd (cc)
 in_list (Tcp s ∷ rs) zero r e = (omega arith, ap Tcp (let same : s ≡ r = cc in same))
 in_list (x ∷ rs) zero r e = absurd (cc)
@@ -37,8 +37,8 @@ others_same rs place r now e same =
     omega (arith, put, was, is)
 
 -- what may be permitted to a writer is left to it, whatever it is
-pub may_permit : {h : Here} {place : ℕ} (r : TcpRecord) → Found h place r → (s : Streams) (w : WriteState) → most_of h.machine.store r ≤ left (put h place (with_writer r s w)).machine.store r.maker (held w)
-may_permit {h} {place} r g s w =
+pub may_permit : (h : Here) (place : ℕ) (r : TcpRecord) → Found h place r → (s : Streams) (w : WriteState) → most_of h.machine.store r ≤ left (put h place (with_writer r s w)).machine.store r.maker (held w)
+may_permit h place r g s w =
     let same = others_same h.machine.store.records place r (with_writer r s w) g refl in
     let limit = limit_or (limit_in h.machine.store.limits r.maker) in
     omega (arith, same)

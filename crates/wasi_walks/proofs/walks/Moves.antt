@@ -12,6 +12,7 @@ use Rattle.wasi_walks.proofs.Words.{side_of, standing_as, true, wildcard, with_a
 use Rattle.wasi_walks.proofs.Words.{with_progress, with_reader, with_state, with_writer, without_handle, ℕ, ⊤}
 use Rattle.wasi_walks.proofs.Words.{◌≡◌, ◌⊎◌, ◌++◌, ◌∷◌, []}
 use Rattle.wasi_world.specs.declared.ids.Ids.{Ids}
+use Rattle.wasi_addr.specs.declared.address.SocketAddressFamily.{SocketAddressFamily}
 use Rattle.wasi_world.specs.declared.outcome.WasiSocketsCtx.{WasiSocketsCtx}
 use Rattle.wasi_tcp.specs.Bounds.{held}
 use Rattle.wasi_host.specs.Limits.{left}
@@ -252,8 +253,8 @@ pub data Move (line : ℕ) (origin : Step) : Here → Here → Type 0 where
   ReachesEnd : (h : Here) (handle place : ℕ) (end : ConnectionEnd) (r : TcpRecord) → Has (handles_of origin) handle → end_of (kind_at h.machine.table handle) ≡ Some end → end.socket ≡ Some place → Found h place r → Move line origin h (record h { at = Some (place, line) })
   Leaves : (h : Here) → Move line origin h (record h { at = None; made = Past })
   Spends : (h : Here) → h.own ≡ Unused → Move line origin h (record h { own = Used })
-  -- room is made for a socket of a context, whose limit is kept
-  MakesRoom : (h : Here) (ctx : WasiSocketsCtx) → Move line origin h (record h { machine = with_room h.machine ctx })
+  -- room is made for a socket of a context, whose limit is kept, by a line that creates one
+  MakesRoom : (h : Here) (c : ℕ) (family : SocketAddressFamily) (ctx : WasiSocketsCtx) → origin ≡ Step.Call c (GuestCall.TcpCreate family) → Move line origin h (record h { machine = with_room h.machine ctx })
   -- the record
   Changes : (h : Here) (place : ℕ) (r now : TcpRecord) → Found h place r → Plain (h.made ≡ Emptied (Tcp3 place)) (IsOfOld h place) r now → Move line origin h (put h place now)
   ClosesReader : (h : Here) (place : ℕ) (r : TcpRecord) (s : Streams) → Found h place r → r.streams ≡ Some s → Move line origin h (put h place (with_reader r s ReadState.Closed))

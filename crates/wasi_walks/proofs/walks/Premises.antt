@@ -1,4 +1,5 @@
 -- What a move and an ask take for granted: of the records, of the line's step, and of a handle that is made.
+use Rattle.std.proofs.Common.{◌≤◌}
 use Rattle.wasi_walks.proofs.Words.{Begins, Call, Connection, InProgress, Input}
 use Rattle.wasi_walks.proofs.Words.{Job, Kind, List, Listening, Network, None}
 use Rattle.wasi_walks.proofs.Words.{HandleTable, OpId, Option, Output, Pollable, ReadState, SocketAddressFamily, Some, Standing}

@@ -227,7 +227,7 @@ listen_settles _ e = tt
 -- each step is made of moves; where a guest calls, nothing is pending
 pub step_walks : {contexts : List WasiSocketsCtx} (line : ℕ) (s : Step) {law : Law contexts line s} → (m : Machine) → BeginsWrites law ⊎ IsSimpleAt m.store.standing s → (is_guest_call s ≡ true → m.store.standing ≡ None) → Walks law (Starts m (may m s)) OverWith (step_asks contexts m line s)
 step_walks line (Step.Call c GuestCall.Network) m b f = move (Spends _ refl) (and_then (and_then (mark (ANetwork c refl)) (λ made. give _)) (λ done. give _))
-step_walks {contexts} line (Step.Call c (GuestCall.TcpCreate family)) m b f = move (MakesRoom _ (context_at contexts c)) (and_then (create same_told code_told P2 (context_at contexts c) family (refl, refl, refl) refl refl refl) (λ done. give _))
+step_walks {contexts} line (Step.Call c (GuestCall.TcpCreate family)) m b f = move (MakesRoom _ c family (context_at contexts c) refl) (and_then (create same_told code_told P2 (context_at contexts c) family (refl, refl, refl) refl refl refl) (λ done. give _))
 step_walks line (Step.Call c (GuestCall.TcpStartBind s n a)) m b f = and_then (start_bind_walks m s n a (inl refl) refl (none_stands (f refl))) (λ done. give _)
 step_walks line (Step.Call c (GuestCall.TcpFinishBind s)) m b f = as_left (finish_started_walks m is_bind bind_settles (socket_at m s))
 step_walks line (Step.Call c (GuestCall.TcpStartConnect s n a)) m b f = and_then (start_connect_walks m s n a (inl refl) refl) (λ done. give _)
