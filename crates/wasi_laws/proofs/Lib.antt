@@ -6,3 +6,4 @@ pub mod permits
 pub mod sockets
 pub mod bounds
 pub mod receivers
+pub mod limits

@@ -4,3 +4,4 @@ pub mod Permitted
 pub mod Opened
 pub mod Bounds
 pub mod Receivers
+pub mod Limits

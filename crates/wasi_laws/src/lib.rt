@@ -4,6 +4,7 @@
 
 pub mod polls;
 pub mod receives;
+pub mod write_limits;
 pub mod writes;
 
 ghost use Rattle.std.specs.Prelude.{◌≡◌, ℕ, ◌+◌, ◌<◌, List, [], ◌∷◌, ◌++◌, Some, length};

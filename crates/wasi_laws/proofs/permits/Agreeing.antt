@@ -177,10 +177,10 @@ module _ (taken bytes : List ℕ) where
   SaysAll (Ok n) = 0 < n → taken ≡ bytes
   SaysAll (Err why) = ⊤
 
-  checked : (done : Result (Answer (Unit {0})) StreamStop × WriteState) → SaysReady done.0 → SaysAll (permitted done).0
-  checked (Ok (Ready done), now) k = λ n. k
-  checked (Ok Pending, now) k = λ n. absurd (omega (arith, n))
-  checked (Err why, now) k = tt
+  checked : (most : ℕ) (done : Result (Answer (Unit {0})) StreamStop × WriteState) → SaysReady done.0 → SaysAll (permitted most done).0
+  checked most (Ok (Ready done), now) k = λ n. k
+  checked most (Ok Pending, now) k = λ n. absurd (omega (arith, n))
+  checked most (Err why, now) k = tt
 
-  pub quiet_check : (es : List Entry) (op : OpId) (w : WriteState) → Agrees taken bytes w → Quiet (λ done. SaysAll done.0) es (check_write_asks op w)
-  quiet_check es op w h = quiet_then (λ done. SaysReady done.0) (λ done. SaysAll done.0) es (look_asks op w) _ (looked es op (collected w) (collected_agrees w h)) (λ fs done k. checked done k)
+  pub quiet_check : (most : ℕ) (es : List Entry) (op : OpId) (w : WriteState) → Agrees taken bytes w → Quiet (λ done. SaysAll done.0) es (check_write_asks most op w)
+  quiet_check most es op w h = quiet_then (λ done. SaysReady done.0) (λ done. SaysAll done.0) es (look_asks op w) _ (looked es op (collected w) (collected_agrees w h)) (λ fs done k. checked most done k)

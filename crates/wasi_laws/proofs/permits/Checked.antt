@@ -3,6 +3,7 @@ use Rattle.wasi_streams.specs.StreamStop as stop
 use Rattle.wasi_records.specs.Records.{tcp2_at}
 use Rattle.wasi_host.specs.CallStops.{CallStop, Failed, Closed, Traps}
 use Rattle.wasi_host.specs.Kinds.{kind_at, output_of, plain_output_of}
+use Rattle.wasi_host.specs.Limits.{check_record, most_of}
 use Rattle.wasi_host.specs.StreamCalls.{check_asks, check_by, convert_asks, converted, plain_output_at, stream_on}
 use Rattle.wasi_host.specs.declared.kind.Kind.TheVariants as kind
 use Rattle.wasi_host.specs.declared.kind.PlainOutput.{PlainOutput}
@@ -40,22 +41,22 @@ module _ (side : OpId) (taken permitted : List ℕ) (m : Machine) (own : OpId) (
   tells es place (Err why, now) k =
       quiet_then (λ c. ⊤) Tells es (convert_asks now own output place why) _ (converts es now place why) (λ fs c q. tt)
 
-  says_of : (place : ℕ) (r : TcpRecord) (o : Option Streams) → tcp2_at m.store.records place ≡ Some r → r.streams ≡ o → Writes (writer_in o) → Quiet Says [] (writer_of r (check_write_asks own) o)
+  says_of : (place : ℕ) (r : TcpRecord) (o : Option Streams) → tcp2_at m.store.records place ≡ Some r → r.streams ≡ o → Writes (writer_in o) → Quiet Says [] (writer_of r (check_write_asks (most_of m.store r) own) o)
   says_of place r None g e w = absurd w
   says_of place r (Some s) g e w =
       let o : HasStreams r.inner.state s = subst (StreamsShape r.inner.state) e (shaped place r g).0 in
       let held : side_of r.inner ≡ Some side = ap side_in o.is ∙ ap (λ (x : OpId). Some x) (of_writer o.connection.side side s.writer o.writer w) in
-      quiet_then (λ done. SaysAll taken permitted done.0) Says [] (check_write_asks own s.writer) _ (quiet_check taken permitted [] own s.writer (subst (Agree taken permitted) e (h place r g (named.named side place r g held, inl held)).0)) (λ fs done k. k)
+      quiet_then (λ done. SaysAll taken permitted done.0) Says [] (check_write_asks (most_of m.store r) own s.writer) _ (quiet_check taken permitted (most_of m.store r) [] own s.writer (subst (Agree taken permitted) e (h place r g (named.named side place r g held, inl held)).0)) (λ fs done k. k)
 
-  says_at : (place : ℕ) (o : Option TcpRecord) → tcp2_at m.store.records place ≡ o → Writes (writer_of_record o) → Quiet Says [] (stream_at m.store place (writer_asks (check_write_asks own)) o)
+  says_at : (place : ℕ) (o : Option TcpRecord) → tcp2_at m.store.records place ≡ o → Writes (writer_of_record o) → Quiet Says [] (stream_at m.store place (check_record m.store own) o)
   says_at place None g w = absurd w
-  says_at place (Some r) g w = quiet_then Says Says [] (writer_asks (check_write_asks own) r) _ (says_of place r r.streams g refl w) (λ fs done k. k)
+  says_at place (Some r) g w = quiet_then Says Says [] (check_record m.store own r) _ (says_of place r r.streams g refl w) (λ fs done k. k)
 
-  tells_on : (o : Option ℕ) → Writes (writer_of_record (record_in m o)) → Quiet Tells [] (stream_on m own output (writer_asks (check_write_asks own)) o)
+  tells_on : (o : Option ℕ) → Writes (writer_of_record (record_in m o)) → Quiet Tells [] (stream_on m own output (check_record m.store own) o)
   tells_on None w = absurd w
   tells_on (Some place) w =
       let o = tcp2_at m.store.records place in
-      quiet_then Says Tells [] (stream_at m.store place (writer_asks (check_write_asks own)) o) _ (says_at place o refl w) (λ fs done k. tells fs place (with_store m done) k)
+      quiet_then Says Tells [] (stream_at m.store place (check_record m.store own) o) _ (says_at place o refl w) (λ fs done k. tells fs place (with_store m done) k)
 
   -- an output of a network socket is none of no connection
   not_plain : (k : Option Kind) (plain : PlainOutput) → plain_output_of k ≡ Some plain → output_of k ≡ None

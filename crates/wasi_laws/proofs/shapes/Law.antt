@@ -64,7 +64,7 @@ turned at es w job now on k =
     allows_weaker Anything (λ fs ended. AreOfWrite ended.1) (λ fs ended. WriterIs at (now (job_after job.write.who ended))) (λ fs ended l. j.1 _ (job_now at job ended j.0 l)) es _ (polls_by (left_law job.write.who) job.write.left es j.0.left)
 
 -- == records
-has_streams : (r : TcpRecord) (s : Streams) → r.streams ≡ Some s → RecordShape r → HasStreams r.inner.state s
+pub has_streams : (r : TcpRecord) (s : Streams) → r.streams ≡ Some s → RecordShape r → HasStreams r.inner.state s
 has_streams r s e k = subst (StreamsShape r.inner.state) e k.0
 
 writes_on : (r : TcpRecord) (s : Streams) (w : WriteState) (e : r.streams ≡ Some s) (k : RecordShape r) → WriterIs (has_streams r s e k).connection.side w → (IsUsed w → IsUsed s.writer) → RecordShape (with_writer r s w)
