@@ -6,6 +6,7 @@ pub mod Halves
 pub mod Stays
 pub mod Kept
 pub mod Permits
+pub mod NonePermitted
 pub mod Makes
 pub mod Cancels
 pub mod Composed

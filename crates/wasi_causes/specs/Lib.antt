@@ -9,6 +9,7 @@ pub mod Polls
 pub mod Udp
 pub mod Datagrams
 pub mod StreamCauses
+pub mod WholeLimit
 pub mod KeptAddress
 pub mod ErrorMarks
 pub mod SendCauses

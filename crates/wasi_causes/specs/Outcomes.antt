@@ -64,8 +64,9 @@ use Rattle.wasi_records.specs.declared.name_lookup.Lookup.{Lookup}
 use Rattle.wasi_host.specs.NameLookupCalls.{lookup_ready}
 use Rattle.wasi_host.specs.declared.kind.Kind.TheVariants as kind
 use Rattle.wasi_host.specs.declared.machine.Machine.{Machine}
-use Rattle.wasi_host.specs.Machine.{incoming_at, input_at, outgoing_at, output_at, own_of, receive3_at, result3_at, send3_at, socket_at, udp_socket_at}
+use Rattle.wasi_host.specs.Machine.{incoming_at, input_at, outgoing_at, output_at, own_of, receive3_at, result3_at, send3_at, socket_at, udp_socket_at, with_room}
 use Rattle.wasi_records.specs.Shutdowns.{with_streams}
+use Rattle.wasi_host.specs.Limits.{most_of}
 use Rattle.wasi_host.specs.Store.{with_record}
 use Rattle.wasi_walks.specs.Licence.{entry, Has, marks_in}
 use Rattle.wasi_walks.specs.Listens.{AcceptsAt, closed_by_listen, AcceptTakes, HasNoListenInProgress, RefusedAccept, RefusedListen}
@@ -134,7 +135,7 @@ Cancels m n es r after = ((r ≡ reply.NoSuchCall) ↔ (stands_under m.store n �
 
 -- one reply comes of this and of nothing else; or some of these things stay
 abbrev pub Always : List WasiSocketsCtx → Machine → ℕ → Step → List Entry → Reply → Machine → Type 0
-Always contexts m line (step.Call c (guest.TcpCreate family)) es r after = OnlyWhere (context_at contexts c).tcp m es after
+Always contexts m line (step.Call c (guest.TcpCreate family)) es r after = let ctx = context_at contexts c in OnlyWhere ctx.tcp (with_room m ctx) es after
 Always contexts m line (step.Call c (guest.TcpStartBind s n a)) es r after = is_network (kind_at m.table n) ≡ true → Conflicts m s r
 Always contexts m line (step.Call c (guest.TcpFinishBind s)) es r after = (es ≡ []) × ((r ≡ reply.Err word.NotInProgress) ↔ HasNoBindInProgress (record_at m s))
 Always contexts m line (step.Call c (guest.TcpStartConnect s n a)) es r after = is_network (kind_at m.table n) ≡ true → Conflicts m s r
@@ -288,7 +289,7 @@ pub record FinishRefused (m : Machine) (handle : ℕ) (es : List Entry) (w : Cod
   pub cause : ConnectsAt m handle → FinishesAt m handle → RefusedOf m handle (FinishRefusal m) es w after
 
 abbrev pub Refused : List WasiSocketsCtx → Machine → ℕ → Step → List Entry → CodeWord → Machine → Type 0
-Refused contexts m line (step.Call c (guest.TcpCreate family)) es w after = CreateRefusal (own_of line) (context_at contexts c) family es w × (after ≡ m)
+Refused contexts m line (step.Call c (guest.TcpCreate family)) es w after = let ctx = context_at contexts c in CreateRefusal (own_of line) ctx family es w × (after ≡ with_room m ctx)
 Refused contexts m line (step.Call c (guest.TcpStartBind s n a)) es w after = RefusedBind m (own_of line) s a es w after × ((after ≡ m) ⊎ ((w ≡ word.InvalidState) × KnowsBound m s after))
 Refused contexts m line (step.Call c (guest.TcpFinishBind s)) es w after = after ≡ m
 Refused contexts m line (step.Call c (guest.TcpStartConnect s n a)) es w after = RefusedConnect m (own_of line) s a es w after × ((after ≡ m) ⊎ ((w ≡ word.InvalidArgument) × KnowsBound m s after))
@@ -416,7 +417,7 @@ LeavesUdpSocket m line ctx family es after =
 
 -- what a call that makes a handle leaves then
 abbrev pub LeftFull : List WasiSocketsCtx → Machine → ℕ → Step → List Entry → Machine → Type 0
-LeftFull contexts m line (step.Call c (guest.TcpCreate family)) es after = LeavesSocket m line (context_at contexts c) family es after
+LeftFull contexts m line (step.Call c (guest.TcpCreate family)) es after = let ctx = context_at contexts c in LeavesSocket (with_room m ctx) line ctx family es after
 LeftFull contexts m line (step.Call c (guest.P3TcpCreate family)) es after = LeavesSocket m line (context_at contexts c) family es after
 LeftFull contexts m line (step.Call c (guest.UdpCreate family)) es after = LeavesUdpSocket m line (context_at contexts c) family es after
 LeftFull contexts m line (step.Call c (guest.P3TcpListen s)) es after = OfTcp3 m s (λ place r. ListensUnnamed m (own_of line) place r es after)

@@ -2,7 +2,7 @@
 //! that what a context may not use asks nothing. Laws over the definitions of specs/: each is a
 //! function that does nothing, whose contract is the law.
 
-ghost use Rattle.std.specs.Prelude.{◌≡◌, ◌↔◌, ℕ, true, false, List, [], ◌∷◌, Some, None};
+ghost use Rattle.std.specs.Prelude.{◌≡◌, ◌↔◌, ◌⊎◌, ℕ, true, false, List, [], ◌∷◌, Some, None};
 ghost use Rattle.wasi_addr.specs.declared.address.IpAddress.{IpAddress};
 ghost use Rattle.wasi_addr.specs.declared.address.SocketAddressFamily.{SocketAddressFamily};
 ghost use Rattle.wasi_names.specs.Names.{name_is};
@@ -15,7 +15,7 @@ ghost use Rattle.wasi_host.specs.declared.machine.Machine.{Machine};
 ghost use Rattle.wasi_records.specs.declared.name_lookup.Lookup.{Lookup};
 ghost use Rattle.wasi_records.specs.declared.name_lookup.Lookup.TheVariants as Lookup;
 ghost use Rattle.wasi_host.specs.Kinds.{is_network, kind_at};
-ghost use Rattle.wasi_host.specs.Machine.{first_state, lookup_number, own_of};
+ghost use Rattle.wasi_host.specs.Machine.{first_state, lookup_number, own_of, with_room};
 ghost use Rattle.wasi_records.specs.NameLookup.{looks_on};
 ghost use Rattle.wasi_host.specs.NameLookupCalls.{lookup_ready};
 ghost use Rattle.wasi_records.specs.Records.{lookup_at};
@@ -174,7 +174,8 @@ pub fn lookups_are_watched_and_dropped()
 
 /// What a context may not use asks nothing, and leaves the machine unchanged:
 ///
-/// - `tcp`: a `tcp-create`; `p3_tcp`: a `p3-tcp-create`.
+/// - `tcp`: a `tcp-create`, after which the limit of the context is kept; `p3_tcp`: a
+///   `p3-tcp-create`.
 /// - `udp`: a `udp-create`; `p3_udp`: a `p3-udp-create`.
 /// - `lookup`: a `resolve`; `p3_lookup`: a `p3-resolve`.
 pub fn what_is_forbidden_asks_nothing()
@@ -182,7 +183,8 @@ pub fn what_is_forbidden_asks_nothing()
         (family : SocketAddressFamily) (entries : List Entry) (reply : Reply) (after : Machine)
         → (context_at contexts ctx).tcp ≡ false
         → Answered contexts m line (Step.Call ctx (GuestCall.TcpCreate family)) entries reply after
-        → (entries ≡ []) × (after ≡ m) }
+        → (entries ≡ []) × (((reply ≡ Reply.Busy) × (after ≡ m))
+        ⊎ (after ≡ with_room m (context_at contexts ctx))) }
     ensures p3_tcp { (contexts : List WasiSocketsCtx) (m : Machine) (line ctx : ℕ)
         (family : SocketAddressFamily) (entries : List Entry) (reply : Reply) (after : Machine)
         → (context_at contexts ctx).tcp ≡ false

@@ -17,6 +17,7 @@ ghost use Rattle.wasi_host.specs.declared.kind.PlainInput.{PlainInput};
 ghost use Rattle.wasi_host.specs.declared.kind.PlainOutput.{PlainOutput};
 ghost use Rattle.wasi_host.specs.declared.machine.Machine.{Machine};
 ghost use Rattle.wasi_records.specs.declared.records.Record.{Record};
+ghost use Rattle.wasi_host.specs.Limits.{most_of};
 ghost use Rattle.wasi_host.specs.Machine.{input_at, output_at, own_of};
 ghost use Rattle.wasi_host.specs.PlainStreams.{with_record_more};
 ghost use Rattle.wasi_host.specs.StreamCalls.{plain_output_at};
@@ -38,6 +39,7 @@ ghost use Rattle.wasi_causes.specs.Plain.{EndsCheck, EndsOutput, EndsPlain, Make
 ghost use Rattle.wasi_causes.specs.Plain.{MakesStream, OfOutputPipe, PastCapacity, PermitsPlain};
 ghost use Rattle.wasi_causes.specs.Plain.{PlainCheck, PlainFlush, PlainRead, PlainWrite};
 ghost use Rattle.wasi_causes.specs.Plain.{TakesFront, TakesNothing, WritesPlain};
+ghost use Rattle.wasi_causes.specs.WholeLimit.{PermitsNone};
 
 /// Where the bytes of a read come from.
 ///
@@ -119,16 +121,29 @@ pub fn errors_are_marked_with_their_socket()
         → MarksItsSocket m (own_of line) stream (output_at m stream) entries }
 {}
 
-/// A permit of a connection is 0 where its write isn't finished or its look was answered pending,
-/// and else 65,536. That of a sink is 65,536, and that of a pipe is the room that it has, at least
-/// 1.
+/// How much may be written.
+///
+/// - `permits`: a permit of a connection is 0 where its write isn't finished or its look was
+///   answered pending. Else it is what the other writers of the context that made its socket leave
+///   of that context's limit, and at most 65,536. That of a sink is 65,536, and that of a pipe is
+///   the room that it has, at least 1.
+/// - `none`: a permit of 0 is of a connection. An earlier write is in progress, the look was answered
+///   pending, or the writer is ready and the other writers of the context that made its socket use
+///   that context's whole limit.
 pub fn permits_have_causes()
-    ensures { (contexts : List WasiSocketsCtx) (m : Machine) (line ctx output n : ℕ)
+    ensures permits { (contexts : List WasiSocketsCtx) (m : Machine) (line ctx output n : ℕ)
         (entries : List Entry) (after : Machine)
         → Answered contexts m line (Step.Call ctx (GuestCall.CheckWrite output)) entries
         (Reply.Ok (number_fields n)) after
-        → OfStreams m (output_at m output) (λ place r s. Permits (own_of line) s.writer n entries)
+        → OfStreams m (output_at m output)
+        (λ place r s. Permits (own_of line) s.writer (most_of m.store r) n entries)
         ⊎ IsSomeAnd (plain_output_at m output) (λ o. PermitsPlain m o n) }
+    ensures none { (contexts : List WasiSocketsCtx) (m : Machine) (line ctx output : ℕ)
+        (entries : List Entry) (after : Machine)
+        → Answered contexts m line (Step.Call ctx (GuestCall.CheckWrite output)) entries
+        (Reply.Ok (number_fields 0)) after
+        → OfStreams m (output_at m output)
+        (λ place r s. PermitsNone m.store r (own_of line) s.writer entries) }
 {}
 
 /// A write of more than its permit traps.

@@ -27,7 +27,8 @@ ghost use Rattle.wasi_causes.specs.Reached.{FinishesAt};
 ghost use Rattle.wasi_causes.specs.GivenUp.{HasNoStreams, shut_down, shutdown_entries};
 ghost use Rattle.wasi_walks.specs.Licence.{entry};
 ghost use Rattle.wasi_machine.specs.Machine.{context_at, run};
-ghost use Rattle.wasi_host.specs.Machine.{first_state, own_of, socket_at};
+ghost use Rattle.wasi_host.specs.Limits.{with_limit};
+ghost use Rattle.wasi_host.specs.Machine.{first_state, own_of, socket_at, with_room};
 ghost use Rattle.wasi_records.specs.Shutdowns.{with_streams};
 ghost use Rattle.wasi_host.specs.Kinds.{is_network, kind_at};
 ghost use Rattle.wasi_walks.specs.Waiting.{WatchesConnect};
@@ -69,7 +70,7 @@ pub fn finish_bind_refusals()
 ///
 /// - `cause`: a create is refused with `access-denied` where the context may not use TCP, and then
 ///   nothing is asked; or with the code that its one call was answered.
-/// - `stays`: after a refusal the machine is unchanged.
+/// - `stays`: after a refusal the machine is unchanged, but that the limit of the context is kept.
 pub fn create_refusals()
     ensures cause { (contexts : List WasiSocketsCtx) (m : Machine) (line ctx : ℕ)
         (family : SocketAddressFamily) (entries : List Entry) (word : CodeWord) (after : Machine)
@@ -80,14 +81,15 @@ pub fn create_refusals()
         (family : SocketAddressFamily) (entries : List Entry) (word : CodeWord) (after : Machine)
         → Answered contexts m line (Step.Call ctx (GuestCall.TcpCreate family)) entries
         (Reply.Err word) after
-        → after ≡ m }
+        → after ≡ with_room m (context_at contexts ctx) }
 {}
 
 /// A create that traps with `Full` has made its network socket.
 ///
 /// - `full`: the table is full.
 /// - `asked`: its one call created the socket, and was answered done.
-/// - `left`: the socket is in the last record; the rest of the machine is unchanged.
+/// - `left`: the socket is in the last record, and the limit of the context is kept; the rest of
+///   the machine is unchanged.
 pub fn create_full()
     ensures full { (contexts : List WasiSocketsCtx) (m : Machine) (line ctx : ℕ)
         (family : SocketAddressFamily) (entries : List Entry) (after : Machine)
@@ -104,7 +106,7 @@ pub fn create_full()
         → Answered contexts m line (Step.Call ctx (GuestCall.TcpCreate family)) entries
         (Reply.Trap TrapKind.Full) after
         → after ≡ record m {
-          store = with_record m.store
+          store = with_record (with_limit m.store (context_at contexts ctx))
               (new_socket (own_of line) (context_at contexts ctx).name family);
         } }
 {}

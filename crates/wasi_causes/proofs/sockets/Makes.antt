@@ -21,7 +21,7 @@ use Rattle.wasi_causes.proofs.operations.Polls.{EndsFor, connect_ends}
 use Rattle.wasi_causes.proofs.tables.Meets.{Rows, Meets, ends, asks, chain, onto, branch, widen, both, granted}
 use Rattle.wasi_causes.proofs.tables.Routes.{Says, makes, full_so, code_word, makes_streams, Names, its, here, finds, calls, through_record, apart, none_has, not_of_code, put_back}
 use Rattle.wasi_causes.proofs.Words.{CreateFails, Full, Kind, create_to, is_full, made_to}
-use Rattle.wasi_host.specs.Machine.{code_told, same_told}
+use Rattle.wasi_host.specs.Machine.{code_told, same_told, with_room}
 use Rattle.wasi_causes.specs.Outcomes.{FullAfter, LeavesSocket, OnlyWhere, Outcome}
 use Rattle.wasi_causes.specs.Reached.{Finishes, FinishesAt, MayFinish}
 use Rattle.wasi_records.specs.Records.{tcp2_at, tcp2_put, tcp2_pushed}
@@ -93,10 +93,15 @@ module _ (contexts : List WasiSocketsCtx) (m : Machine) (line c : ℕ) where
         by_made es (Err code) k = ends (refused es code k)
         by_made es (Ok socket) k = onto _ (makes m.table (own_of line) (kind (length m.store.records)) None (side_of socket) (λ none. full es socket k none) (made es _ socket k))
 
-    pub create : Meets (Says contexts m line (step.Call c (guest.TcpCreate family))) [] (bind (create_asks m (own_of line) ctx family) (λ done. Give (handle_reply done.0, done.1)))
-    create =
-        onto _ (creates same_told code_told Tcp2 (λ es code k. (refused_at_once k, (code_word code, (record { code = code; is = refl; cause = k }, refl))))
-        (λ es socket k none. let left = no_room k none in (may_use k, (tt, left.0, left.1))) (λ es fs socket k. (may_use k, ((tt, tt), tt))))
+-- a create of 0.2, for whose context room is made first
+pub create : (contexts : List WasiSocketsCtx) (m : Machine) (line c : ℕ) (family : SocketAddressFamily)
+    → Meets (Says contexts m line (step.Call c (guest.TcpCreate family))) [] (bind (create_asks m (own_of line) (context_at contexts c) family) (λ done. Give (handle_reply done.0, done.1)))
+create contexts m line c family =
+    let now : Machine = with_room m (context_at contexts c) in
+    onto _ (creates contexts now line c family same_told code_told Tcp2
+    (λ es code k. (refused_at_once contexts now line c family k, (code_word code, (record { code = code; is = refl; cause = k }, refl))))
+    (λ es socket k none. let left = no_room contexts now line c family k none in (may_use contexts now line c family k, (tt, left.0, left.1)))
+    (λ es fs socket k. (may_use contexts now line c family k, ((tt, tt), tt))))
 
 module _ (contexts : List WasiSocketsCtx) (m : Machine) (line c handle : ℕ) where
   abbrev own : OpId

@@ -39,7 +39,8 @@ use Rattle.wasi_steps.specs.declared.step.Step.TheVariants as step
 use Rattle.wasi_streams.specs.StreamStop.{Failed, Closed, Trap}
 use Rattle.wasi_streams.specs.StreamStop as stop
 use Rattle.wasi_tcp.specs.Job.{writer, job_after}
-use Rattle.wasi_tcp.specs.Writer.{error_of_code, stop_of, write_half_asks}
+use Rattle.wasi_host.specs.Limits.{most_of}
+use Rattle.wasi_tcp.specs.Writer.{drop_permit, error_of_code, stop_of, write_half_asks}
 use Rattle.wasi_tcp.specs.declared.reader.ReadState.TheVariants as reading
 use Rattle.wasi_tcp.specs.declared.writer.WriteError.{WriteError}
 use Rattle.wasi_tcp.specs.declared.writer.WriteError.TheVariants as error
@@ -55,19 +56,25 @@ module _ (own : OpId) (writer : WriteState) where
   LookRow es (Ok Pending, now) = WriterWaits own writer es
   LookRow es (_, now) = LooksOnce own es
 
-  told_look : (half : TcpSendStream) (permit : ℕ) (t : Told) → collected writer ≡ writing.Ready half permit → FitsReady t → LookRow (entry own (call.WriteReady half.side) t ∷ []) (Ok (told_ready t), writing.Ready half permit)
-  told_look half permit told.Done e fits = OneLook half.side told.Done
-  told_look half permit told.Pending e fits = ToldToWait half permit e
-  told_look half permit _ e fits = absurd fits
+  told_look : (half : TcpSendStream) (permit : ℕ) (now : WriteState) (t : Told) → collected writer ≡ writing.Ready half permit → FitsReady t → LookRow (entry own (call.WriteReady half.side) t ∷ []) (Ok (told_ready t), now)
+  told_look half permit now told.Done e fits = OneLook half.side told.Done
+  told_look half permit now told.Pending e fits = ToldToWait half permit e
+  told_look half permit now _ e fits = absurd fits
 
   looks_as : (now : WriteState) → collected writer ≡ now → Meets LookRow [] (look_in own now)
   unfolding bind
-  looks_as (writing.Ready half permit) e = asks (λ t fits. ends (told_look half permit t e fits))
+  looks_as (writing.Ready half permit) e = asks (λ t fits. ends (told_look half permit (writing.Ready half permit) t e fits))
   looks_as (writing.Closed kept) e = ends NoLook
   looks_as _ e = ends (WritesOn (rw e tt))
 
   pub looks : Meets LookRow [] (look_asks own writer)
   looks = looks_as (collected writer) refl
+
+-- the same where its permit went before
+dropped_looks : (own : OpId) (writer : WriteState) → Meets (LookRow own writer) [] (look_asks own (drop_permit writer))
+unfolding bind
+dropped_looks own (writing.Ready half permit) = asks (λ t fits. ends (told_look own (writing.Ready half permit) half permit (writing.Ready half 0) t refl fits))
+dropped_looks own writer = looks own writer
 
 -- == an output that goes
 module _ (store : Records) (ids : Ids) (place : ℕ) where
@@ -92,7 +99,7 @@ module _ (store : Records) (ids : Ids) (place : ℕ) where
 
     by_streams : (o : Option Streams) → r.streams ≡ o → Meets (λ es done. WaitRow es (wait_put store place done)) [] (wait_writer (own_of ids.line) r o)
     by_streams None has = ends (NoLook, refl)
-    by_streams (Some s) has = onto _ (widen (of_look s has) (looks (own_of ids.line) s.writer))
+    by_streams (Some s) has = onto _ (widen (of_look s has) (dropped_looks (own_of ids.line) s.writer))
 
   waits_at : (o : Option TcpRecord) → tcp2_at store.records place ≡ o → Meets WaitRow [] (wait_at store (own_of ids.line) place o)
   waits_at None at = ends (NoLook, refl)
@@ -167,7 +174,7 @@ module _ (contexts : List WasiSocketsCtx) (m : Machine) (line c input len : ℕ)
   by_input : (o : Option PlainInput) → plain_input_at m input ≡ o → Meets (Replied contexts m line (step.Call c (guest.Read input len)) bytes_reply) [] (read_by m (own_of line) input len o)
   by_input (Some plain) is = ends (plain_reads contexts m line c input len plain is)
   by_input None connected =
-      on_stream m (own_of line) input (Replied contexts m line (step.Call c (guest.Read input len)) bytes_reply) (λ s. s.reader) with_reader (input_at m input) (λ none. (not_plain connected [] _, ((none, rw connected tt), (refl, refl)))) (λ reader. read_state_asks (own_of line) reader len) (λ r o. reader_of r (λ reader. read_state_asks (own_of line) reader len) o) (λ r. refl) (λ r s. refl)
+      on_stream m (own_of line) input (Replied contexts m line (step.Call c (guest.Read input len)) bytes_reply) (λ s. s.reader) with_reader (input_at m input) (λ none. (not_plain connected [] _, ((none, rw connected tt), (refl, refl)))) (λ r reader. read_state_asks (own_of line) reader len) (λ r o. reader_of r (λ reader. read_state_asks (own_of line) reader len) o) (λ r. refl) (λ r s. refl)
       (λ place r s n. widen (told_as connected place r s n) (reads (own_of line) len s.reader)) (input_at m input) refl
 
   pub read_rows : Meets (Replied contexts m line (step.Call c (guest.Read input len)) bytes_reply) [] (read_asks m (own_of line) input len)
@@ -176,15 +183,15 @@ module _ (contexts : List WasiSocketsCtx) (m : Machine) (line c input len : ℕ)
   pub read : Meets (Says contexts m line (step.Call c (guest.Read input len))) [] (bind (read_asks m (own_of line) input len) (λ done. Give (bytes_reply done.0, done.1)))
   read = onto _ read_rows
 
-module _ (own : OpId) where
+module _ (own : OpId) (most : ℕ) where
   -- == a look at what may be written
   abbrev pub CheckRow : WriteState → Rows (Result ℕ StreamStop × WriteState)
-  CheckRow writer es (Ok n, now) = Permits own writer n es
+  CheckRow writer es (Ok n, now) = Permits own writer most n es
   CheckRow writer es (Err (Failed c), now) = CheckFails (error.LastOperationFailed c) writer es × (now ≡ writing.Closed (error.LastOperationFailed c))
   CheckRow writer es (Err Closed, now) = CheckFails error.Closed writer es × (now ≡ writing.Closed error.Closed)
   CheckRow writer es (Err (Trap kind), now) = ⊥
 
-  told_check : (writer : WriteState) (half : TcpSendStream) (permit : ℕ) (t : Told) → collected writer ≡ writing.Ready half permit → FitsReady t → CheckRow writer (entry own (call.WriteReady half.side) t ∷ []) (permitted (Ok (told_ready t), writing.Ready half permit))
+  told_check : (writer : WriteState) (half : TcpSendStream) (permit : ℕ) (t : Told) → collected writer ≡ writing.Ready half permit → FitsReady t → CheckRow writer (entry own (call.WriteReady half.side) t ∷ []) (permitted most (Ok (told_ready t), writing.Ready half permit))
   told_check writer half permit told.Done e fits = IsReady half permit e
   told_check writer half permit told.Pending e fits = NotReady half permit e
   told_check writer half permit _ e fits = absurd fits
@@ -193,13 +200,13 @@ module _ (own : OpId) where
   told_kept writer error.Closed e = ((e, refl), refl)
   told_kept writer (error.LastOperationFailed c) e = ((e, refl), refl)
 
-  checks_as : (writer now : WriteState) → collected writer ≡ now → Meets (CheckRow writer) [] (bind (look_in own now) (λ looked. Give (permitted looked)))
+  checks_as : (writer now : WriteState) → collected writer ≡ now → Meets (CheckRow writer) [] (bind (look_in own now) (λ looked. Give (permitted most looked)))
   unfolding bind
   checks_as writer (writing.Ready half permit) e = asks (λ t fits. ends (told_check writer half permit t e fits))
   checks_as writer (writing.Closed kept) e = ends (told_kept writer kept e)
   checks_as writer _ e = ends (GoesOn (rw e tt))
 
-  pub checks : (writer : WriteState) → Meets (CheckRow writer) [] (check_write_asks own writer)
+  pub checks : (writer : WriteState) → Meets (CheckRow writer) [] (check_write_asks most own writer)
   checks writer = checks_as writer (collected writer) refl
 
 -- == a poll of a write, which ends with a code where that was the answer to its last write, and the half was released then
@@ -336,7 +343,7 @@ module _ (contexts : List WasiSocketsCtx) (m : Machine) (line c output : ℕ) wh
     no_capacity n said other = apart other (λ k. rw connected at k)
 
   -- == a look at what may be written
-  check_so : (connected : plain_output_at m output ≡ None) (place : ℕ) (r : TcpRecord) (s : Streams) → HasStreams m (output_at m output) place r s → (es : List Entry) (done : Result ℕ StreamStop × WriteState) → CheckRow own s.writer es done
+  check_so : (connected : plain_output_at m output ≡ None) (place : ℕ) (r : TcpRecord) (s : Streams) → HasStreams m (output_at m output) place r s → (es : List Entry) (done : Result ℕ StreamStop × WriteState) → CheckRow own (most_of m.store r) s.writer es done
       → TellsStream m own output (Replied contexts m line (step.Call c (guest.CheckWrite output)) permit_reply) es done.0 (with_socket m.store place (with_writer r s done.1))
   check_so connected place r s n es (Ok k, now) h = (no_plain_check connected es _ _, ((tt, tt), inl (of_streams n h)))
   check_so connected place r s n es (Err stop.Closed, now) h = (no_plain_check connected es _ _, (tt, inl (of_streams n (h.0, ap (left place r s n) h.1))))
@@ -349,8 +356,8 @@ module _ (contexts : List WasiSocketsCtx) (m : Machine) (line c output : ℕ) wh
   check_by_output : (o : Option PlainOutput) → plain_output_at m output ≡ o → Meets (Replied contexts m line (step.Call c (guest.CheckWrite output)) permit_reply) [] (check_by m own output o)
   check_by_output (Some plain) is = ends (plain_checks contexts m line c output plain is)
   check_by_output None connected =
-      on_stream m own output (Replied contexts m line (step.Call c (guest.CheckWrite output)) permit_reply) (λ s. s.writer) with_writer (output_at m output) (λ none. (no_plain_check connected [] _ _, ((none, rw connected tt), (refl, refl)))) (check_write_asks own) (λ r o. writer_of r (check_write_asks own) o) (λ r. refl) (λ r s. refl)
-      (λ place r s n. widen (check_so connected place r s n) (checks own s.writer)) (output_at m output) refl
+      on_stream m own output (Replied contexts m line (step.Call c (guest.CheckWrite output)) permit_reply) (λ s. s.writer) with_writer (output_at m output) (λ none. (no_plain_check connected [] _ _, ((none, rw connected tt), (refl, refl)))) (λ r. check_write_asks (most_of m.store r) own) (λ r o. writer_of r (check_write_asks (most_of m.store r) own) o) (λ r. refl) (λ r s. refl)
+      (λ place r s n. widen (check_so connected place r s n) (checks own (most_of m.store r) s.writer)) (output_at m output) refl
 
   pub check_rows : Meets (Replied contexts m line (step.Call c (guest.CheckWrite output)) permit_reply) [] (check_asks m own output)
   check_rows = check_by_output (plain_output_at m output) refl
@@ -405,7 +412,7 @@ module _ (contexts : List WasiSocketsCtx) (m : Machine) (line c output : ℕ) wh
     write_by_output : (o : Option PlainOutput) → plain_output_at m output ≡ o → Meets (Replied contexts m line (step.Call c (guest.Write output bytes)) taken_reply) [] (write_by m own output bytes o)
     write_by_output (Some plain) is = ends (plain_writes contexts m line c output bytes plain is)
     write_by_output None connected =
-        on_write m own output (Replied contexts m line (step.Call c (guest.Write output bytes)) taken_reply) (λ s. s.writer) with_writer (output_at m output) (λ none. ((apart (λ e. cc) (none_there none), no_capacity connected (length bytes) _ (λ e. cc), no_plain_write connected [] _), ((none, rw connected tt), (refl, refl)))) (λ w. write_state_asks own w bytes) (λ r o. writer_of r (λ w. write_state_asks own w bytes) o) (λ r. refl) (λ r s. refl)
+        on_write m own output (Replied contexts m line (step.Call c (guest.Write output bytes)) taken_reply) (λ s. s.writer) with_writer (output_at m output) (λ none. ((apart (λ e. cc) (none_there none), no_capacity connected (length bytes) _ (λ e. cc), no_plain_write connected [] _), ((none, rw connected tt), (refl, refl)))) (λ r w. write_state_asks own w bytes) (λ r o. writer_of r (λ w. write_state_asks own w bytes) o) (λ r. refl) (λ r s. refl)
         (λ place r s n. widen (write_so connected place r s n) (writes own bytes s.writer)) (output_at m output) refl
 
     pub write_rows : Meets (Replied contexts m line (step.Call c (guest.Write output bytes)) taken_reply) [] (write_asks m own output bytes)
@@ -428,7 +435,7 @@ module _ (contexts : List WasiSocketsCtx) (m : Machine) (line c output : ℕ) wh
   flush_by_output : (o : Option PlainOutput) → plain_output_at m output ≡ o → Meets (Replied contexts m line (step.Call c (guest.Flush output)) taken_reply) [] (flush_by m own output o)
   flush_by_output (Some plain) is = ends (plain_flushes contexts m line c output plain is)
   flush_by_output None connected =
-      on_stream m own output (Replied contexts m line (step.Call c (guest.Flush output)) taken_reply) (λ s. s.writer) with_writer (output_at m output) (λ none. (no_plain_flush connected [] _ _, ((none, rw connected tt), (refl, refl)))) flush_asks (λ r o. writer_of r flush_asks o) (λ r. refl) (λ r s. refl)
+      on_stream m own output (Replied contexts m line (step.Call c (guest.Flush output)) taken_reply) (λ s. s.writer) with_writer (output_at m output) (λ none. (no_plain_flush connected [] _ _, ((none, rw connected tt), (refl, refl)))) (λ r. flush_asks) (λ r o. writer_of r flush_asks o) (λ r. refl) (λ r s. refl)
       (λ place r s n. widen (flush_so connected place r s n) (flushes s.writer)) (output_at m output) refl
 
   pub flush_rows : Meets (Replied contexts m line (step.Call c (guest.Flush output)) taken_reply) [] (flushed_asks m own output)

@@ -3,6 +3,7 @@ use Rattle.wasi_causes.proofs.Words.{◌≡◌, ◌∙◌, ℕ, ⊤, Bool, true,
 use Rattle.memory_streams.specs.Plain.{Contents, left_in}
 use Rattle.wasi_streams.specs.StreamStop as stop
 use Rattle.wasi_jobs.specs.declared.job.HostJob.{HostJob}
+use Rattle.wasi_host.specs.Limits.{most_of}
 use Rattle.wasi_host.specs.declared.kind.PlainInput.{PlainInput}
 use Rattle.wasi_host.specs.declared.kind.PlainInput.TheVariants as input
 use Rattle.wasi_host.specs.declared.kind.PlainOutput.{PlainOutput}
@@ -113,14 +114,14 @@ read_marks own len reader es (Ok [], now) h = by_none h.0
 read_marks own len reader es (Ok (b ∷ bytes), now) h = ap marks_in h.0.asked
 read_marks own len reader es (Err why, now) h = tt
 
-check_marks : (own : OpId) (writer : WriteState) (es : List Entry) (done : Result ℕ StreamStop × WriteState) → CheckRow own writer es done → MarksNone es done.0
-check_marks own writer es (Ok n, now) h = by_permit h
+check_marks : (own : OpId) (most : ℕ) (writer : WriteState) (es : List Entry) (done : Result ℕ StreamStop × WriteState) → CheckRow own most writer es done → MarksNone es done.0
+check_marks own most writer es (Ok n, now) h = by_permit h
   where
-    by_permit : {k : ℕ} {gs : List Entry} → Permits own writer k gs → marks_in gs ≡ 0
+    by_permit : {k : ℕ} {gs : List Entry} → Permits own writer most k gs → marks_in gs ≡ 0
     by_permit (GoesOn on) = refl
     by_permit (NotReady half permit e) = refl
     by_permit (IsReady half permit e) = refl
-check_marks own writer es (Err why, now) h = tt
+check_marks own most writer es (Err why, now) h = tt
 
 write_marks : (own : OpId) (n : ℕ) (writer : WriteState) (es : List Entry) (done : Result (Unit {0}) StreamStop × WriteState) → WriteRow own n writer es done → MarksNone es done.0
 write_marks own n writer es (Ok given, now) h = h.1
@@ -141,7 +142,7 @@ module _ (m : Machine) (own : OpId) (handle : ℕ) where
   read_kept len (Some (input.Pipe place)) is = ends (read_left place len (input_pipe_at m.store.records place) refl)
   read_kept len (Some input.Closed) is = ends (nothing_kept m, refl)
   read_kept len None is =
-      on_stream m own handle (Kept m) (λ s. s.reader) with_reader (input_at m handle) (λ none. nothing_kept m) (λ reader. read_state_asks own reader len) (λ r o. reader_of r (λ reader. read_state_asks own reader len) o) (λ r. refl) (λ r s. refl)
+      on_stream m own handle (Kept m) (λ s. s.reader) with_reader (input_at m handle) (λ none. nothing_kept m) (λ r reader. read_state_asks own reader len) (λ r o. reader_of r (λ reader. read_state_asks own reader len) o) (λ r. refl) (λ r s. refl)
       (λ place r s n. widen (λ es done k. told_kept m own handle es done.0 _ (refl, there_put m.store.records place r (with_reader r s done.1) n.at refl) (read_marks own len s.reader es done k)) (reads own len s.reader)) (input_at m handle) refl
 
   pub reads_keep : (len : ℕ) → Meets (Kept m) [] (read_asks m own handle len)
@@ -156,8 +157,8 @@ module _ (m : Machine) (own : OpId) (handle : ℕ) where
       of_answer (Err Closed) = (nothing_kept m, refl)
       of_answer (Err _) = nothing_kept m
   check_kept None is =
-      on_stream m own handle (Kept m) (λ s. s.writer) with_writer (output_at m handle) (λ none. nothing_kept m) (check_write_asks own) (λ r o. writer_of r (check_write_asks own) o) (λ r. refl) (λ r s. refl)
-      (λ place r s n. widen (λ es done k. told_kept m own handle es done.0 _ (refl, there_put m.store.records place r (with_writer r s done.1) n.at refl) (check_marks own s.writer es done k)) (checks own s.writer)) (output_at m handle) refl
+      on_stream m own handle (Kept m) (λ s. s.writer) with_writer (output_at m handle) (λ none. nothing_kept m) (λ r. check_write_asks (most_of m.store r) own) (λ r o. writer_of r (check_write_asks (most_of m.store r) own) o) (λ r. refl) (λ r s. refl)
+      (λ place r s n. widen (λ es done k. told_kept m own handle es done.0 _ (refl, there_put m.store.records place r (with_writer r s done.1) n.at refl) (check_marks own (most_of m.store r) s.writer es done k)) (checks own (most_of m.store r) s.writer)) (output_at m handle) refl
 
   pub checks_keep : Meets (Kept m) [] (check_asks m own handle)
   checks_keep = check_kept (plain_output_at m handle) refl
@@ -171,7 +172,7 @@ module _ (m : Machine) (own : OpId) (handle : ℕ) where
       of_answer (Err Closed) = (nothing_kept m, refl)
       of_answer (Err _) = nothing_kept m
   flush_kept None is =
-      on_stream m own handle (Kept m) (λ s. s.writer) with_writer (output_at m handle) (λ none. nothing_kept m) flush_asks (λ r o. writer_of r flush_asks o) (λ r. refl) (λ r s. refl)
+      on_stream m own handle (Kept m) (λ s. s.writer) with_writer (output_at m handle) (λ none. nothing_kept m) (λ r. flush_asks) (λ r o. writer_of r flush_asks o) (λ r. refl) (λ r s. refl)
       (λ place r s n. widen (λ es done k. told_kept m own handle es done.0 _ (refl, there_put m.store.records place r (with_writer r s done.1) n.at refl) (flush_marks s.writer es done k)) (flushes s.writer)) (output_at m handle) refl
 
   pub flushes_keep : Meets (Kept m) [] (flushed_asks m own handle)
@@ -198,7 +199,7 @@ module _ (m : Machine) (own : OpId) (handle : ℕ) where
     write_kept (Some output.Sink) is = ends (nothing_kept m, refl, refl)
     write_kept (Some output.Closed) is = ends (nothing_kept m, refl)
     write_kept None is =
-        on_write m own handle (Kept m) (λ s. s.writer) with_writer (output_at m handle) (λ none. nothing_kept m) (λ w. write_state_asks own w bytes) (λ r o. writer_of r (λ w. write_state_asks own w bytes) o) (λ r. refl) (λ r s. refl)
+        on_write m own handle (Kept m) (λ s. s.writer) with_writer (output_at m handle) (λ none. nothing_kept m) (λ r w. write_state_asks own w bytes) (λ r o. writer_of r (λ w. write_state_asks own w bytes) o) (λ r. refl) (λ r s. refl)
         (λ place r s n. widen (λ es done k. told_kept m own handle es done.0 _ (noted_keeps place r (with_writer r s done.1) n.at refl) (write_marks own (length bytes) s.writer es done k)) (writes own bytes s.writer)) (output_at m handle) refl
 
     pub writes_keep : Meets (Kept m) [] (write_asks m own handle bytes)

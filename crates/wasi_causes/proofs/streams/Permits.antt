@@ -13,6 +13,7 @@ use Rattle.wasi_host.specs.declared.kind.PlainInput.TheVariants as input
 use Rattle.wasi_host.specs.declared.kind.PlainOutput.{PlainOutput}
 use Rattle.wasi_host.specs.declared.kind.PlainOutput.TheVariants as output
 use Rattle.wasi_records.specs.declared.records.Record.{Record}
+use Rattle.wasi_host.specs.Limits.{most_of}
 use Rattle.wasi_host.specs.PlainStreams.{check_pipe_at, read_pipe_at}
 use Rattle.wasi_records.specs.Records.{input_pipe_at, output_pipe_at, tcp2_at, tcp2_put}
 use Rattle.wasi_host.specs.StreamCalls.{check_by, plain_answer, plain_done, plain_input_at, plain_output_at, read_by}
@@ -63,20 +64,20 @@ abbrev PermitRow : Rows (Result ℕ StreamStop × WriteState)
 PermitRow es (Ok n, now) = 0 < n → IsUnpermitted now n → ⊥
 PermitRow es (Err why, now) = ⊤
 
-permits_as : (own : OpId) (now : WriteState) → Meets PermitRow [] (bind (look_in own now) (λ looked. Give (permitted looked)))
+permits_as : (most : ℕ) (own : OpId) (now : WriteState) → Meets PermitRow [] (bind (look_in own now) (λ looked. Give (permitted most looked)))
 unfolding bind
-permits_as own (writing.Ready half permit) = asks (λ t fits. ends (by_told t fits))
+permits_as most own (writing.Ready half permit) = asks (λ t fits. ends (by_told t fits))
   where
-    by_told : (t : Told) → FitsReady t → PermitRow [] (permitted (Ok (told_ready t), writing.Ready half permit))
+    by_told : (t : Told) → FitsReady t → PermitRow [] (permitted most (Ok (told_ready t), writing.Ready half permit))
     by_told told.Done fits = λ some over. omega (arith, over)
     by_told told.Pending fits = λ some over. omega (arith, some)
     by_told _ fits = absurd fits
-permits_as own (writing.Writing job) = ends (λ some over. omega (arith, some))
-permits_as own (writing.Closing job) = ends (λ some over. omega (arith, some))
-permits_as own (writing.Closed e) = ends tt
+permits_as most own (writing.Writing job) = ends (λ some over. omega (arith, some))
+permits_as most own (writing.Closing job) = ends (λ some over. omega (arith, some))
+permits_as most own (writing.Closed e) = ends tt
 
-permits : (own : OpId) (writer : WriteState) → Meets PermitRow [] (check_write_asks own writer)
-permits own writer = permits_as own (collected writer)
+permits : (most : ℕ) (own : OpId) (writer : WriteState) → Meets PermitRow [] (check_write_asks most own writer)
+permits most own writer = permits_as most own (collected writer)
 
 -- of a machine
 abbrev pub Permitting : Machine → ℕ → Rows (Result ℕ CallStop × Machine)
@@ -120,8 +121,8 @@ module _ (m : Machine) (own : OpId) (h : ℕ) where
   by_output (Some output.Sink) is = ends (λ some. (no_writer output.Sink is 65536, λ u. rw is at u))
   by_output (Some output.Closed) is = ends tt
   by_output None is =
-      on_stream m own h (Permitting m h) (λ s. s.writer) with_writer (output_at m h) (λ none. tt) (check_write_asks own) (λ r o. writer_of r (check_write_asks own) o) (λ r. refl) (λ r s. refl)
-      (λ place r s n. widen (told_permit is place r s n) (permits own s.writer)) (output_at m h) refl
+      on_stream m own h (Permitting m h) (λ s. s.writer) with_writer (output_at m h) (λ none. tt) (λ r. check_write_asks (most_of m.store r) own) (λ r o. writer_of r (check_write_asks (most_of m.store r) own) o) (λ r. refl) (λ r s. refl)
+      (λ place r s n. widen (told_permit is place r s n) (permits (most_of m.store r) own s.writer)) (output_at m h) refl
 
   pub checks_permit : Meets (Permitting m h) [] (check_asks m own h)
   checks_permit = by_output (plain_output_at m h) refl
@@ -200,7 +201,7 @@ module _ (m : Machine) (own : OpId) (h len : ℕ) where
   read_same (Some (input.Pipe place)) is = ends (pipe_same place (input_pipe_at m.store.records place) refl)
   read_same (Some input.Closed) is = ends tt
   read_same None is =
-      on_stream m own h (Writable m) (λ s. s.reader) with_reader (input_at m h) (λ none. tt) (λ reader. read_state_asks own reader len) (λ r o. reader_of r (λ reader. read_state_asks own reader len) o) (λ r. refl) (λ r s. refl)
+      on_stream m own h (Writable m) (λ s. s.reader) with_reader (input_at m h) (λ none. tt) (λ r reader. read_state_asks own reader len) (λ r o. reader_of r (λ reader. read_state_asks own reader len) o) (λ r. refl) (λ r s. refl)
       (λ place r s n. widen (λ es done any. told_same place r s n es done.0 done.1) (whatever (read_state_asks own s.reader len))) (input_at m h) refl
 
   pub reads_leave_writers : Meets (Writable m) [] (read_asks m own h len)
@@ -248,7 +249,7 @@ module _ (m : Machine) (own : OpId) (h len : ℕ) where
   read_short (Some (input.Pipe place)) is = ends (pipe_short place (input_pipe_at m.store.records place) refl)
   read_short (Some input.Closed) is = ends tt
   read_short None is =
-      on_stream m own h Short (λ s. s.reader) with_reader (input_at m h) (λ none. tt) (λ reader. read_state_asks own reader len) (λ r o. reader_of r (λ reader. read_state_asks own reader len) o) (λ r. refl) (λ r s. refl)
+      on_stream m own h Short (λ s. s.reader) with_reader (input_at m h) (λ none. tt) (λ r reader. read_state_asks own reader len) (λ r o. reader_of r (λ reader. read_state_asks own reader len) o) (λ r. refl) (λ r s. refl)
       (λ place r s n. widen (λ es done k. told_few es done _ k) (shorts s.reader)) (input_at m h) refl
 
   pub reads_are_short : Meets Short [] (read_asks m own h len)

@@ -69,9 +69,9 @@ module _ {T : Type 0} (m : Machine) (own : OpId) (handle : ℕ) (Row : Rows (Res
 
   module _ {S : Type 0} (of : Streams → S) (put : TcpRecord → Streams → S → TcpRecord) (keep : ℕ → Option TcpRecord → Records → Records) (named : Option ℕ)
       (kept : (place : ℕ) (o : Option TcpRecord) → tcp2_at m.store.records place ≡ o → keep place o m.store ≡ m.store) (missing : streams_in (record_in m named) ≡ None → Row [] (Err (Traps NoSuchHandle), m))
-      (asks : S → Asks (Result T StreamStop × S)) (by : TcpRecord → Option Streams → Asks (Result T StreamStop × TcpRecord))
-      (lost : (r : TcpRecord) → by r None ≡ Give (Err (stop.Trap NoSuchHandle), r)) (found : (r : TcpRecord) (s : Streams) → by r (Some s) ≡ bind (asks (of s)) (λ done. Give (done.0, put r s done.1)))
-      (rows : (place : ℕ) (r : TcpRecord) (s : Streams) → HasStreams m named place r s → Meets (λ es done. Told es done.0 (keep place (Some r) (with_socket m.store place (put r s done.1)))) [] (asks (of s))) where
+      (asks : TcpRecord → S → Asks (Result T StreamStop × S)) (by : TcpRecord → Option Streams → Asks (Result T StreamStop × TcpRecord))
+      (lost : (r : TcpRecord) → by r None ≡ Give (Err (stop.Trap NoSuchHandle), r)) (found : (r : TcpRecord) (s : Streams) → by r (Some s) ≡ bind (asks r (of s)) (λ done. Give (done.0, put r s done.1)))
+      (rows : (place : ℕ) (r : TcpRecord) (s : Streams) → HasStreams m named place r s → Meets (λ es done. Told es done.0 (keep place (Some r) (with_socket m.store place (put r s done.1)))) [] (asks r (of s))) where
     abbrev Answered : ℕ → Option TcpRecord → Rows (Result T StreamStop × Records)
     Answered place o es done = Meets Row es (converted own handle place (done.0, record m { store = keep place o done.1 }))
 
@@ -93,15 +93,15 @@ module _ {T : Type 0} (m : Machine) (own : OpId) (handle : ℕ) (Row : Rows (Res
 
 module _ {T S : Type 0} (m : Machine) (own : OpId) (handle : ℕ) (Row : Rows (Result T CallStop × Machine)) (of : Streams → S) (put : TcpRecord → Streams → S → TcpRecord) (named : Option ℕ)
     (missing : streams_in (record_in m named) ≡ None → Row [] (Err (Traps NoSuchHandle), m))
-    (asks : S → Asks (Result T StreamStop × S)) (by : TcpRecord → Option Streams → Asks (Result T StreamStop × TcpRecord))
-    (lost : (r : TcpRecord) → by r None ≡ Give (Err (stop.Trap NoSuchHandle), r)) (found : (r : TcpRecord) (s : Streams) → by r (Some s) ≡ bind (asks (of s)) (λ done. Give (done.0, put r s done.1))) where
-  pub on_stream : ((place : ℕ) (r : TcpRecord) (s : Streams) → HasStreams m named place r s → Meets (λ es done. Told m own handle Row es done.0 (with_socket m.store place (put r s done.1))) [] (asks (of s)))
+    (asks : TcpRecord → S → Asks (Result T StreamStop × S)) (by : TcpRecord → Option Streams → Asks (Result T StreamStop × TcpRecord))
+    (lost : (r : TcpRecord) → by r None ≡ Give (Err (stop.Trap NoSuchHandle), r)) (found : (r : TcpRecord) (s : Streams) → by r (Some s) ≡ bind (asks r (of s)) (λ done. Give (done.0, put r s done.1))) where
+  pub on_stream : ((place : ℕ) (r : TcpRecord) (s : Streams) → HasStreams m named place r s → Meets (λ es done. Told m own handle Row es done.0 (with_socket m.store place (put r s done.1))) [] (asks r (of s)))
       → (o : Option ℕ) → named ≡ o → Meets Row [] (stream_on m own handle (λ r. by r r.streams) o)
   on_stream rows None names = ends (nowhere m own handle Row of put all_kept named (λ place o at. refl) missing asks by lost found rows names)
   on_stream rows (Some place) names =
       chain {Mid = λ es done. Meets Row es (converted own handle place (with_store m done))} (by_record m own handle Row of put all_kept named (λ place o at. refl) missing asks by lost found rows place (tcp2_at m.store.records place) names refl) (λ es done k. k)
 
-  pub on_write : ((place : ℕ) (r : TcpRecord) (s : Streams) → HasStreams m named place r s → Meets (λ es done. Told m own handle Row es done.0 (job_noted place (Some r) (with_socket m.store place (put r s done.1)))) [] (asks (of s)))
+  pub on_write : ((place : ℕ) (r : TcpRecord) (s : Streams) → HasStreams m named place r s → Meets (λ es done. Told m own handle Row es done.0 (job_noted place (Some r) (with_socket m.store place (put r s done.1)))) [] (asks r (of s)))
       → (o : Option ℕ) → named ≡ o → Meets Row [] (write_on m own handle (λ r. by r r.streams) o)
   on_write rows None names = ends (nowhere m own handle Row of put job_noted named (none_begun m.store) missing asks by lost found rows names)
   on_write rows (Some place) names =

@@ -1,13 +1,15 @@
 use Rattle.wasi_steps.specs.declared.guest_call.GuestCall.TheVariants as guest
 use Rattle.wasi_steps.specs.declared.step.Step.TheVariants as step
-use Rattle.wasi_causes.proofs.Words.{refl}
+use Rattle.wasi_causes.proofs.Words.{context_at, inl, inr, refl, [], ◌≡◌, ◌⊎◌}
+use Rattle.wasi_host.specs.Machine.{with_room}
+use Rattle.wasi_steps.specs.declared.reply.Reply.TheVariants as said
 use Rattle.wasi_causes.proofs.tables.Steps.{of_answer}
 use Rattle.wasi_causes.specs.Outcomes.{Quiet}
 use Rattle.wasi_causes.proofs.lookups.what_is_forbidden_asks_nothing.Goals as goal
 
 pub returns : goal.returns
 returns c = record {
-  tcp = λ contexts m line ctx family entries reply after no. of_answer contexts m line (step.Call ctx (guest.TcpCreate family)) (λ es r after. Quiet m es after) (refl, refl) (λ es r after row. row.0 no) entries reply after;
+  tcp = λ contexts m line ctx family entries reply after no. of_answer contexts m line (step.Call ctx (guest.TcpCreate family)) (λ es r after. (es ≡ []) × (((r ≡ said.Busy) × (after ≡ m)) ⊎ (after ≡ with_room m (context_at contexts ctx)))) (refl, inl (refl, refl)) (λ es r after row. let left = row.0 no in (left.0, inr left.1)) entries reply after;
   p3_tcp = λ contexts m line ctx family entries reply after no. of_answer contexts m line (step.Call ctx (guest.P3TcpCreate family)) (λ es r after. Quiet m es after) (refl, refl) (λ es r after row. row.0 no) entries reply after;
   udp = λ contexts m line ctx family entries reply after no. of_answer contexts m line (step.Call ctx (guest.UdpCreate family)) (λ es r after. Quiet m es after) (refl, refl) (λ es r after row. row.0 no) entries reply after;
   p3_udp = λ contexts m line ctx family entries reply after no. of_answer contexts m line (step.Call ctx (guest.P3UdpCreate family)) (λ es r after. Quiet m es after) (refl, refl) (λ es r after row. row.0 no) entries reply after;
