@@ -1,0 +1,13 @@
+pub mod Like
+pub mod Together
+pub mod Lookups
+pub mod Sockets
+pub mod Writers
+pub mod Handles
+pub mod Stores
+pub mod Totals
+pub mod Streams
+pub mod Steps
+pub mod Runs
+pub mod Logs
+pub mod Buts
