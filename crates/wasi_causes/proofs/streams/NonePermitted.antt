@@ -1,5 +1,5 @@
 -- Why nothing may be written.
-use Rattle.wasi_causes.proofs.Words.{◌≡◌, ◌<◌, ◌⊎◌, inl, inr, ℕ, List, [], ◌∷◌, Option, Some, None, IsSomeAnd, refl, sym, arith, min, Entry, Machine, OpId, OfStreams, Permits, Records, Streams, output_at, TcpRecord, WriteState}
+use Rattle.wasi_causes.proofs.Words.{◌≡◌, ◌<◌, ◌⊎◌, inl, inr, ℕ, List, Option, Some, None, IsSomeAnd, refl, arith, min, Entry, Machine, OpId, OfStreams, Permits, Records, output_at, TcpRecord, WriteState}
 use Rattle.wasi_records.specs.Used.{held_in}
 use Rattle.wasi_host.specs.declared.kind.PlainOutput.{PlainOutput}
 use Rattle.wasi_host.specs.declared.kind.PlainOutput.TheVariants as output
@@ -9,7 +9,7 @@ use Rattle.wasi_host.specs.Limits.{left, most_of}
 use Rattle.wasi_host.specs.StreamCalls.{plain_output_at}
 use Rattle.wasi_walks.specs.Answered as look
 use Rattle.wasi_causes.specs.Plain.{PermitsPlain}
-use Rattle.wasi_causes.specs.WholeLimit.{GoesOn, NoneLeft, NotReady, OthersUseAll, PermitsNone}
+use Rattle.wasi_causes.specs.WholeLimit.{GoesOn, NoneLeft, NotReady, PermitsNone}
 use Rattle.wasi_causes.proofs.streams.Routes.{more_of}
 
 none_left : (n : ℕ) → min 65536 n ≡ 0 → n ≡ 0

@@ -5,9 +5,9 @@ use Rattle.wasi_tcp.specs.declared.writer.WriteState.TheVariants as writing
 use Rattle.wasi_world.specs.declared.asks.Polled.{Polled}
 use Rattle.wasi_world.specs.declared.asks.Polled.TheVariants as polled
 use Rattle.wasi_world.specs.Operation.{less_one}
-use Rattle.wasi_walks.proofs.Fronts.{IsSpent, still}
+use Rattle.wasi_walks.proofs.Fronts.{still}
 use Rattle.wasi_walks.proofs.fits.Polls.{Anything}
-use Rattle.wasi_laws.proofs.Words.{Allows, CloseLast, Collects, Done, End, Entry, ErrorCode, Given, Item, Job, Last, LastAsk, Lasts, LastsAfter, List, NothingLast, Permits, Refused, ShutdownLast, ShutdownSend, Waits, Who, Write, WriteState, WriterMoves, [], allows_weaker, ap, arith, bind, bytes_left, closed_by, closing_side, collected, inl, inr, job_after, last_ask, length, poll_asks, refl, subst, sym, then_closed, told_taken, written_by, ℕ, ◌∙◌, ◌∷◌, ◌≡◌, ◌≤◌, ◌⊎◌}
+use Rattle.wasi_laws.proofs.Words.{Allows, CloseLast, Collects, Done, End, Entry, ErrorCode, Given, Item, Job, Last, LastAsk, Lasts, LastsAfter, List, NothingLast, Permits, Refused, ShutdownLast, ShutdownSend, Waits, Who, Write, WriteState, WriterMoves, [], ap, arith, bind, bytes_left, closed_by, collected, inl, inr, job_after, last_ask, length, poll_asks, refl, then_closed, told_taken, written_by, ℕ, ◌∷◌, ◌≡◌, ◌≤◌, ◌⊎◌}
 use Rattle.wasi_laws.proofs.asks.Fronts.{PollLaw, polls_by}
 use Rattle.wasi_laws.proofs.asks.Trees.{GoesOn, InWriting, InClosing}
 use Rattle.wasi_laws.proofs.shapes.Shape.{AreOfEnd, AreOfWrite, end_write}

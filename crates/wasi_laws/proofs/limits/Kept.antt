@@ -1,5 +1,5 @@
 -- The limits that are kept are those of the contexts.
-use Rattle.std.proofs.Common.{cond, if◌then◌else◌}
+use Rattle.std.proofs.Common.{cond}
 use Rattle.std.proofs.lemmas.Bool.{eqb-true}
 use Rattle.wasi_udp.specs.Create.{Create}
 use Rattle.wasi_host.specs.Kinds.{make_asks}
@@ -15,7 +15,7 @@ use Rattle.wasi_walks.proofs.walks.OfState as left
 use Rattle.wasi_walks.proofs.walks.OfState.{OfState, begins_state, of_state}
 use Rattle.wasi_walks.proofs.walks.Runs.{run_ends}
 use Rattle.wasi_world.specs.Asks.{Give}
-use Rattle.wasi_laws.proofs.Words.{Allows, Bool, End, Entry, Err, ErrorCode, GuestCall, Held, Here, InCall, Item, Left, List, Machine, Move, None, Ok, Operation, Option, Reply, Result, Socket, SocketAddressFamily, Some, Standing, Step, Streams, TcpRecord, WasiSocketsCtx, [], allows_then, allows_weaker, ap, Tcp2, create_asks, false, first_state, inl, inr, machine_asks, machine_walks, length, made_to, new_asks, own_of, side_of, poll_asks, put, refl, run, subst, sym, true, turn_asks, with_writer, ℕ, ⊤, ◌++◌, ◌+◌, ◌==◌, ◌∙◌, ◌∷◌, ◌≡◌, ◌⊎◌}
+use Rattle.wasi_laws.proofs.Words.{Allows, Bool, End, Entry, Err, ErrorCode, GuestCall, Held, Here, InCall, Item, Left, List, Machine, Move, None, Ok, Operation, Option, Reply, Result, Socket, SocketAddressFamily, Some, Standing, Step, WasiSocketsCtx, [], allows_then, allows_weaker, ap, Tcp2, create_asks, false, first_state, inl, inr, machine_asks, machine_walks, length, made_to, new_asks, own_of, side_of, poll_asks, put, refl, run, subst, sym, true, turn_asks, with_writer, ℕ, ⊤, ◌++◌, ◌==◌, ◌∙◌, ◌∷◌, ◌≡◌, ◌⊎◌}
 use Rattle.wasi_laws.specs.Limits.{AreOfContexts, IsLimitOf}
 
 -- == one more limit

@@ -3,12 +3,9 @@ use Rattle.std.proofs.lemmas.Bool.{ltb-false}
 use Rattle.wasi_tcp.specs.Bounds.{held}
 use Rattle.wasi_tcp.specs.declared.halves.TcpSendStream.{TcpSendStream}
 use Rattle.wasi_tcp.specs.declared.writer.WriteState.TheVariants as writing
-use Rattle.wasi_tcp.specs.declared.reader.ReadState.TheVariants as reading
-use Rattle.wasi_tcp.specs.declared.socket.Connection.{Connection}
 use Rattle.wasi_tcp.specs.declared.listener.Accepting.TheVariants as accepting
 use Rattle.wasi_records.specs.Ends.{ends_of}
-use Rattle.wasi_records.specs.Records.{tcp2_put}
-use Rattle.wasi_records.specs.Used.{held_in, used_in}
+use Rattle.wasi_records.specs.Used.{held_in}
 use Rattle.wasi_records.specs.declared.udp.UdpRecord.{UdpRecord}
 use Rattle.wasi_records.specs.Udp.{udp_create_left}
 use Rattle.wasi_udp.specs.Create.{Create}
@@ -21,11 +18,11 @@ use Rattle.wasi_walks.proofs.walks.OfState.{Becomes as Leaves, Learnt, IsClosed,
 use Rattle.wasi_walks.proofs.walks.Runs.{run_ends}
 use Rattle.wasi_walks.proofs.walks.Moves.{AddsSlot, CancelsBind, CancelsUdpBind, CancelsUdpConnect, DropsUdp, Finds, GivesBack, JoinsFault, JoinsPlain, MakesRoom, OfReceive, OfSend, TakesEnd, TakesHalf, UdpChanges, BeginsUdpBind, BeginsUdpConnect, BeginsSend, BeginsReceive, UdpCreates, UdpBindsOn, UdpConnectsOn, UdpReconnectsOn, SendsOn, ReceivesOn, faulted, joined_plain, put_udp, udp_begun, with_receive, with_send}
 use Rattle.wasi_laws.proofs.asks.Trees.{GoesOn, turns_by}
-use Rattle.wasi_laws.proofs.shapes.Shape.{AreOfWrite, HasStreams, StreamsShape, WriterIs}
+use Rattle.wasi_laws.proofs.shapes.Shape.{AreOfWrite, WriterIs}
 use Rattle.wasi_laws.proofs.shapes.Law.{Shaped, job_of, has_streams, shapes}
 use Rattle.wasi_laws.proofs.limits.Held.{moves_less, turned_less}
 use Rattle.wasi_laws.proofs.limits.Sums.{limit_within, more_within, new_within, other_within, permit_within, same_within, socket_within}
-use Rattle.wasi_laws.proofs.Words.{Accepts, Allows, Awaits, Base, BaseBetween, BeginsWrites, BeginsAccept, BeginsBind, BeginsConnect, BeginsListen, BeginsWrite, BindsOn, Changes, ClosesReader, Connects, Done, End, Entry, Err, ErrorCode, Forgets, Found, Held, Here, InCall, IsGone, Item, Job, Joins, Law, Left, List, Listens, Machine, Move, None, Ok, OpId, Opens, Operation, Option, Reconnects, Refused, Reply, Result, Some, Starts, Step, Streams, TcpRecord, Unlistens, Unused, Used, Waits, WasiSocketsCtx, WriteState, Writes, [], accepting_now, allows_weaker, ap, arith, base_over, base_starts, false, first_base, first_state, inl, inr, job_after, joined, length, listen_after, machine_asks, machine_walks, may_while, nat_lt, new_job, own_of, on_along, on_names, poll_asks, put, refl, run, subst, sym, turn_asks, with_inner, with_writer, ℕ, ◌+◌, ◌∙◌, ◌≡◌, ◌≤◌}
+use Rattle.wasi_laws.proofs.Words.{Allows, Awaits, Base, BaseBetween, BeginsWrites, BeginsAccept, BeginsBind, BeginsConnect, BeginsListen, BeginsWrite, BindsOn, Changes, ClosesReader, Connects, Done, End, Entry, Err, ErrorCode, Forgets, Found, Held, Here, InCall, IsGone, Item, Job, Joins, Law, Left, List, Listens, Machine, Move, None, Ok, OpId, Opens, Operation, Option, Reconnects, Refused, Reply, Result, Some, Step, Streams, TcpRecord, Unlistens, Waits, WasiSocketsCtx, WriteState, Writes, [], accepting_now, allows_weaker, ap, arith, base_over, base_starts, false, first_base, first_state, inl, inr, job_after, joined, length, listen_after, machine_asks, machine_walks, may_while, nat_lt, new_job, own_of, poll_asks, put, refl, run, turn_asks, with_writer, ℕ, ◌+◌, ◌≡◌, ◌≤◌}
 use Rattle.wasi_walks.proofs.walks.States.{Over}
 use Rattle.wasi_world.specs.Asks.{Give}
 use Rattle.wasi_laws.specs.Limits.{IsWithin}

@@ -1,9 +1,8 @@
 -- How the bytes that the writers of a context hold change with a record: they stay within its limit.
 use Rattle.std.proofs.Common.{◌-◌, cond}
 use Rattle.std.proofs.lemmas.Bool.{eqb-true}
-use Rattle.wasi_tcp.specs.Bounds.{held}
 use Rattle.wasi_records.proofs.Sums.{used_at, used_more, used_put}
-use Rattle.wasi_records.specs.Numbered.{item_at, record_gone}
+use Rattle.wasi_records.specs.Numbered.{item_at}
 use Rattle.wasi_records.specs.Records.{tcp2_at, tcp2_of, tcp2_put, tcp2_pushed}
 use Rattle.wasi_records.specs.Used.{held_in, used, used_by, used_in}
 use Rattle.wasi_records.specs.declared.records.Record.{Record}
@@ -12,7 +11,7 @@ use Rattle.wasi_host.specs.Limits.{left, limit_in, limit_or, with_limit, with_li
 use Rattle.wasi_host.specs.Store.{Records, with_socket}
 use Rattle.wasi_host.specs.declared.limits.Limit.{Limit}
 use Rattle.wasi_walks.proofs.walks.Limits.{in_list}
-use Rattle.wasi_laws.proofs.Words.{Bool, List, None, Option, Some, Streams, TcpRecord, WasiSocketsCtx, [], ap, arith, false, refl, slice_get, slice_set, subst, suc, sym, true, zero, ℕ, ◌++◌, ◌+◌, ◌==◌, ◌∙◌, ◌∷◌, ◌≡◌, ◌≤◌}
+use Rattle.wasi_laws.proofs.Words.{Bool, List, None, Option, Some, TcpRecord, WasiSocketsCtx, [], ap, arith, false, refl, slice_set, subst, suc, sym, true, zero, ℕ, ◌++◌, ◌+◌, ◌==◌, ◌∙◌, ◌∷◌, ◌≡◌, ◌≤◌}
 use Rattle.wasi_laws.specs.Limits.{IsWithin}
 
 -- == a record

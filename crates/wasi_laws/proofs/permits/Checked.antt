@@ -10,7 +10,7 @@ use Rattle.wasi_host.specs.declared.kind.PlainOutput.{PlainOutput}
 use Rattle.wasi_steps.specs.declared.reply.Reply.TheVariants as reply
 use Rattle.wasi_steps.specs.declared.guest_call.GuestCall.TheVariants as guest
 use Rattle.wasi_steps.specs.declared.step.Step.TheVariants as step
-use Rattle.wasi_laws.proofs.Words.{Answered, Entry, Err, ErrorValue, Give, IsSomeAnd, Kind, Left, List, Machine, Named, None, Ok, OpId, Option, Over, Quiet, Reply, Result, Some, Standing, Starts, StreamStop, Streams, TcpRecord, Unused, WasiSocketsCtx, WriteState, WritesTo, [], ap, append-nil, asks_while, bind, check_write_asks, inl, is_full, make_asks, number_fields, output_at, own_of, permit_reply, quiet_if, quiet_then, reached, record_in, refl, side_at, side_in, side_of, stream_at, subst, sym, taken_in, with_store, writer_asks, writer_in, writer_of, writer_of_record, writer_side, ℕ, ⊤, ◌++◌, ◌<◌, ◌∙◌, ◌≡◌}
+use Rattle.wasi_laws.proofs.Words.{Answered, Entry, Err, ErrorValue, Give, IsSomeAnd, Kind, Left, List, Machine, Named, None, Ok, OpId, Option, Over, Quiet, Reply, Result, Some, Standing, Starts, StreamStop, Streams, TcpRecord, Unused, WasiSocketsCtx, WriteState, WritesTo, [], ap, append-nil, asks_while, bind, check_write_asks, inl, is_full, make_asks, number_fields, output_at, own_of, permit_reply, quiet_if, quiet_then, reached, record_in, refl, side_at, side_in, side_of, stream_at, subst, sym, taken_in, with_store, writer_in, writer_of, writer_of_record, writer_side, ℕ, ⊤, ◌++◌, ◌<◌, ◌∙◌, ◌≡◌}
 use Rattle.wasi_laws.proofs.shapes.Shape.{Lives, HasStreams, StreamsShape, of_writer}
 use Rattle.wasi_laws.proofs.shapes.Law.{Shaped}
 use Rattle.wasi_laws.proofs.permits.Agreeing.{AgreeIn, Agree, SaysAll, quiet_check}
