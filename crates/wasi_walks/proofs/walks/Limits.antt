@@ -1,9 +1,8 @@
 -- What the other writers of a context leave, as one of its writers changes.
-use Rattle.std.proofs.Common.{◌≡◌, ℕ, zero, suc, ◌+◌, ◌-◌, ◌<◌, ◌≤◌, cond, List, [], ◌∷◌, length, Option, Some, None, Bool, refl, ap, ◌∙◌, sym, arith}
-use Rattle.std.specs.Prelude.{min, slice_get, slice_set}
+use Rattle.std.proofs.Common.{◌≡◌, ℕ, zero, suc, ◌-◌, ◌<◌, ◌≤◌, cond, List, [], ◌∷◌, length, Some, Bool, refl, ap, ◌∙◌, sym, arith}
 use Rattle.std.proofs.lemmas.Bool.{eq-eqb}
 use Rattle.wasi_records.specs.Numbered.{item_at}
-use Rattle.wasi_records.specs.Records.{tcp2_of, tcp2_at, tcp2_put}
+use Rattle.wasi_records.specs.Records.{tcp2_at, tcp2_put}
 use Rattle.wasi_records.specs.Used.{held_in, used_by, used_in, used}
 use Rattle.wasi_records.proofs.Sums.{used_put}
 use Rattle.wasi_records.specs.declared.records.Record.{Record}

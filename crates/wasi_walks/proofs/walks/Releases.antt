@@ -21,7 +21,7 @@ use Rattle.wasi_walks.proofs.walks.Law.{Law, HasRecord, Walks, give, and_then, m
 use Rattle.wasi_tcp.specs.Closing.{close_in}
 use Rattle.wasi_walks.proofs.walks.States.{OverIn, At, streams_are, none_stands, Put, there}
 use Rattle.wasi_host.specs.declared.kind.Kind.TheVariants.{Listen3, Tcp3}
-use Rattle.wasi_walks.proofs.walks.Streams.{drop_look_walks, look_walks, reader_up_walks, writer_up_walks}
+use Rattle.wasi_walks.proofs.walks.Streams.{drop_look_walks, reader_up_walks, writer_up_walks}
 
 -- the handle of a socket of 0.3 goes
 handle_gone : {goes begins : Type 0} (r : TcpRecord) → goes → Plain goes begins r (without_socket r)
