@@ -1,22 +1,27 @@
--- The limits that are kept are those of the contexts.
+-- The limits that are kept are those of the contexts, so the writers of a context stay within its own.
 use Rattle.std.proofs.Common.{cond}
 use Rattle.std.proofs.lemmas.Bool.{eqb-true}
 use Rattle.wasi_udp.specs.Create.{Create}
 use Rattle.wasi_host.specs.Kinds.{make_asks}
-use Rattle.wasi_host.specs.Limits.{limit_in, with_limit, with_limit_by}
+use Rattle.wasi_host.specs.Limits.{limit_in, limit_or, with_limit, with_limit_by}
 use Rattle.wasi_host.specs.Machine.{code_told, same_told, with_room}
 use Rattle.wasi_host.specs.Store.{Records}
 use Rattle.wasi_host.specs.declared.limits.Limit.{Limit}
-use Rattle.wasi_machine.specs.Machine.{asks_while, context_at}
+use Rattle.wasi_machine.specs.Machine.{asks_while, context_at, context_in}
+use Rattle.wasi_records.specs.Used.{used}
+use Rattle.wasi_steps.specs.Steps.{context_of}
+use Rattle.wasi_world.specs.Contexts.{AreNumbered}
+use Rattle.std.specs.Prelude.{IfSome}
 use Rattle.wasi_walks.proofs.fits.Law.{whatever}
 use Rattle.wasi_walks.proofs.fits.Polls.{Anything}
 use Rattle.wasi_walks.proofs.walks.Moves as walk
 use Rattle.wasi_walks.proofs.walks.OfState as left
 use Rattle.wasi_walks.proofs.walks.OfState.{OfState, begins_state, of_state}
-use Rattle.wasi_walks.proofs.walks.Runs.{run_ends}
 use Rattle.wasi_world.specs.Asks.{Give}
-use Rattle.wasi_laws.proofs.Words.{Allows, Bool, End, Entry, Err, ErrorCode, GuestCall, Held, Here, InCall, Item, Left, List, Machine, Move, None, Ok, Operation, Option, Reply, Result, Socket, SocketAddressFamily, Some, Standing, Step, WasiSocketsCtx, [], allows_then, allows_weaker, ap, Tcp2, create_asks, false, first_state, inl, inr, machine_asks, machine_walks, length, made_to, new_asks, own_of, side_of, poll_asks, put, refl, run, subst, sym, true, turn_asks, with_writer, ℕ, ⊤, ◌++◌, ◌==◌, ◌∙◌, ◌∷◌, ◌≡◌, ◌⊎◌}
-use Rattle.wasi_laws.specs.Limits.{AreOfContexts, IsLimitOf}
+use Rattle.wasi_laws.proofs.Words.{Allows, Bool, End, Entry, Err, ErrorCode, GuestCall, Held, Here, InCall, Item, Left, List, Machine, Move, None, Ok, Operation, Option, Reply, Result, Socket, SocketAddressFamily, Some, Standing, Step, Tcp2, WasiSocketsCtx, [], allows_if, allows_then, allows_weaker, ap, arith, create_asks, false, first_state, inl, inr, is_trap, length, machine_asks, machine_walks, made_to, new_asks, own_of, poll_asks, put, reached, refl, run, side_of, slice_get, subst, suc, sym, true, turn_asks, with_writer, zero, ℕ, ⊤, ◌++◌, ◌+◌, ◌<◌, ◌==◌, ◌∙◌, ◌∷◌, ◌≡◌, ◌≤◌, ◌⊎◌}
+use Rattle.wasi_laws.specs.Limits.{AreOf}
+use Rattle.wasi_laws.proofs.limits.Law.{runs_within}
+use Rattle.wasi_laws.proofs.shapes.Shape.{some_same}
 
 -- == one more limit
 kept_is : (limits : List Limit) (l : Limit) (name most : ℕ) → limit_in (limits ++ l ∷ []) name ≡ Some most → (limit_in limits name ≡ Some most) ⊎ ((l.context ≡ name) × (l.most ≡ most))
@@ -31,28 +36,35 @@ kept_is (k ∷ limits) l name most = by_test (k.context == name) (kept_is limits
     by_test true later e = inl e
     by_test false later e = later e
 
-module _ (contexts : List WasiSocketsCtx) where
-  room_kept : (store : Records) (c : ℕ) → AreOfContexts contexts store → AreOfContexts contexts (with_limit store (context_at contexts c))
-  room_kept store c i = by_limit (limit_in store.limits ctx.name)
-    where
-      ctx : WasiSocketsCtx
-      ctx = context_at contexts c
+-- One of the contexts has this name, and this is its limit.
+record IsKept (contexts : List WasiSocketsCtx) (name most : ℕ) : Type 0 where
+  number : ℕ
+  there : number < length contexts
+  named : (context_at contexts number).name ≡ name
+  limit : (context_at contexts number).write_limit ≡ most
 
-      by_limit : (o : Option ℕ) (name most : ℕ) → limit_in (with_limit_by store.limits (context_at contexts c) o) name ≡ Some most → IsLimitOf contexts name most
-      by_limit None name most e = elim (kept_is store.limits (record { context = (context_at contexts c).name; most = (context_at contexts c).write_limit }) name most e) [ inl was ↦ i name most was | inr its ↦ record { number = c; named = its.0; limit = its.1 } ]
+abbrev AreKept : List WasiSocketsCtx → Records → Type 0
+AreKept contexts store = (name most : ℕ) → limit_in store.limits name ≡ Some most → IsKept contexts name most
+
+module _ (contexts : List WasiSocketsCtx) where
+  room_kept : (store : Records) (c : ℕ) → c < length contexts → AreKept contexts store → AreKept contexts (with_limit store (context_at contexts c))
+  room_kept store c may i = by_limit (limit_in store.limits (context_at contexts c).name)
+    where
+      by_limit : (o : Option ℕ) (name most : ℕ) → limit_in (with_limit_by store.limits (context_at contexts c) o) name ≡ Some most → IsKept contexts name most
+      by_limit None name most e = elim (kept_is store.limits (record { context = (context_at contexts c).name; most = (context_at contexts c).write_limit }) name most e) [ inl was ↦ i name most was | inr its ↦ record { number = c; there = may; named = its.0; limit = its.1 } ]
       by_limit (Some was) name most e = i name most e
 
   -- == a line that creates a TCP socket
   module _ (m : Machine) (line c : ℕ) where
     abbrev Kept : {A : Type 0} → A × Machine → Type 0
-    Kept done = AreOfContexts contexts done.1.store
+    Kept done = AreKept contexts done.1.store
 
     abbrev now : Machine
     now = with_room m (context_at contexts c)
 
-    module _ (i : AreOfContexts contexts m.store) where
-      roomy : AreOfContexts contexts now.store
-      roomy = room_kept m.store c i
+    module _ (may : c < length contexts) (i : AreKept contexts m.store) where
+      roomy : AreKept contexts now.store
+      roomy = room_kept m.store c may i
 
       made_kept : (es : List Entry) (made : Result Socket ErrorCode) → Allows Anything (λ fs done. Kept done) es (made_to same_told code_told Tcp2 now (own_of line) made)
       made_kept es (Err e) = roomy
@@ -120,14 +132,42 @@ module _ (contexts : List WasiSocketsCtx) (line : ℕ) (origin : Step) (none : C
 
 -- == of a run
 module _ (contexts : List WasiSocketsCtx) where
-  others_kept : (line : ℕ) (s : Step) → CreatesNone s → (m : Machine) (es : List Entry) → AreOfContexts contexts m.store → Allows Anything (λ fs done. AreOfContexts contexts done.1.store) es (machine_asks contexts m line s)
+  others_kept : (line : ℕ) (s : Step) → CreatesNone s → (m : Machine) (es : List Entry) → AreKept contexts m.store → Allows Anything (λ fs done. AreKept contexts done.1.store) es (machine_asks contexts m line s)
   others_kept line s none m es i =
-      allows_weaker Anything (λ fs done. done.1.store.limits ≡ m.store.limits) (λ fs done. AreOfContexts contexts done.1.store)
+      allows_weaker Anything (λ fs done. done.1.store.limits ≡ m.store.limits) (λ fs done. AreKept contexts done.1.store)
       (λ fs done same name most e. i name most (ap (λ (limits : List Limit). limit_in limits name) (sym same) ∙ e)) es (machine_asks contexts m line s) (stay_same contexts line s none m.store.limits m es refl)
 
-  line_kept : (line : ℕ) (s : Step) (m : Machine) (es : List Entry) → AreOfContexts contexts m.store → Allows Anything (λ fs done. AreOfContexts contexts done.1.store) es (machine_asks contexts m line s)
-  line_kept line (Step.Call c (GuestCall.TcpCreate family)) m es i = create_kept contexts m line c i family es
-  line_kept line s m es i = others_kept line s tt m es i
+  line_kept : (line : ℕ) (s : Step) → IfSome (context_of s) (λ n. n < length contexts) → (m : Machine) (es : List Entry) → AreKept contexts m.store → Allows Anything (λ fs done. AreKept contexts done.1.store) es (machine_asks contexts m line s)
+  line_kept line (Step.Call c (GuestCall.TcpCreate family)) may m es i = create_kept contexts m line c may i family es
+  line_kept line s may m es i = others_kept line s tt m es i
 
-  pub runs_keep : (steps : List Step) (log : List Entry) (replies : List Reply) (m : Machine) → Left (run contexts [] first_state 1 steps) log (Give (replies, m)) → AreOfContexts contexts m.store
-  runs_keep steps log replies m w = (run_ends contexts Anything (λ line es m. AreOfContexts contexts m.store) line_kept (λ name most e. absurd (cc)) steps log replies m w).1
+  run_kept : (todo : List Step) → AreOf (length contexts) todo → (replies : List Reply) (line : ℕ) (m : Machine) (es : List Entry) → AreKept contexts m.store → Allows Anything (λ fs done. AreKept contexts done.1.store) es (run contexts replies m line todo)
+  run_kept [] may replies line m es i = i
+  run_kept (s ∷ todo) may replies line m es i =
+      allows_then Anything (λ fs done. AreKept contexts done.1.store) (λ fs done. AreKept contexts done.1.store) es (machine_asks contexts m line s) _ (line_kept line s may.0 m es i)
+      (λ fs done k. allows_if Anything (λ gs over. AreKept contexts over.1.store) fs (is_trap done.0) _ _ (λ trap. k) (λ on. run_kept todo may.1 (replies ++ done.0 ∷ []) (line + 1) done.1 fs k))
+
+  -- the context that has this limit
+  there_is : (xs : List WasiSocketsCtx) (i : ℕ) → i < length xs → (x : WasiSocketsCtx) × (slice_get xs i ≡ Some x)
+  there_is [] i below = absurd (omega (arith, below))
+  there_is (x ∷ xs) zero below = (x, refl)
+  there_is (x ∷ xs) (suc i) below = there_is xs i (omega (arith, below))
+
+  own_limit : AreNumbered contexts → (n : ℕ) (ctx : WasiSocketsCtx) → slice_get contexts n ≡ Some ctx → (most : ℕ) → IsKept contexts n most → most ≡ ctx.write_limit
+  own_limit numbered n ctx at most k =
+      let x = there_is contexts k.number k.there in
+      let is : context_at contexts k.number ≡ x.0 = ap context_in x.1 in
+      let name : x.0.name ≡ k.number = subst (λ (o : Option WasiSocketsCtx). IfSome o (λ c. c.name ≡ k.number)) x.1 (numbered k.number) in
+      let same : k.number ≡ n = sym name ∙ (ap (λ (c : WasiSocketsCtx). c.name) (sym is) ∙ k.named) in
+      let one : Some x.0 ≡ Some ctx = sym x.1 ∙ (ap (slice_get contexts) same ∙ at) in
+      let its : x.0 ≡ ctx = some_same x.0 ctx one in
+      sym k.limit ∙ (ap (λ (c : WasiSocketsCtx). c.write_limit) is ∙ ap (λ (c : WasiSocketsCtx). c.write_limit) its)
+
+  within_own : AreNumbered contexts → (n : ℕ) (ctx : WasiSocketsCtx) → slice_get contexts n ≡ Some ctx → (store : Records) → AreKept contexts store → (o : Option ℕ) → limit_in store.limits n ≡ o → used n store.records ≤ limit_or o → used n store.records ≤ ctx.write_limit
+  within_own numbered n ctx at store kept None e within = omega (arith, within)
+  within_own numbered n ctx at store kept (Some most) e within = let its = own_limit numbered n ctx at most (kept n most e) in omega (arith, within, its)
+
+  pub runs_within_own : AreNumbered contexts → (steps : List Step) → AreOf (length contexts) steps → (log : List Entry) (replies : List Reply) (m : Machine) → Left (run contexts [] first_state 1 steps) log (Give (replies, m)) → (n : ℕ) (ctx : WasiSocketsCtx) → slice_get contexts n ≡ Some ctx → used n m.store.records ≤ ctx.write_limit
+  runs_within_own numbered steps may log replies m w n ctx at =
+      let kept = reached Anything (λ fs done. AreKept contexts done.1.store) [] (run contexts [] first_state 1 steps) log (Give (replies, m)) (run_kept steps may [] 1 first_state [] (λ name most e. absurd (cc))) w in
+      within_own numbered n ctx at m.store kept (limit_in m.store.limits n) refl (runs_within contexts steps log replies m w n)
