@@ -51,8 +51,16 @@ typedef struct {
     uint32_t bad_line;  /* of KX_RULES, the line */
 } kx_setup;
 
-/* What a context may use; its place in the list is its number. */
 enum { KX_TCP = 1, KX_UDP = 2, KX_NAMES = 4 };
+
+#define KX_NO_LIMIT UINT64_MAX
+
+/* A context; its place in the list is its number. */
+typedef struct {
+    uint32_t may;         /* what it may use: KX_TCP, KX_UDP, KX_NAMES, or their sum */
+    uint64_t write_limit; /* how many bytes its 0.2 TCP writers may hold together, as permits and
+                             as bytes that aren't written yet; or KX_NO_LIMIT */
+} kx_context;
 
 typedef struct {
     uint32_t op;      /* one of kx_op */
@@ -151,7 +159,7 @@ typedef enum {
     KX_BLOCKING_SPLICE
 } kx_op;
 
-uint32_t kx_raw_open(kx_host **out, kx_setup *setup, const uint32_t *contexts, size_t count,
+uint32_t kx_raw_open(kx_host **out, kx_setup *setup, const kx_context *contexts, size_t count,
                      const uint8_t *rules, size_t rules_len, const uint8_t *hosts,
                      size_t hosts_len);
 uint32_t kx_raw_close(kx_host *host);
@@ -182,16 +190,17 @@ static inline const uint8_t *kx_there(const void *at)
 
 /* Opens a host. A check goes by the first of the rules that matches; where none does, it waits for
  * kx_answer, or is told no. Names are looked up in hosts, a text as /etc/hosts. */
-static inline uint32_t kx_open(kx_host **out, kx_setup *setup, const uint32_t *contexts,
+static inline uint32_t kx_open(kx_host **out, kx_setup *setup, const kx_context *contexts,
                                size_t count, const char *rules, size_t rules_len,
                                const char *hosts, size_t hosts_len)
 {
-    uint32_t status = kx_tested(contexts, count > KX_MOST / 4 ? (size_t)-1 : count * 4);
+    const size_t each = sizeof *contexts;
+    uint32_t status = kx_tested(contexts, count > KX_MOST / each ? (size_t)-1 : count * each);
     if (!out || !setup) return KX_NULL;
     if (!status) status = kx_tested(rules, rules_len);
     if (!status) status = kx_tested(hosts, hosts_len);
     if (status) return status;
-    static const uint32_t none = 0;
+    static const kx_context none = {0, 0};
     return kx_raw_open(out, setup, contexts ? contexts : &none, count, kx_there(rules), rules_len,
                        kx_there(hosts), hosts_len);
 }

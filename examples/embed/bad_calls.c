@@ -15,7 +15,7 @@ static int failed;
         }                                                                                     \
     } while (0)
 
-static const uint32_t contexts[] = {KX_TCP | KX_UDP | KX_NAMES};
+static const kx_context contexts[] = {{KX_TCP | KX_UDP | KX_NAMES, KX_NO_LIMIT}};
 static kx_host *host;
 static char text[512];
 static size_t wrote;
@@ -155,6 +155,19 @@ static void asks(void)
     kx_free(host);
 }
 
+/* A context is kept as it was given: a log begins with a line for each. */
+static void limits(void)
+{
+    static const char wanted[] = "context yes no no 100\ncontext no yes yes 18446744073709551615\n";
+    const kx_context two[] = {{KX_TCP, 100}, {KX_UDP | KX_NAMES, KX_NO_LIMIT}};
+    kx_setup setup = {1, 0, 0, 0};
+    IS(kx_open(&host, &setup, two, 2, "", 0, NULL, 0), KX_OK);
+    IS(kx_log(host, text, sizeof text, &wrote), KX_OK);
+    IS(wrote, sizeof wanted - 1);
+    IS(memcmp(text, wanted, sizeof wanted - 1), 0);
+    kx_free(host);
+}
+
 static void closed(void)
 {
     kx_ask ask;
@@ -189,6 +202,7 @@ int main(void)
     lines();
     calls();
     asks();
+    limits();
     closed();
     free(memory);
     puts(failed ? "bad calls: failed" : "bad calls: each has its code");

@@ -30,7 +30,7 @@ int main(void)
 {
     static const char rules[] = "allow tcp-connect 4 127 0 0 1 32 18090 18090\n"
                                 "deny tcp-connect any 0 65535\nallow any any 0 65535\n";
-    const uint32_t contexts[] = {KX_TCP};
+    const kx_context contexts[] = {{KX_TCP, KX_NO_LIMIT}};
     kx_setup setup = {1, 0, 0, 0};
     uint32_t status = kx_open(&host, &setup, contexts, 1, rules, sizeof rules - 1, "", 0);
     if (status) return printf("open: %u, line %u\n", status, setup.bad_line), 1;

@@ -4,6 +4,8 @@ use std::os::raw::c_int;
 #[repr(C)]
 struct Setup { keep_log: u32, anywhere: u32, most_asks: u32, bad_line: u32 }
 #[repr(C)]
+struct Context { may: u32, write_limit: u64 }
+#[repr(C)]
 struct Opaque { _private: [u8; 0] }
 #[repr(C)]
 #[derive(Clone, Copy)]
@@ -11,7 +13,7 @@ struct PollFd { fd: c_int, events: i16, revents: i16 }
 
 #[rustfmt::skip]
 extern "C" {
-    fn kx_raw_open(out: *mut *mut Opaque, setup: *mut Setup, contexts: *const u32, count: usize,
+    fn kx_raw_open(out: *mut *mut Opaque, setup: *mut Setup, contexts: *const Context, count: usize,
         rules: *const u8, rules_len: usize, hosts: *const u8, hosts_len: usize) -> u32;
     fn kx_raw_free(host: *mut Opaque);
     fn kx_raw_line(host: *mut Opaque, line: *const u8, len: usize, out: *mut u8, cap: usize,
@@ -27,7 +29,7 @@ impl Host {
     fn open(rules: &str) -> Result<Host, u32> {
         let mut at = std::ptr::null_mut();
         let mut setup = Setup { keep_log: 0, anywhere: 0, most_asks: 0, bad_line: 0 };
-        let (contexts, none) = ([1u32], "");
+        let (contexts, none) = ([Context { may: 1, write_limit: u64::MAX }], "");
         match unsafe {
             kx_raw_open(&mut at, &mut setup, contexts.as_ptr(), 1, rules.as_ptr(), rules.len(),
                 none.as_ptr(), 0)

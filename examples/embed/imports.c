@@ -30,7 +30,7 @@ static uint32_t get(kx_guest *guest, uint32_t at, uint32_t old_len, uint32_t ali
 
 static kx_guest guest_of(const char *rules, uint32_t most_asks)
 {
-    const uint32_t contexts[] = {KX_TCP | KX_UDP | KX_NAMES};
+    const kx_context contexts[] = {{KX_TCP | KX_UDP | KX_NAMES, KX_NO_LIMIT}};
     kx_setup setup = {0, 0, most_asks, 0};
     kx_guest guest;
     memset(&guest, 0, sizeof guest);

@@ -26,7 +26,7 @@ static long held(void)
 int main(int words, char **word)
 {
     const long count = words > 1 ? atol(word[1]) : 1000000;
-    const uint32_t contexts[] = {KX_TCP};
+    const kx_context contexts[] = {{KX_TCP, KX_NO_LIMIT}};
     kx_setup setup = {0, 0, 0, 0};
     kx_host *host;
     kx_answer_t answer;

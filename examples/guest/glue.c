@@ -94,7 +94,7 @@ static double now(void)
 int main(int count, char **word)
 {
     char rules[128];
-    const uint32_t contexts[] = {KX_TCP};
+    const kx_context contexts[] = {{KX_TCP, KX_NO_LIMIT}};
     kx_setup setup = {0, 0, 0, 0};
     int port = count > 2 ? atoi(word[2]) : 0, allowed = count > 3 ? atoi(word[3]) : port;
     int status = 0;

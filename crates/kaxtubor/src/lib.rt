@@ -3,7 +3,7 @@
 #![tactic(auto)]
 
 use std::alloc::Global;
-use wasi_embed::{Answer, AskRecord, Held, Host, Request, Setup, Status, open, put_host};
+use wasi_embed::{Answer, AskRecord, Context, Held, Host, Request, Setup, Status, open, put_host};
 
 /// What a system's `poll` waits for, as C's `struct pollfd`.
 #[repr(C)]
@@ -20,7 +20,7 @@ pub extern "C" fn kx_raw_open(
     alloc: Global,
     out: &mut *mut u8,
     setup: &mut Setup,
-    contexts: &[u32],
+    contexts: &[Context],
     rules: &[u8],
     hosts: &[u8],
 ) -> u32 {

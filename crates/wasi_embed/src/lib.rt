@@ -18,5 +18,5 @@ mod text;
 pub use answer::{Answer, AskRecord, Request};
 pub use held::{Held, put_host};
 pub use host::Host;
-pub use opening::{Setup, open};
+pub use opening::{Context, Setup, open};
 pub use status::Status;

@@ -7,12 +7,11 @@ use crate::host::Host;
 use crate::kept::{Kept, Network};
 use crate::opened::Open;
 use crate::status::Status;
-use crate::text::contexts_text;
 use std::alloc::{AllocError, Global};
 use wasi_asking::{AskingWorld, Asks};
 use wasi_net::{Allowed, Hosts, Linux, SystemWorld};
 use wasi_policy::{Policy, RulesError};
-use wasi_replay::RecordingWorld;
+use wasi_replay::{RecordingWorld, contexts_text};
 use wasi_session::Session;
 use wasi_world::WasiSocketsCtx;
 
@@ -30,22 +29,32 @@ pub struct Setup {
     pub bad_line: u32,
 }
 
-/// A context of these bits: 1 for TCP, 2 for UDP, 4 for lookups.
-fn context_of(name: u32, bits: u32) -> WasiSocketsCtx {
+/// A context that a host is opened with.
+#[repr(C)]
+#[derive(Clone, Copy)]
+pub struct Context {
+    /// What it may use, as bits: 1 for TCP, 2 for UDP, 4 for lookups.
+    pub may: u32,
+    /// How many bytes the 0.2 writers of its connections may hold together.
+    pub write_limit: u64,
+}
+
+/// The context of this number.
+fn context_of(name: u32, context: Context) -> WasiSocketsCtx {
     WasiSocketsCtx {
         name,
-        ip_name_lookup: bits & 4 != 0,
-        udp: bits & 2 != 0,
-        tcp: bits & 1 != 0,
-        write_limit: u64::MAX,
+        ip_name_lookup: context.may & 4 != 0,
+        udp: context.may & 2 != 0,
+        tcp: context.may & 1 != 0,
+        write_limit: context.write_limit,
     }
 }
 
-/// The contexts of these bits, each with its place as its number.
-fn contexts_of(alloc: Global, bits: &[u32]) -> Result<Vec<WasiSocketsCtx>, AllocError> {
+/// The contexts, each with its place as its number.
+fn contexts_of(alloc: Global, given: &[Context]) -> Result<Vec<WasiSocketsCtx>, AllocError> {
     let mut contexts = Vec::new(alloc);
     let mut name = 0u32;
-    for it in bits {
+    for it in given {
         contexts.push(context_of(name, *it))?;
         name = name.saturating_add(1);
     }
@@ -115,13 +124,13 @@ fn noted(alloc: Global, network: Network, contexts: Vec<WasiSocketsCtx>) -> Open
 pub fn open(
     alloc: Global,
     setup: &mut Setup,
-    bits: &[u32],
+    given: &[Context],
     rules: &[u8],
     hosts: &[u8],
 ) -> Result<Host, Status> {
     let policy = rules_of(alloc, rules, &mut setup.bad_line)?;
     let network = network(alloc, *setup, policy, hosts_of(alloc, hosts)?);
-    let contexts = contexts_of(alloc, bits)?;
+    let contexts = contexts_of(alloc, given)?;
     let Ok(count) = u32::try_from(contexts.len()) else {
         return Err(Status::Argument);
     };

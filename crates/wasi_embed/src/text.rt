@@ -1,45 +1,12 @@
-//! The text of a host's log, a part at a time.
+//! The text of the entries of a host's log, a part at a time.
 
 ghost use Rattle.std.specs.Prelude.{◌≡◌, ◌++◌, IfOk, OnOk, drop, string_bytes};
-ghost use Rattle.wasi_replay.specs.Log.{allowed_text};
-ghost use Rattle.wasi_replay.specs.Pieces.{context_text, contexts_text, entry_text, entries_text};
+ghost use Rattle.wasi_replay.specs.Pieces.{entry_text, entries_text};
 
 use std::alloc::{AllocError, Global};
 use std::fmt::Write;
-use wasi_world::{Entry, WasiSocketsCtx};
+use wasi_world::Entry;
 use world_text::EntryText;
-
-/// Whether something is allowed, as `yes` or `no`.
-fn allowed_word(allowed: bool) -> &'static str
-    ensures { result.now ≡ allowed_text allowed }
-{
-    if allowed { "yes" } else { "no" }
-}
-
-/// Appends the line of a context.
-fn push_context(text: &mut String, context: &WasiSocketsCtx) -> Result<(), AllocError>
-    ensures { OnOk result (string_bytes text.new ≡ string_bytes text.old ++ context_text
-        context.now) }
-{
-    let tcp = allowed_word(context.tcp);
-    let udp = allowed_word(context.udp);
-    let lookup = allowed_word(context.ip_name_lookup);
-    write!(text, "context {tcp} {udp} {lookup}\n")
-}
-
-/// The lines of a log's contexts, which stand before those of its entries.
-pub(crate) fn contexts_text(
-    alloc: Global,
-    contexts: &[WasiSocketsCtx],
-) -> Result<Vec<u8>, AllocError>
-    ensures { IfOk result (λ text. text.items ≡ contexts_text contexts.now) }
-{
-    let mut text = String::new(alloc);
-    for context in contexts {
-        push_context(&mut text, context)?;
-    }
-    Ok(text.into_bytes())
-}
 
 /// The line of an entry.
 fn entry_line(alloc: Global, entry: &Entry) -> Result<String, AllocError>

@@ -19,4 +19,4 @@ pub use laws::logs_are_read_exactly;
 pub use parse::{LogError, parse_log};
 pub use recording_world::RecordingWorld;
 pub use replay_world::{Recorded, ReplayWorld};
-pub use text::log_text;
+pub use text::{contexts_text, log_text};

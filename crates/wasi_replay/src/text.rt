@@ -40,6 +40,15 @@ fn push_contexts(text: &mut String, contexts: &[WasiSocketsCtx]) -> Result<(), A
     Ok(())
 }
 
+/// The lines of a log's contexts, which stand before those of its entries. Takes memory for them.
+pub fn contexts_text(alloc: Global, contexts: &[WasiSocketsCtx]) -> Result<Vec<u8>, AllocError>
+    ensures { IfOk result (λ text. text.items ≡ contexts_text contexts.now) }
+{
+    let mut text = String::new(alloc);
+    push_contexts(&mut text, contexts)?;
+    Ok(text.into_bytes())
+}
+
 /// Appends the line of an entry.
 fn push_entry(text: &mut String, entry: &Entry) -> Result<(), AllocError>
     ensures { OnOk result (string_bytes text.new ≡ string_bytes text.old ++ entry_text entry.now) }
