@@ -30,7 +30,8 @@ usage: recorder record LIMIT    runs the script on standard input, of at most LI
 
 The script's lines are those of the program sockets; its --help lists them. A log is written also where the run ended
 early. Its lines are
-    context T U K               a context of the run, for each: whether it may use TCP, UDP and name lookup
+    context T U K L             a context of the run, for each: whether it may use TCP, UDP and name lookup, and
+                                how many bytes its TCP writers of 0.2 may hold unwritten
     STEP PART CALL = ANSWER     a call on the check or the network, for each: the line of the script and the part of
                                 it that made it, the call, and its answer, such as
                                 3 0 bind 2 0 4 127 0 0 1 80 = done

@@ -45,9 +45,10 @@ usage: transcripts show LIMIT    prints the transcript of the script on standard
        transcripts --help        prints this
        transcripts --version     prints the version
 
-A line of scenario.txt plans an answer of the network, such as `check no`, or makes a context: `context T U K`, where
-T, U and K are `yes` or `no`, says whether it may use TCP, UDP and name lookup. Contexts are numbered from 0 in the
-order of their lines; with no such line there is one, which may use all three.
+A line of scenario.txt plans an answer of the network, such as `check no`, or makes a context: `context T U K L`, where
+T, U and K are `yes` or `no`, says whether it may use TCP, UDP and name lookup, and L, which may be left out, how many
+bytes its TCP writers of 0.2 may hold, as permits and unwritten, together. Contexts are numbered from 0 in the order
+of their lines; with no such line there is one, which may use all three.
 
 A transcript has each line of the script behind `> `. Beneath it, indented, stand the calls that this line made on the
 network, each with its operation and its answer, and then the line's reply. The last line has the number of network sockets that

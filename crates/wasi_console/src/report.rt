@@ -16,7 +16,7 @@ use world_io::FileSource;
 
 /// What a line of a scenario may be.
 const SCENARIO_LINES: &str =
-    "a line such as `check no`, `read bytes 0102` or `context yes yes no`, ended by a newline, in a file of at most 1048576 bytes";
+    "a line such as `check no`, `read bytes 0102` or `context yes yes no 65536`, ended by a newline, in a file of at most 1048576 bytes";
 
 /// What a line of a script may be.
 const SCRIPT_LINES: &str =
