@@ -5,5 +5,4 @@ pub mod Handles
 pub mod Steps
 pub mod Polls
 pub mod Heard
-pub mod Marked
 pub mod Reads

@@ -23,7 +23,7 @@ use Rattle.wasi_walks.proofs.licence.Fresh.{next_is_new}
 use Rattle.wasi_walks.proofs.licence.Runs.{last_line, runs_fine}
 use Rattle.wasi_walks.specs.Licence.{Has, IsMarkOf, IsMarkedWith, IsSide, MarksNoSocket, entry, step_at}
 use Rattle.wasi_causes.specs.Marks.{IsNewHandle}
-use Rattle.wasi_causes.proofs.reads.Marked.{one_mark}
+use Rattle.wasi_walks.proofs.licence.Meanings.{one_mark}
 use Rattle.wasi_relay.specs.Replies.{handle_of}
 use Rattle.wasi_relay.proofs.Past.{Goes, Past, Replies, push}
 use Rattle.wasi_relay.proofs.Grown.{IsTcp, licensed}

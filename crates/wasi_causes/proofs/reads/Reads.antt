@@ -21,7 +21,7 @@ use Rattle.wasi_host.specs.StreamCalls.{failed_made, stopped}
 use Rattle.wasi_host.specs.Kinds.{name_of}
 use Rattle.wasi_tcp.specs.Halves.{polled_answer}
 use Rattle.wasi_tcp.specs.Reader.{reader_shutdown_asks}
-use Rattle.wasi_walks.proofs.licence.Meanings.{one_side}
+use Rattle.wasi_walks.proofs.licence.Meanings.{one_mark, one_side}
 use Rattle.wasi_world.specs.Sides.{is_same}
 use Rattle.wasi_streams.specs.StreamStop as stop
 use Rattle.wasi_tcp.specs.Halves.{read_asks}
@@ -42,7 +42,6 @@ use Rattle.wasi_walks.specs.Allowed.{IsSide}
 use Rattle.wasi_walks.specs.Licence.{IsLicensed, IsMarkedWith}
 use Rattle.wasi_causes.specs.ToldBytes.{handed_out, told_by, told_in}
 use Rattle.wasi_causes.proofs.reads.Heard.{Hears, hears_given, hears_if, hears_left, hears_then}
-use Rattle.wasi_causes.proofs.reads.Marked.{one_mark}
 use Rattle.wasi_causes.proofs.streams.ReadsInRuns.{input_kind, side_of_half}
 
 -- the bytes of a result, and of an answer

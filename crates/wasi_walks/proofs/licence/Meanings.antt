@@ -1,8 +1,8 @@
 -- In a licensed log a handle has one network socket, and a network socket one creator and one family.
 use Rattle.wasi_walks.proofs.Words.{BeganBy, Call, Created, Entry, Hand, Handed, Has, IpSocketAddress, IsLicensed, IsMaker, IsSide, IsTcpCreate, List}
-use Rattle.wasi_walks.proofs.Words.{MayAsk, NamesSide, OpId, Reply, SocketAddressFamily, GuestCall, Step, TcpCreate, Told, WasiSocketsCtx, [], ap, arith, entry}
+use Rattle.wasi_walks.proofs.Words.{MayAsk, NamesSide, OpId, Option, Reply, SocketAddressFamily, GuestCall, Step, TcpCreate, Told, WasiSocketsCtx, [], ap, arith, entry}
 use Rattle.wasi_walks.proofs.Words.{handles_of, inl, inr, marked_by, marks_in, refl, subst, sym, ℕ, ◌++◌, ◌∙◌, ◌∷◌, ◌≡◌, ◌⊎◌}
-use Rattle.wasi_walks.specs.Licence.{IsUdpCreate, MayUseUdp, UdpCreated}
+use Rattle.wasi_walks.specs.Licence.{IsMarkedWith, IsUdpCreate, MayUseUdp, UdpCreated}
 use Rattle.wasi_world.specs.declared.call.Call.TheVariants.{UdpCreate}
 use Rattle.wasi_walks.proofs.Lists.{entry_call, Cut, cut_of}
 
@@ -25,6 +25,16 @@ same_mark (z ∷ f) (w ∷ g) x y b d e i j m =
     let p : z ≡ w = cc in
     let q = ap (λ (u : Entry). marked_by u.call) p in
     same_mark f g x y b d (cc) i j (omega arith)
+
+pub one_mark : (contexts : List WasiSocketsCtx) (steps : List Step) (log : List Entry) (replies : List Reply) → IsLicensed contexts steps log replies → (handle : ℕ) (a b : Option OpId) → IsMarkedWith log handle a → IsMarkedWith log handle b → a ≡ b
+one_mark contexts steps log replies h handle a b x y =
+    let c = cut_of log _ x.mark in
+    let d = cut_of log _ y.mark in
+    let p = (h.each c.front _ c.back c.is).0 in
+    let q = (h.each d.front _ d.back d.is).0 in
+    let e = same_mark c.front d.front _ _ c.back d.back (sym c.is ∙ d.is) refl refl (omega arith) in
+    let f = entry_call _ _ e in
+    cc
 
 module _ (contexts : List WasiSocketsCtx) (steps : List Step) (log : List Entry) {replies : List Reply} (h : IsLicensed contexts steps log replies) where
   may_at : (e : Entry) (c : Cut log e) → MayAsk contexts steps c.front e.op e.call
