@@ -1,6 +1,7 @@
 -- What handles stand for asks for no bytes: what is dropped, a turn, and a pending call that isn't of a stream.
 use Rattle.wasi_causes.proofs.Words.{Answer, Asks, Bool, Code, Err, ErrorCode, HandleTable, Kind, List, Machine, None, Ok, OpId, Operation, Option}
 use Rattle.wasi_causes.proofs.Words.{Records, Result, ShutdownType, Some, Standing, StandingCall, Stop, Streams, TcpRecord, [], call_place}
+use Rattle.wasi_tcp.specs.Writer.{drop_permit}
 use Rattle.wasi_causes.proofs.Words.{collected, drop_kind, drop_taken, false, go_on, kind_at, make_asks, own_of, refl, release_at, relisten_at}
 use Rattle.wasi_causes.proofs.Words.{resume_call, side_at, side_of, true, turn_at, turn_job, turn_jobs, turn_machine_asks, turned, unstood, wait_at}
 use Rattle.wasi_causes.proofs.Words.{with_listening, with_socket, ℕ, ⊤, ◌∷◌, ◌≡◌}
@@ -93,7 +94,7 @@ releases_at store op place (Some r) = and_gives _ (releases op r)
 
 waits_writer : (op : OpId) (r : TcpRecord) (o : Option Streams) → Unread (wait_writer op r o)
 waits_writer op r None = gives _
-waits_writer op r (Some s) = and_gives _ (looks op (collected s.writer))
+waits_writer op r (Some s) = and_gives _ (looks op (collected (drop_permit s.writer)))
 
 waits_at : (store : Records) (op : OpId) (place : ℕ) (o : Option TcpRecord) → Unread (wait_at store op place o)
 waits_at store op place None = gives _

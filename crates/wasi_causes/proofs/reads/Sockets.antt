@@ -145,8 +145,8 @@ looks op (writing.Writing j) = gives _
 looks op (writing.Closing j) = gives _
 looks op (writing.Closed e) = gives _
 
-pub checks : (op : OpId) (w : WriteState) → Unread (check_write_asks op w)
-checks op w = and_gives _ (looks op (collected w))
+pub checks : (most : ℕ) (op : OpId) (w : WriteState) → Unread (check_write_asks most op w)
+checks most op w = and_gives _ (looks op (collected w))
 
 works : (j : Job) (end : End) → Unread (job_in j end)
 works j Waits = and_gives _ (polled j.write)

@@ -16,7 +16,8 @@ use Rattle.wasi_records.specs.Records.{tcp2_at}
 use Rattle.wasi_host.specs.Block as line
 use Rattle.wasi_host.specs.Block.{give as block_give, last as block_last}
 use Rattle.wasi_host.specs.Lines.{done_by, finish_connect_of, in_store, makes, same_stop, storing, tabling}
-use Rattle.wasi_host.specs.Machine.{with_table}
+use Rattle.wasi_host.specs.Limits.{most_of}
+use Rattle.wasi_host.specs.Machine.{with_room, with_table}
 use Rattle.wasi_host.specs.StreamCalls.{failed_made}
 use Rattle.wasi_records.specs.Sockets.{poll_connect_asks}
 use Rattle.wasi_addr.specs.declared.p2.ErrorCode.TheVariants.{NotInProgress}
@@ -137,36 +138,36 @@ tells : {T : Type 0} (own : OpId) (handle place : ℕ) (done : Result T StreamSt
 tells own handle place (Ok value, m) = gives _
 tells own handle place (Err why, m) = and_gives _ (converts m own handle place why)
 
-module _ {T : Type 0} (call : WriteState → Asks (Result T StreamStop × WriteState)) (k : (w : WriteState) → Unread (call w)) where
-  writer_calls : (r : TcpRecord) (o : Option Streams) → Unread (writer_of r call o)
+module _ {T : Type 0} (call : TcpRecord → WriteState → Asks (Result T StreamStop × WriteState)) (k : (r : TcpRecord) (w : WriteState) → Unread (call r w)) where
+  writer_calls : (r : TcpRecord) (o : Option Streams) → Unread (writer_of r (call r) o)
   writer_calls r None = gives _
-  writer_calls r (Some s) = and_gives _ (k s.writer)
+  writer_calls r (Some s) = and_gives _ (k r s.writer)
 
-  record_calls : (store : Records) (place : ℕ) (o : Option TcpRecord) → Unread (stream_at store place (λ r. writer_of r call r.streams) o)
+  record_calls : (store : Records) (place : ℕ) (o : Option TcpRecord) → Unread (stream_at store place (λ r. writer_of r (call r) r.streams) o)
   record_calls store place None = gives _
   record_calls store place (Some r) = and_gives _ (writer_calls r r.streams)
 
-  calls_on : (m : Machine) (own : OpId) (handle : ℕ) (o : Option ℕ) → Unread (stream_on m own handle (λ r. writer_of r call r.streams) o)
+  calls_on : (m : Machine) (own : OpId) (handle : ℕ) (o : Option ℕ) → Unread (stream_on m own handle (λ r. writer_of r (call r) r.streams) o)
   calls_on m own handle None = gives _
   calls_on m own handle (Some place) = and_then (record_calls m.store place (tcp2_at m.store.records place)) (λ done. tells own handle place (with_store m done))
 
-  writes_on : (m : Machine) (own : OpId) (handle : ℕ) (o : Option ℕ) → Unread (write_on m own handle (λ r. writer_of r call r.streams) o)
+  writes_on : (m : Machine) (own : OpId) (handle : ℕ) (o : Option ℕ) → Unread (write_on m own handle (λ r. writer_of r (call r) r.streams) o)
   writes_on m own handle None = gives _
   writes_on m own handle (Some place) = and_then (and_gives _ (record_calls m.store place (tcp2_at m.store.records place))) (λ done. tells own handle place (with_store m done))
 
 check_of : (m : Machine) (own : OpId) (output : ℕ) (o : Option PlainOutput) → Unread (check_by m own output o)
 check_of m own output (Some plain) = gives _
-check_of m own output None = calls_on (check_write_asks own) (checks own) m own output (output_at m output)
+check_of m own output None = calls_on (λ r. check_write_asks (most_of m.store r) own) (λ r. checks (most_of m.store r) own) m own output (output_at m output)
 
 write_of : (m : Machine) (own : OpId) (output : ℕ) (bytes : List ℕ) (o : Option PlainOutput) → Unread (write_by m own output bytes o)
 write_of m own output bytes (Some plain) = gives _
-write_of m own output bytes None = writes_on (λ w. write_state_asks own w bytes) (λ w. writes own w bytes) m own output (output_at m output)
+write_of m own output bytes None = writes_on (λ r w. write_state_asks own w bytes) (λ r w. writes own w bytes) m own output (output_at m output)
 
 -- == steps
 module _ (contexts : List WasiSocketsCtx) (m : Machine) (line : ℕ) where
   step_unread : (s : Step) → ReadsNothing s → Unread (step_asks contexts m line s)
   step_unread (step.Call ctx guest.Network) n = and_gives _ (and_gives _ (marks m.table (own_of line) Network None None))
-  step_unread (step.Call ctx (guest.TcpCreate family)) n = and_gives _ (creates same_told code_told Tcp2 m (own_of line) (context_at contexts ctx) family)
+  step_unread (step.Call ctx (guest.TcpCreate family)) n = and_gives _ (creates same_told code_told Tcp2 (with_room m (context_at contexts ctx)) (own_of line) (context_at contexts ctx) family)
   step_unread (step.Call ctx (guest.TcpStartBind s network a)) n = and_gives _ (by_if (is_network (kind_at m.table network)) _ _ (bind_on m (first_ids line) a (socket_at m s)) (gives _))
   step_unread (step.Call ctx (guest.TcpFinishBind s)) n = gives _
   step_unread (step.Call ctx (guest.TcpStartConnect s network a)) n = and_gives _ (by_if (is_network (kind_at m.table network)) _ _ (connect_on m (own_of line) a (socket_at m s)) (gives _))

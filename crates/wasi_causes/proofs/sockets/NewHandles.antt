@@ -13,7 +13,7 @@ use Rattle.wasi_host.specs.Block as block
 use Rattle.wasi_host.specs.Block.{Does, after_call, or_stop, or_trap}
 use Rattle.wasi_host.specs.Lines.{finish_connect_of, in_store, makes, same_stop, storing, tabling}
 use Rattle.wasi_addr.specs.declared.p2.ErrorCode.{ErrorCode as P2Code}
-use Rattle.wasi_host.specs.Machine.{same_told, with_table}
+use Rattle.wasi_host.specs.Machine.{same_told, with_room, with_table}
 use Rattle.wasi_p2.specs.Tcp.{accept_on, accepted_asks, finish_connect, make_streams, socket_with_streams}
 use Rattle.wasi_steps.specs.declared.guest_call.GuestCall.TheVariants as guest
 use Rattle.wasi_steps.specs.declared.reply.Field.{Field}
@@ -148,7 +148,7 @@ module _ (own : OpId) where
   created m (Err c) es = tt
 
   creates : (m : Machine) (ctx : WasiSocketsCtx) (family : SocketAddressFamily) (es : List Entry) → Gives (λ fs done. One fs done.0) es (create_asks m own ctx family)
-  creates m ctx family es = gives_then (λ fs made. ⊤) (λ fs done. One fs done.0) es (new_asks own ctx family) (created_asks m own) (gives_any (λ fs made. ⊤) (λ fs made. tt) es (new_asks own ctx family)) (λ fs made t. created m made fs)
+  creates m ctx family es = gives_then (λ fs made. ⊤) (λ fs done. One fs done.0) es (new_asks own ctx family) (created_asks (with_room m ctx) own) (gives_any (λ fs made. ⊤) (λ fs made. tt) es (new_asks own ctx family)) (λ fs made t. created (with_room m ctx) made fs)
 
 -- == their replies
 module _ (contexts : List WasiSocketsCtx) (m : Machine) (line ctx : ℕ) where

@@ -5,6 +5,7 @@ use Rattle.wasi_world.specs.Operation.{Done, Refused, Waits}
 use Rattle.wasi_records.specs.Records.{tcp2_at}
 use Rattle.wasi_host.specs.CallStops.{CallStop, Closed, Failed, Traps}
 use Rattle.wasi_host.specs.Kinds.{kind_at, plain_output_of}
+use Rattle.wasi_host.specs.Limits.{check_record, most_of}
 use Rattle.wasi_host.specs.Store.{with_record_put}
 use Rattle.wasi_host.specs.StreamCalls.{check_asks, check_by, convert_asks, converted, stopped, stream_on}
 use Rattle.wasi_host.specs.declared.kind.Kind.TheVariants.{Output}
@@ -42,49 +43,49 @@ module _ (contexts : List WasiSocketsCtx) (steps : List Step) (log : List Entry)
   always x e (Ok n, s) = λ some. e
   always x e (Err why, s) = tt
 
-  asks_always : (own : OpId) (x : WriteState) (es : List Entry) → writer_side x ≡ Some side → Gives (λ fs done. Told (Some x) done) es (check_write_asks own x)
-  asks_always own x es e = gives_any (λ fs done. Told (Some x) done) (λ fs done. always x e done) es (check_write_asks own x)
+  asks_always : (most : ℕ) (own : OpId) (x : WriteState) (es : List Entry) → writer_side x ≡ Some side → Gives (λ fs done. Told (Some x) done) es (check_write_asks most own x)
+  asks_always most own x es e = gives_any (λ fs done. Told (Some x) done) (λ fs done. always x e done) es (check_write_asks most own x)
 
   -- what is looked at is this
-  looked : (own : OpId) (x now : WriteState) (es : List Entry) → collected x ≡ now → Gives (λ fs done. Told (Some x) (permitted done)) es (look_in own now) → Gives (λ fs done. Told (Some x) done) es (check_write_asks own x)
-  looked own x now es e h =
-      gives_then (λ fs done. Told (Some x) (permitted done)) (λ fs done. Told (Some x) done) es (look_in own (collected x)) (λ done. Give (permitted done)) (subst (λ (y : WriteState). Gives (λ fs done. Told (Some x) (permitted done)) es (look_in own y)) (sym e) h) (λ fs done k. k)
+  looked : (most : ℕ) (own : OpId) (x now : WriteState) (es : List Entry) → collected x ≡ now → Gives (λ fs done. Told (Some x) (permitted most done)) es (look_in own now) → Gives (λ fs done. Told (Some x) done) es (check_write_asks most own x)
+  looked most own x now es e h =
+      gives_then (λ fs done. Told (Some x) (permitted most done)) (λ fs done. Told (Some x) done) es (look_in own (collected x)) (λ done. Give (permitted most done)) (subst (λ (y : WriteState). Gives (λ fs done. Told (Some x) (permitted most done)) es (look_in own y)) (sym e) h) (λ fs done k. k)
 
   none_more : (x : Option WriteState) → 0 < 0 → IsSomeAnd x (λ y. writer_side y ≡ Some side)
   none_more x n = absurd (omega arith)
 
-  job_says : (own : OpId) (job : Job) (es : List Entry) → job.write.who.side ≡ side → (end : End) → job.end ≡ end → Gives (λ fs done. Told (Some (writing.Writing job)) done) es (check_write_asks own (writing.Writing job))
-  job_says own job es its Waits e = looked own (writing.Writing job) (writing.Writing job) es (ap (written_by job) e) (none_more (Some (writing.Writing job)))
-  job_says own job es its (Done g) e = asks_always own (writing.Writing job) es (ap (writing_side job) e ∙ ap (λ (o : OpId). Some o) its)
-  job_says own job es its (Refused c g) e = looked own (writing.Writing job) _ es (ap (written_by job) e) tt
+  job_says : (most : ℕ) (own : OpId) (job : Job) (es : List Entry) → job.write.who.side ≡ side → (end : End) → job.end ≡ end → Gives (λ fs done. Told (Some (writing.Writing job)) done) es (check_write_asks most own (writing.Writing job))
+  job_says most own job es its Waits e = looked most own (writing.Writing job) (writing.Writing job) es (ap (written_by job) e) (none_more (Some (writing.Writing job)))
+  job_says most own job es its (Done g) e = asks_always most own (writing.Writing job) es (ap (writing_side job) e ∙ ap (λ (o : OpId). Some o) its)
+  job_says most own job es its (Refused c g) e = looked most own (writing.Writing job) _ es (ap (written_by job) e) tt
 
-  closing_says : (own : OpId) (job : Job) (es : List Entry) (end : End) → job.end ≡ end → Gives (λ fs done. Told (Some (writing.Closing job)) done) es (check_write_asks own (writing.Closing job))
-  closing_says own job es Waits e = looked own (writing.Closing job) (writing.Closing job) es (ap (closed_by job) e) (none_more (Some (writing.Closing job)))
-  closing_says own job es (Done g) e = looked own (writing.Closing job) _ es (ap (closed_by job) e) tt
-  closing_says own job es (Refused c g) e = looked own (writing.Closing job) _ es (ap (closed_by job) e) tt
+  closing_says : (most : ℕ) (own : OpId) (job : Job) (es : List Entry) (end : End) → job.end ≡ end → Gives (λ fs done. Told (Some (writing.Closing job)) done) es (check_write_asks most own (writing.Closing job))
+  closing_says most own job es Waits e = looked most own (writing.Closing job) (writing.Closing job) es (ap (closed_by job) e) (none_more (Some (writing.Closing job)))
+  closing_says most own job es (Done g) e = looked most own (writing.Closing job) _ es (ap (closed_by job) e) tt
+  closing_says most own job es (Refused c g) e = looked most own (writing.Closing job) _ es (ap (closed_by job) e) tt
 
   module _ (own : OpId) where
-    writer_says : (place : ℕ) (r : TcpRecord) (s : Streams) (x : WriteState) → output_at m output ≡ Some place → tcp2_at m.store.records place ≡ Some r → r.streams ≡ Some s → s.writer ≡ x → (es : List Entry) → Gives (λ fs done. Told (Some x) done) es (check_write_asks own x)
-    writer_says place r s (writing.Ready half permit) names at has is es =
+    writer_says : (most : ℕ) (place : ℕ) (r : TcpRecord) (s : Streams) (x : WriteState) → output_at m output ≡ Some place → tcp2_at m.store.records place ≡ Some r → r.streams ≡ Some s → s.writer ≡ x → (es : List Entry) → Gives (λ fs done. Told (Some x) done) es (check_write_asks most own x)
+    writer_says most place r s (writing.Ready half permit) names at has is es =
         let by : r.side ≡ Some half.side = subst (WritesBy r.side) is ((fine contexts steps log replies m w).1.keeps.tcps place r at s has).1 in
-        asks_always own (writing.Ready half permit) es (ap (λ (o : OpId). Some o) (is_its place r half.side names at by))
-    writer_says place r s (writing.Writing job) names at has is es =
+        asks_always most own (writing.Ready half permit) es (ap (λ (o : OpId). Some o) (is_its place r half.side names at by))
+    writer_says most place r s (writing.Writing job) names at has is es =
         let by = subst (WritesBy r.side) is ((fine contexts steps log replies m w).1.keeps.tcps place r at s has).1 in
-        job_says own job es (is_its place r job.write.who.side names at by.0) job.end refl
-    writer_says place r s (writing.Closing job) names at has is es = closing_says own job es job.end refl
-    writer_says place r s (writing.Closed e) names at has is es = looked own (writing.Closed e) (writing.Closed e) es refl tt
+        job_says most own job es (is_its place r job.write.who.side names at by.0) job.end refl
+    writer_says most place r s (writing.Closing job) names at has is es = closing_says most own job es job.end refl
+    writer_says most place r s (writing.Closed e) names at has is es = looked most own (writing.Closed e) (writing.Closed e) es refl tt
 
-    streams_say : (place : ℕ) (r : TcpRecord) (o : Option Streams) → output_at m output ≡ Some place → tcp2_at m.store.records place ≡ Some r → r.streams ≡ o → (es : List Entry) → Gives (λ fs done. Told (writer_in o) done) es (writer_of r (check_write_asks own) o)
-    streams_say place r None names at has es = tt
-    streams_say place r (Some s) names at has es =
-        gives_then (λ fs done. Told (Some s.writer) done) (λ fs done. Told (Some s.writer) done) es (check_write_asks own s.writer) (λ done. Give (done.0, with_writer r s done.1)) (writer_says place r s s.writer names at has refl es) (λ fs done k. k)
+    streams_say : (most : ℕ) (place : ℕ) (r : TcpRecord) (o : Option Streams) → output_at m output ≡ Some place → tcp2_at m.store.records place ≡ Some r → r.streams ≡ o → (es : List Entry) → Gives (λ fs done. Told (writer_in o) done) es (writer_of r (check_write_asks most own) o)
+    streams_say most place r None names at has es = tt
+    streams_say most place r (Some s) names at has es =
+        gives_then (λ fs done. Told (Some s.writer) done) (λ fs done. Told (Some s.writer) done) es (check_write_asks most own s.writer) (λ done. Give (done.0, with_writer r s done.1)) (writer_says most place r s s.writer names at has refl es) (λ fs done k. k)
 
     abbrev checks : TcpRecord → Asks (Result ℕ StreamStop × TcpRecord)
-    checks r = writer_of r (check_write_asks own) r.streams
+    checks r = check_record m.store own r
 
     record_says : (place : ℕ) (o : Option TcpRecord) → output_at m output ≡ Some place → tcp2_at m.store.records place ≡ o → (es : List Entry) → Gives (λ fs done. Told (writer_of_record o) done) es (stream_at m.store place checks o)
     record_says place None names at es = tt
-    record_says place (Some r) names at es = gives_then (λ fs done. Told (writer_in r.streams) done) (λ fs done. Told (writer_in r.streams) done) es (checks r) (λ done. Give (with_record_put m.store place done)) (streams_say place r r.streams names at refl es) (λ fs done k. k)
+    record_says place (Some r) names at es = gives_then (λ fs done. Told (writer_in r.streams) done) (λ fs done. Told (writer_in r.streams) done) es (checks r) (λ done. Give (with_record_put m.store place done)) (streams_say (most_of m.store r) place r r.streams names at refl es) (λ fs done k. k)
 
     converted_says : (place : ℕ) (x : Option WriteState) (es : List Entry) (done : Result ℕ StreamStop × Machine) → Told x done → Gives (λ fs told. Told x told) es (converted own output place done)
     converted_says place x es (Ok value, now) k = k
