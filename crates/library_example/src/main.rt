@@ -22,8 +22,7 @@ const PIECE_SIZE: usize = 4096;
 
 fn main(rt: HostRuntime) -> anyhow::Result<()> {
     let alloc = rt.alloc();
-    // The guest may use TCP, but no UDP and no lookups, and may leave 65,536 bytes unwritten.
-    // The check says no once.
+    // The guest may leave 65,536 bytes unwritten; the check says no once.
     let plan = b"context yes no no 65536\ncheck no\n";
     let (mut world, mut contexts) = ScriptedWorld::parse(alloc, plan)?;
     let mut script = MemorySource::new(SCRIPT.to_vec(alloc)?, PIECE_SIZE, Vec::new(alloc));
