@@ -27,8 +27,9 @@ returns-clause-asked g c =
     let pushed : c.if-not-before.self-inside.jobs.items ≡ store.jobs ++ Receive c.args.place ∷ [] = elim c.if-not-before.branch [ then-not-before w ↦ rw w.self-inside-is c.in_ok-push.ensures.ok | else-not-before w ↦ rw w.self-inside-is c.in_ok-push.ensures.ok ] in
     let stands : c.if-not-before.self-inside.standing ≡ store.standing = elim c.if-not-before.branch [ then-not-before w ↦ rw w.self-inside-is refl | else-not-before w ↦ rw w.self-inside-is refl ] in
     let besides : c.if-not-before.self-inside.beside ≡ store.beside = elim c.if-not-before.branch [ then-not-before w ↦ rw w.self-inside-is refl | else-not-before w ↦ rw w.self-inside-is refl ] in
+    let limits : c.if-not-before.self-inside.limits.items ≡ store.limits = elim c.if-not-before.branch [ then-not-before w ↦ rw w.self-inside-is refl | else-not-before w ↦ rw w.self-inside-is refl ] in
     let began : c.if-not-before.begins ≡ begins_receive c.in-Some.socket.now c.receive_datagrams-received.new.self = elim c.if-not-before.branch [ then-not-before w ↦ begins_now _ _ _ (sym c.receives-before.ensures ∙ w.if-not-before.true) (w.begins-is ∙ w.receives-begins.ensures) | else-not-before w ↦ begins_none _ _ _ (sym c.receives-before.ensures ∙ w.if-not-before.false) (w.begins-is ∙ ap not w.if-not-before.false) ] in
-    rw (← c.self.view_is, open_found c.self.inside.records.items c.args.place c.in-Some.socket c.in-Some.ensures.item, recs, stands, besides)
+    rw (← c.self.view_is, open_found c.self.inside.records.items c.args.place c.in-Some.socket c.in-Some.ensures.item, recs, stands, besides, limits)
     (asks_as (job_noted store c.args.place c.receive_datagrams-received.new.self (Receive c.args.place) c.if-not-before.begins (begins_receive c.in-Some.socket.now c.receive_datagrams-received.new.self) store.jobs c.keep_job.new.jobs.items (c.keep_job.ensures store.jobs (Receive c.args.place) pushed) refl began)
     (asks_gives (λ d. (d.0, with_receive store c.args.place c.in-Some.socket.now d.1)) c.receive_datagrams-received.ensures.asked))
 
@@ -51,8 +52,9 @@ returns-clause-lost g c =
     let pushed : c.if-not-before.self-inside.jobs.items ≡ store.jobs ++ Receive c.args.place ∷ [] = elim c.if-not-before.branch [ then-not-before w ↦ rw w.self-inside-is c.in_ok-push.ensures.ok | else-not-before w ↦ rw w.self-inside-is c.in_ok-push.ensures.ok ] in
     let stands : c.if-not-before.self-inside.standing ≡ store.standing = elim c.if-not-before.branch [ then-not-before w ↦ rw w.self-inside-is refl | else-not-before w ↦ rw w.self-inside-is refl ] in
     let besides : c.if-not-before.self-inside.beside ≡ store.beside = elim c.if-not-before.branch [ then-not-before w ↦ rw w.self-inside-is refl | else-not-before w ↦ rw w.self-inside-is refl ] in
+    let limits : c.if-not-before.self-inside.limits.items ≡ store.limits = elim c.if-not-before.branch [ then-not-before w ↦ rw w.self-inside-is refl | else-not-before w ↦ rw w.self-inside-is refl ] in
     let began : c.if-not-before.begins ≡ begins_receive c.in-Some.socket.now c.receive_datagrams-received.new.self = elim c.if-not-before.branch [ then-not-before w ↦ begins_now _ _ _ (sym c.receives-before.ensures ∙ w.if-not-before.true) (w.begins-is ∙ w.receives-begins.ensures) | else-not-before w ↦ begins_none _ _ _ (sym c.receives-before.ensures ∙ w.if-not-before.false) (w.begins-is ∙ ap not w.if-not-before.false) ] in
-    rw (← c.self.view_is, open_found c.self.inside.records.items c.args.place c.in-Some.socket c.in-Some.ensures.item, recs, stands, besides)
+    rw (← c.self.view_is, open_found c.self.inside.records.items c.args.place c.in-Some.socket c.in-Some.ensures.item, recs, stands, besides, limits)
     (taken_lost _ _ c.receive_datagrams-received.result c.args.most c.args.ids.now c.args.place store _ c.in-Some.socket.now c.receive_datagrams-received.new.self
     (job_noted store c.args.place c.receive_datagrams-received.new.self (Receive c.args.place) c.if-not-before.begins (begins_receive c.in-Some.socket.now c.receive_datagrams-received.new.self) store.jobs c.keep_job.new.jobs.items (c.keep_job.ensures store.jobs (Receive c.args.place) pushed) refl began)
     c.receive_datagrams-received.ensures.lost)
