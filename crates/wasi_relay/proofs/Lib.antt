@@ -1,4 +1,5 @@
 mod Going
+mod OpenPairs
 mod Each
 mod Turning
 mod Settling

@@ -1,5 +1,6 @@
 pub mod Order
 pub mod Pair
+pub mod OpenPairs
 pub mod Guest
 pub mod Went
 pub mod Replies

@@ -7,6 +7,7 @@ mod copying;
 pub mod idle;
 pub mod order;
 pub mod pair;
+mod pairs;
 pub mod service;
 mod serving;
 mod setup;

@@ -9,6 +9,7 @@ ghost use Rattle.wasi_relay.specs.RelaySteps.{Relays, relayed, no_course};
 use crate::idle::Idle;
 use crate::order::Order;
 use crate::pair::Pair;
+use crate::pairs::PairList;
 use crate::setup::set_up;
 use crate::turns::{Progress, make_turns};
 use std::alloc::Global;
@@ -58,12 +59,12 @@ pub fn relay<W: World, I: Idle<W>>(
     let mut session = Session::new(alloc, world, contexts);
     let mut at = Progress {
         taken: 0,
-        pairs: Vec::new(alloc),
+        pairs: PairList::new(alloc),
     };
     let end = serve(alloc, &mut session, order, &mut at, idle);
     Relayed {
         end,
-        pairs: at.pairs,
+        pairs: at.pairs.into_vec(),
         world: session.finish(),
     }
 }

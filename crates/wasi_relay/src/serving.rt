@@ -1,8 +1,9 @@
 //! A pair's part of a turn.
 
-ghost use Rattle.std.specs.Prelude.{◌≡◌};
+ghost use Rattle.std.specs.Prelude.{◌≡◌, filter};
 ghost use Rattle.wasi_relay.specs.Went.{Went, given};
 ghost use Rattle.wasi_relay.specs.Pair.{at_stage, with_flows};
+ghost use Rattle.wasi_relay.specs.OpenPairs.{is_open_at, open_places};
 ghost use Rattle.wasi_relay.specs.Serving.{served, served_both, served_each, connected};
 ghost use Rattle.wasi_relay.specs.Serving.{after_connect, both_broken};
 ghost use Rattle.wasi_relay.specs.Serving.{over, over_at_end, closed, closed_with};
@@ -61,20 +62,25 @@ impl Pair {
     }
 }
 
-/// Each pair's part of a turn, in order; and whether one of them moved.
-pub(crate) fn serve_each<W: World>(
+/// The part of a turn of each pair that isn't over, in order, where these are their places; and
+/// whether one of them moved.
+pub(crate) fn serve_open<W: World>(
     alloc: Global,
     session: &mut Session<W>,
     pairs: &mut [Pair],
+    places: &[usize],
 ) -> Result<bool, StepError>
-    ensures { Went (served_each pairs.old) session.old session.new
+    requires { places.now ≡ open_places pairs.old }
+    ensures went { Went (served_each pairs.old) session.old session.new
         (given pairs.new result) }
+    ensures open { filter (is_open_at pairs.new) places.now ≡ open_places pairs.new }
 {
     let mut moved = false;
-    for pair in pairs.iter_mut() {
-        let served = serve(alloc, session, *pair)?;
-        moved |= served != *pair;
-        *pair = served;
+    for place in places {
+        let pair = pairs[*place];
+        let served = serve(alloc, session, pair)?;
+        moved |= served != pair;
+        pairs[*place] = served;
     }
     Ok(moved)
 }

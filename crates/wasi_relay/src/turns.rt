@@ -3,7 +3,6 @@
 
 ghost use Rattle.std.specs.Prelude.{◌≡◌, ◌<◌};
 ghost use Rattle.wasi_relay.specs.Went.{Went, given};
-ghost use Rattle.wasi_relay.specs.Pair.{open_pairs};
 ghost use Rattle.wasi_relay.specs.Turns.{course_of, is_served, may_accept};
 ghost use Rattle.wasi_relay.specs.Turns.{turned, accepted, after_accept, paired, begun};
 ghost use Rattle.wasi_relay.specs.Turns.{rounds, last_end, finished};
@@ -11,9 +10,10 @@ ghost use Rattle.wasi_relay.specs.Turns.{rounds, last_end, finished};
 use crate::calls::{call, handle_at, step};
 use crate::idle::Idle;
 use crate::order::{Order, family_of};
-use crate::pair::{Pair, Peer};
+use crate::pair::Peer;
+use crate::pairs::PairList;
 use crate::service::RelayEnd;
-use crate::serving::{close, serve_each};
+use crate::serving::close;
 use crate::setup::Listener;
 use std::alloc::Global;
 use wasi_session::{GuestCall, Reply, Session, Step, StepError};
@@ -29,29 +29,22 @@ pub(crate) struct Progress {
     /// How many arrivals were taken.
     pub taken: u32,
     /// The pairs of those that have one, in order of arrival.
-    pub pairs: Vec<Pair>,
+    pub pairs: PairList,
 }
 
 impl Progress {
-    /// How many pairs aren't over.
-    fn open_pairs(&self) -> usize
-        ensures { result ≡ open_pairs self.now.pairs.items }
-    {
-        self.pairs.iter().filter(|pair| !pair.is_over()).count()
-    }
-
     /// Whether all arrivals are over.
     fn is_served(&self, order: &Order) -> bool
         ensures { result ≡ is_served order.now (course_of self.now) }
     {
-        self.taken == order.connections && self.open_pairs() == 0
+        self.taken == order.connections && self.pairs.open_count() == 0
     }
 
     /// Whether one more may be accepted.
     fn may_accept(&self, order: &Order) -> bool
         ensures { result ≡ may_accept order.now (course_of self.now) }
     {
-        self.taken < order.connections && self.open_pairs() < MOST_OPEN
+        self.taken < order.connections && self.pairs.open_count() < MOST_OPEN
     }
 }
 
@@ -104,7 +97,7 @@ fn make_turn<W: World>(
     let before = at.taken;
     accept(session, order, listener, at)?;
     let arrived = at.taken != before;
-    let moved = serve_each(alloc, session, at.pairs.as_mut_slice())?;
+    let moved = at.pairs.serve_each(alloc, session)?;
     Ok(moved | arrived)
 }
 
@@ -162,20 +155,20 @@ fn pair_up<W: World>(
     session: &mut Session<W>,
     order: Order,
     listener: Listener,
-    pairs: &mut Vec<Pair>,
+    pairs: &mut PairList,
     client: Peer,
 ) -> Result<(), StepError>
     ensures { Went (paired order listener client pairs.old.items) session.old session.new
         (given pairs.new.items result) }
 {
-    pairs.reserve(1)?;
+    pairs.reserve()?;
     let family = family_of(order.target);
     let reply = call(session, GuestCall::TcpCreate { family })?;
     match reply {
         Reply::Ok(fields) => {
             let target = handle_at(fields.as_slice(), 0);
             begin_connect(session, order, listener, target)?;
-            pairs.push_reserved(Pair::new(client, target));
+            pairs.push_reserved(client, target);
             Ok(())
         }
         _ => {

@@ -4,7 +4,7 @@ use Rattle.wasi_relay.proofs.service.relay.Goals as goal
 
 pub returns-clause-went : goal.returns-clause-went
 returns-clause-went g c =
-    relays c.args.order c.args.contexts.items (course_of c.serve-end.new.at) c.new-session.ensures.contexts c.new-session.ensures.did c.finish.ensures.quiet c.serve-end.result c.serve-end.ensures
+    rw c.into_vec.ensures (relays c.args.order c.args.contexts.items (course_of c.serve-end.new.at) c.new-session.ensures.contexts c.new-session.ensures.did c.finish.ensures.quiet c.serve-end.result c.serve-end.ensures)
 
 pub returns-clause-closed : goal.returns-clause-closed
 returns-clause-closed g c =

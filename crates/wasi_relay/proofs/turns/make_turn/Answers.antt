@@ -1,5 +1,4 @@
-use Rattle.std.proofs.Common.{rules, Ok}
-use Rattle.std.proofs.lemmas.List.{with_items_is, places}
+use Rattle.std.proofs.Common.{Ok}
 use Rattle.wasi_relay.specs.Turns.{course_of}
 use Rattle.wasi_relay.proofs.Going.{went_quits_given}
 use Rattle.wasi_relay.proofs.Turning.{turn_stops, turn_breaks, turn_ends}
@@ -13,9 +12,8 @@ returns-in_err-accept g c = turn_stops c.args.order c.args.listener (course_of c
 
 pub returns-in_err-moved : goal.returns-in_err-moved
 returns-in_err-moved g c =
-    turn_breaks c.args.order c.args.listener (course_of c.args.at.now) (course_of c.accept.new.at) _ c.from_residual-in_err-moved.result c.from_residual-in_err-moved.ensures.0 c.in_ok-step.ensures c.in_ok-accept.ensures (rw c.as_mut_slice.ensures.value at c.in_err-moved.ensures)
+    turn_breaks c.args.order c.args.listener (course_of c.args.at.now) (course_of c.accept.new.at) _ c.from_residual-in_err-moved.result c.from_residual-in_err-moved.ensures.0 c.in_ok-step.ensures c.in_ok-accept.ensures c.in_err-moved.ensures
 
 pub returns : goal.returns
 returns g c =
-    rw (with_items_is c.accept.new.at.pairs c.serve_each.new.pairs (search (rules, places)))
-    (turn_ends {T = Unit {0}} c.args.order c.args.listener (course_of c.args.at.now) (course_of c.accept.new.at) c.serve_each.new.pairs (Ok tt) c.in_ok-step.ensures c.in_ok-accept.ensures (rw c.as_mut_slice.ensures.value at c.in_ok-moved.ensures))
+    turn_ends {T = Unit {0}} c.args.order c.args.listener (course_of c.args.at.now) (course_of c.accept.new.at) c.serve_each.new.self.items (Ok tt) c.in_ok-step.ensures c.in_ok-accept.ensures c.in_ok-moved.ensures
