@@ -7,7 +7,7 @@ ghost use Rattle.world_scripted.specs.Scripted.{seen_by, started};
 
 use std::alloc::Global;
 use std::test::Fail;
-use wasi_host::{Kind, NamedId, Store, WasiSocketsCtxView, WasiSocketsNamedView, WasiSocketsView};
+use host_store::{Kind, NamedId, Store, WasiSocketsCtxView, WasiSocketsNamedView, WasiSocketsView};
 use wasi_table::Table;
 use wasi_world::{Ids, WasiSocketsCtx};
 use world_scripted::ScriptedWorld;

@@ -7,7 +7,7 @@ use crate::guest::{Guest, line, world};
 use crate::same::same;
 use std::test::Fail;
 use wasi_addr::SocketAddressFamily;
-use wasi_host::{WasiSocketsCtxView, WasiSocketsView};
+use host_store::{WasiSocketsCtxView, WasiSocketsView};
 use wasi_p2::{tcp, udp};
 use world_scripted::ScriptedWorld;
 

@@ -7,7 +7,7 @@ use crate::guest::{Guest, line, world};
 use crate::same::same;
 use std::test::Fail;
 use wasi_addr::{SocketAddressFamily, p2};
-use wasi_host::{NamedId, WasiCtxNamedView, WasiSocketsCtxView};
+use host_store::{NamedId, WasiCtxNamedView, WasiSocketsCtxView};
 use wasi_p2::tcp;
 use world_scripted::ScriptedWorld;
 

@@ -3,14 +3,14 @@ use Rattle.std.specs.Prelude.{◌||◌, ◌&&◌, not, position}
 use Rattle.wasi_causes.proofs.Words.{◌≡◌, ℕ, ◌==◌, ◌++◌, ◌∷◌, Bool, true, false, List, [], Option, Some, None, refl}
 use Rattle.wasi_causes.proofs.Words.{IsSome, is_some, Machine, ap, eq-eqb, eqb-true, inl, inr, slice_get, slice_set, suc, sym, zero, ◌∙◌}
 use Rattle.wasi_walks.specs.Licence.{Has}
-use Rattle.wasi_host.specs.SocketDatagrams.{has_datagram, is_datagram_of}
-use Rattle.wasi_host.specs.declared.beside.Beside.{Beside}
-use Rattle.wasi_host.proofs.BesidePlaces.{at_place, found_at}
-use Rattle.wasi_host.specs.declared.beside.BesideCall.{BesideCall}
-use Rattle.wasi_host.specs.Beside.{beside_as, beside_in, beside_of, beside_put, beside_with, stands_under}
-use Rattle.wasi_host.specs.Standing.{call_of, standing_as, stands_as}
-use Rattle.wasi_host.specs.declared.store.Standing.{Standing}
-use Rattle.wasi_host.specs.declared.store.StandingCall.{StandingCall}
+use Rattle.host_store.specs.Beside.{has_datagram, is_datagram_of}
+use Rattle.host_store.specs.declared.beside.Beside.{Beside}
+use Rattle.host_store.proofs.BesidePlaces.{at_place, found_at}
+use Rattle.host_store.specs.declared.beside.BesideCall.{BesideCall}
+use Rattle.host_store.specs.Beside.{beside_as, beside_in, beside_of, beside_put, beside_with, stands_under}
+use Rattle.host_store.specs.Standing.{call_of, standing_as, stands_as}
+use Rattle.host_store.specs.declared.store.Standing.{Standing}
+use Rattle.host_store.specs.declared.store.StandingCall.{StandingCall}
 use Rattle.wasi_world.specs.declared.ids.Ids.{Ids}
 use Rattle.wasi_causes.specs.P3Connects.{IsBeside}
 

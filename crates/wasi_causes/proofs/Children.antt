@@ -3,18 +3,18 @@
 use Rattle.wasi_causes.proofs.Words.{Allows, End, Entry, Err, ErrorCode, Give, HandleTable, Input, Item, Kind, Left, List, Machine, None, Ok, Operation, Option, Output, Pollable, Reply, Result, Some, Step, Tcp2, WasiSocketsCtx, []}
 use Rattle.wasi_causes.proofs.Words.{Bool, IsSome, ap, arith, false, first_state, if◌then◌else◌, inl, inr, kind_at, machine_asks, own_of, poll_asks, refl, run, subst, sym, table_parent, true, turn_asks, value_split, value_without, watched_by, with_handle, with_writer, without_handle, ℕ, ⊤, ◌<◌, ◌∙◌, ◌∷◌, ◌≡◌}
 use Rattle.std.proofs.lemmas.Bool.{eqb-true}
-use Rattle.wasi_host.specs.Kinds.{udp_kind, udp_of}
+use Rattle.host_store.specs.Kinds.{udp_kind, udp_of}
 use Rattle.wasi_causes.proofs.Words.{ErrorValue, OpId, Watched, gives_more, length}
 use Rattle.wasi_causes.proofs.Words.{HasChildren}
 use Rattle.wasi_causes.proofs.sockets.P3Results.{its_kind}
 use Rattle.wasi_causes.specs.Outcomes.{Outcome}
-use Rattle.wasi_host.specs.Machine.{result3_at}
+use Rattle.host_store.specs.Machine.{result3_at}
 use Rattle.wasi_steps.specs.declared.guest_call.GuestCall.TheVariants as guest
 use Rattle.wasi_steps.specs.declared.reply.Reply.TheVariants as reply
 use Rattle.wasi_steps.specs.declared.step.Step.TheVariants as step
-use Rattle.wasi_host.specs.declared.kind.ConnectionEnd.{ConnectionEnd}
+use Rattle.host_store.specs.declared.kind.ConnectionEnd.{ConnectionEnd}
 use Rattle.wasi_walks.proofs.walks.Here.{end_in}
-use Rattle.wasi_host.specs.declared.kind.Kind.TheVariants.{Incoming, Listen3, Lookup, Outgoing, Receive3, Result3, Send3, Tcp3, Udp2}
+use Rattle.host_store.specs.declared.kind.Kind.TheVariants.{Incoming, Listen3, Lookup, Outgoing, Receive3, Result3, Send3, Tcp3, Udp2}
 use Rattle.wasi_table.specs.Table.{Live, children_of, is_child}
 use Rattle.wasi_udp.specs.Create.{Create, after_create as udp_after_create}
 use Rattle.wasi_walks.proofs.fits.Law.{whatever}

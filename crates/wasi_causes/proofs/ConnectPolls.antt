@@ -10,16 +10,16 @@ use Rattle.wasi_tcp.specs.Connecting.{new_connection}
 use Rattle.wasi_records.specs.Records.{tcp2_at}
 use Rattle.wasi_records.specs.Sockets.{inner_answered}
 use Rattle.wasi_records.specs.Stops.{Code}
-use Rattle.wasi_host.specs.declared.beside.Beside.{Beside}
-use Rattle.wasi_host.specs.declared.beside.BesideCall.{BesideCall}
-use Rattle.wasi_host.specs.declared.beside.BesideCall.TheVariants.{Connect, Receive, Resolve, Send}
-use Rattle.wasi_host.specs.declared.kind.Interface.TheVariants.{P3}
+use Rattle.host_store.specs.declared.beside.Beside.{Beside}
+use Rattle.host_store.specs.declared.beside.BesideCall.{BesideCall}
+use Rattle.host_store.specs.declared.beside.BesideCall.TheVariants.{Connect, Receive, Resolve, Send}
+use Rattle.host_store.specs.declared.kind.Interface.TheVariants.{P3}
 use Rattle.wasi_host.specs.declared.pending.Outcome.{Outcome as Given}
-use Rattle.wasi_host.specs.BaseStops.{BaseStop}
-use Rattle.wasi_host.specs.Beside.{beside_of, beside_polled, stands_under}
-use Rattle.wasi_host.specs.Binds.{Answered}
-use Rattle.wasi_host.specs.Block.{Call, last}
-use Rattle.wasi_host.specs.Connects.{reconnect_in, reconnects}
+use Rattle.host_store.specs.BaseStops.{BaseStop}
+use Rattle.host_store.specs.Beside.{beside_of, beside_polled, stands_under}
+use Rattle.host_store.specs.Lines.{Answered}
+use Rattle.host_store.specs.Block.{Call, last}
+use Rattle.host_tcp.specs.Connects.{reconnect_in, reconnects}
 use Rattle.wasi_host.specs.Pending.{answered_on, go_on_beside, outcome_of}
 use Rattle.wasi_steps.specs.declared.reply.Reply.TheVariants as reply
 use Rattle.wasi_steps.specs.declared.step.Step.TheVariants as step

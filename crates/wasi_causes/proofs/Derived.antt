@@ -5,8 +5,8 @@ use Rattle.wasi_causes.proofs.Words.{Some, Step, Tcp2, WasiSocketsCtx, Watched, 
 use Rattle.wasi_causes.proofs.Words.{TcpRecord, refl, run, slice_get, subst, ℕ, ⊤, ◌≡◌}
 use Rattle.std.specs.Prelude.{Bool, true, false, None, IsSome}
 use Rattle.wasi_walks.specs.Answered.{streams_in}
-use Rattle.wasi_host.specs.Kinds.{watched_by}
-use Rattle.wasi_host.specs.declared.kind.Kind.TheVariants.{Incoming, Lookup, Outgoing, PlainInput, PlainOutput, Udp2}
+use Rattle.host_store.specs.Kinds.{watched_by}
+use Rattle.host_store.specs.declared.kind.Kind.TheVariants.{Incoming, Lookup, Outgoing, PlainInput, PlainOutput, Udp2}
 use Rattle.wasi_records.specs.declared.records.Record.{Record}
 use Rattle.wasi_walks.proofs.Slots.{slot_of}
 use Rattle.wasi_walks.proofs.fits.Polls.{Anything}

@@ -2,20 +2,21 @@
 use Rattle.wasi_causes.proofs.Words.{◌≡◌, Bool, true, false, if◌then◌else◌, List, [], ◌∷◌, ◌++◌, Option, Some, None, refl, sym, ap, ◌∙◌, ⊤, ◌⊎◌, append_assoc, ℕ, Result, inl, inr, Ok, Err, subst, ◌≢◌, IsSome, ShutdownType, gone, released, release_at, Stop, Trap, kind_at, output_of, has_no_child, without_handle, taken_out, place_of, socket_at, own_of, with_store, answered, at_once, drop_kind, drop_taken, drop_asks, shut_record, shutdown_at, Records, Kind, Tcp2, Output, Machine, Streams, TcpRecord, shutdown_on, record_at, putting, record_in, OfRecord, done_reply, answer_reply, Each, no_fields, OutputWaits, WritesOn, ToldToWait, WriterWaits, Field, Reply, side_of, WriteState, Give, bind, Entry, OpId, Answer, Ready, Pending, HasChildren, NoSuchHandle, Full, NotPermitted, WasiSocketsCtx}
 use Rattle.wasi_machine.specs.Machine.{first_ids}
 use Rattle.wasi_records.specs.Records.{tcp2_at, udp2_at, open_at, lookup_at, input_pipe_at, output_pipe_at}
-use Rattle.wasi_host.specs.NameLookupCalls.{drop_lookup_at}
+use Rattle.host_lookups.specs.NameLookupCalls.{drop_lookup_at}
 use Rattle.wasi_records.specs.declared.name_lookup.Lookup.{Lookup}
-use Rattle.wasi_host.specs.declared.kind.Kind.TheVariants as kinds
+use Rattle.host_store.specs.declared.kind.Kind.TheVariants as kinds
 use Rattle.wasi_records.specs.Datagrams.{sends as still_sends}
-use Rattle.wasi_host.specs.DatagramCalls.{drop_incoming_at, drop_outgoing_at, drop_outgoing_by, without_receives}
+use Rattle.host_udp.specs.DatagramCalls.{drop_incoming_at, drop_outgoing_at, drop_outgoing_by, without_receives}
 use Rattle.wasi_records.specs.declared.udp.OpenUdp.{OpenUdp}
 use Rattle.wasi_records.specs.Udp.{close_udp_asks}
-use Rattle.wasi_host.specs.UdpCalls.{release_udp_at, udp_closed, with_open_udp}
-use Rattle.wasi_host.specs.declared.kind.Kind.TheVariants.{Udp2, Incoming, Outgoing}
+use Rattle.host_udp.specs.UdpCalls.{release_udp_at, udp_closed}
+use Rattle.host_store.specs.Store.{with_open_udp}
+use Rattle.host_store.specs.declared.kind.Kind.TheVariants.{Udp2, Incoming, Outgoing}
 use Rattle.wasi_records.specs.declared.udp.UdpRecord.{UdpRecord}
 use Rattle.wasi_records.specs.declared.udp.UdpRecord.TheVariants as udp
 use Rattle.wasi_causes.specs.Udp.{putting_udp, udp_given_up, udp_left}
 use Rattle.wasi_causes.proofs.GivenBack.{no_job, put_gone}
-use Rattle.wasi_host.specs.UdpCalls as calls
+use Rattle.host_udp.specs.UdpCalls as calls
 use Rattle.wasi_records.specs.declared.records.Record.{Record}
 use Rattle.wasi_causes.proofs.streams.Halves.{OutputRow, outputs}
 use Rattle.wasi_causes.proofs.tables.Meets.{Rows, Meets, ends, asks, chain, onto, shifted, told_so, widen}
@@ -23,18 +24,19 @@ use Rattle.wasi_causes.proofs.tables.Routes.{Replied, Says, put_back, Names, its
 use Rattle.wasi_causes.specs.GivenUp.{LetsGo, ListenerGoes, streams_given_up, side_closed, listening_given_up, socket_given_up, HasLiveChildren, without, LooksOnce, NoLook, OneLook, IsDropped, GoesAtOnce, IsGone}
 use Rattle.wasi_causes.specs.Gone.{AsksOnce, Gone, ListenerGone, SocketGone, Socket3Gone, Udp3Gone, Udp3GoneBy, UdpGone}
 use Rattle.wasi_causes.proofs.HeldUdp.{closes}
-use Rattle.wasi_host.specs.SocketDatagrams.{has_datagram, is_udp_held, let_udp_go, udp_goes, without_udp_handle}
-use Rattle.wasi_host.specs.SocketDatagrams as udp_held
+use Rattle.host_store.specs.Beside.{has_datagram}
+use Rattle.host_udp.specs.SocketDatagrams.{is_udp_held, let_udp_go, udp_goes, without_udp_handle}
+use Rattle.host_udp.specs.SocketDatagrams as udp_held
 use Rattle.wasi_records.specs.Records.{open_of}
 use Rattle.wasi_records.specs.Udp.{without_udp_socket}
 use Rattle.wasi_walks.proofs.walks.Udp.{open_is}
 use Rattle.wasi_causes.specs.Outcomes.{Outcome, AreLike}
 use Rattle.wasi_records.specs.Holding.{drop_listener_asks, drop_socket_asks, is_held, let_go_by, without_socket}
-use Rattle.wasi_host.specs.Dropping.{left_so, let_go_at}
-use Rattle.wasi_host.specs.Kinds.{none_in, outgoing_of}
+use Rattle.host_tcp.specs.Dropping.{left_so, let_go_at}
+use Rattle.host_store.specs.Kinds.{none_in, outgoing_of}
 use Rattle.wasi_records.specs.Listening.{with_listening}
 use Rattle.wasi_records.specs.Shutdowns.{with_streams}
-use Rattle.wasi_host.specs.TcpCalls.{shut_put}
+use Rattle.host_tcp.specs.TcpCalls.{shut_put}
 use Rattle.wasi_records.specs.declared.tcp_listening.Listening.TheVariants as listening
 use Rattle.wasi_steps.specs.declared.reply.CodeWord.TheVariants as word
 use Rattle.wasi_steps.specs.declared.reply.Reply.TheVariants as reply
@@ -45,14 +47,14 @@ use Rattle.wasi_world.specs.declared.call.Call.TheVariants as call
 use Rattle.wasi_world.specs.declared.call.Told.TheVariants as told
 use Rattle.wasi_world.specs.declared.outcome.TrapKind.TheVariants.{Capacity, StreamsAlive, EmptyList, TooLong}
 use Rattle.memory_streams.specs.Plain.{Contents}
-use Rattle.wasi_host.specs.declared.kind.PlainInput.TheVariants as plain_input
-use Rattle.wasi_host.specs.declared.kind.PlainOutput.TheVariants as plain_output
-use Rattle.wasi_host.specs.PlainStreams.{drop_input_pipe_at, drop_output_pipe_at}
+use Rattle.host_store.specs.declared.kind.PlainInput.TheVariants as plain_input
+use Rattle.host_store.specs.declared.kind.PlainOutput.TheVariants as plain_output
+use Rattle.host_streams.specs.PlainStreams.{drop_input_pipe_at, drop_output_pipe_at}
 use Rattle.wasi_walks.proofs.Places.{put_again, put_finds, udp_sort}
 use Rattle.wasi_causes.proofs.streams.EndsClosed.{read_end_goes, write_end_goes}
 use Rattle.wasi_causes.specs.P3Streams.{IsLetGo, ReadEndGoes, WriteEndGoes}
-use Rattle.wasi_host.specs.ConnectionEnds.{drop_slot_in}
-use Rattle.wasi_host.specs.declared.kind.ConnectionEnd.{ConnectionEnd}
+use Rattle.host_tcp.specs.ConnectionEnds.{drop_slot_in}
+use Rattle.host_store.specs.declared.kind.ConnectionEnd.{ConnectionEnd}
 use Rattle.wasi_records.specs.Slots.{slot_at}
 use Rattle.wasi_records.specs.declared.slot.Slot.{Slot}
 use Rattle.wasi_causes.proofs.Releases.{Released, listening_up, releases, shuts}

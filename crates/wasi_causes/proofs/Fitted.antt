@@ -10,12 +10,12 @@ use Rattle.wasi_records.specs.declared.udp.OpenUdp.{OpenUdp}
 use Rattle.wasi_records.specs.declared.udp.UdpRecord.{UdpRecord}
 use Rattle.wasi_records.specs.Records.{open_at, open_of, udp2_at}
 use Rattle.wasi_records.specs.Names.{own_of}
-use Rattle.wasi_host.specs.Beside.{beside_as, beside_in, beside_of}
-use Rattle.wasi_host.specs.SocketDatagrams.{is_datagram, is_datagram_in}
-use Rattle.wasi_host.specs.declared.beside.BesideCall.{BesideCall}
-use Rattle.wasi_host.specs.declared.beside.BesideCall.TheVariants.{Connect, Receive, Resolve, Send}
+use Rattle.host_store.specs.Beside.{beside_as, beside_in, beside_of}
+use Rattle.host_udp.specs.SocketDatagrams.{is_datagram, is_datagram_in}
+use Rattle.host_store.specs.declared.beside.BesideCall.{BesideCall}
+use Rattle.host_store.specs.declared.beside.BesideCall.TheVariants.{Connect, Receive, Resolve, Send}
 use Rattle.wasi_walks.specs.Missing.{BesideNothing, IsOfNoSocket}
-use Rattle.wasi_host.specs.declared.beside.Beside.{Beside}
+use Rattle.host_store.specs.declared.beside.Beside.{Beside}
 use Rattle.wasi_walks.specs.Licence.{Has}
 use Rattle.wasi_walks.proofs.claims.Law.{begins_fitting, fits_along}
 unfoldable use Rattle.wasi_walks.proofs.claims.Law.{fitting}

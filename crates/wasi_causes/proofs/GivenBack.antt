@@ -5,7 +5,7 @@ use Rattle.wasi_causes.proofs.Words.{Bool, List, Machine, None, OpId, Some, ap, 
 use Rattle.wasi_causes.specs.GivenUp.{giving_back}
 use Rattle.wasi_walks.specs.Licence.{Has}
 use Rattle.wasi_jobs.specs.declared.job.HostJob.{HostJob}
-use Rattle.wasi_host.specs.GivingBack.{is_on, other_jobs}
+use Rattle.host_store.specs.GivingBack.{is_on, other_jobs}
 use Rattle.wasi_records.specs.Numbered.{record_gone}
 use Rattle.wasi_records.specs.Records.{input_pipe_at, input_pipe_of, lookup_at, lookup_of, output_pipe_at, output_pipe_of, tcp2_at, tcp2_of, udp2_at, udp2_of}
 use Rattle.wasi_records.specs.Slots.{slot_at, slot_of}

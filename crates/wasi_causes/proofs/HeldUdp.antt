@@ -8,8 +8,8 @@ use Rattle.wasi_records.specs.declared.udp.UdpRecord.{UdpRecord}
 use Rattle.wasi_records.specs.declared.udp.UdpRecord.TheVariants as udp
 use Rattle.wasi_records.specs.Names.{own_of}
 use Rattle.wasi_records.specs.Records.{open_at, udp2_at}
-use Rattle.wasi_host.specs.SocketDatagrams.{drop_datagram, is_udp_held, udp_goes}
-use Rattle.wasi_host.specs.UdpCalls.{release_udp_at}
+use Rattle.host_udp.specs.SocketDatagrams.{drop_datagram, is_udp_held, udp_goes}
+use Rattle.host_udp.specs.UdpCalls.{release_udp_at}
 use Rattle.wasi_walks.proofs.walks.Udp.{open_is}
 use Rattle.wasi_walks.specs.Waiting.{call_over}
 use Rattle.wasi_causes.proofs.GivenBack.{put_gone}

@@ -2,7 +2,7 @@
 use Rattle.wasi_records.specs.Records.{tcp2_at}
 use Rattle.wasi_records.specs.declared.tcp_listening.Listening.TheVariants as listening
 use Rattle.wasi_records.specs.Listening.{with_listening}
-use Rattle.wasi_host.specs.declared.store.StandingCall.TheVariants as standing
+use Rattle.host_store.specs.declared.store.StandingCall.TheVariants as standing
 use Rattle.wasi_tcp.specs.declared.socket.TcpState.TheVariants as state
 use Rattle.wasi_addr.specs.declared.code.ErrorCode.TheVariants.{Other}
 use Rattle.wasi_world.specs.declared.ids.Ids.{Ids}
@@ -19,7 +19,7 @@ use Rattle.wasi_causes.proofs.tables.Steps.{its_own, other_free, unheld}
 use Rattle.wasi_causes.specs.Cancelled.{CancelsBy}
 use Rattle.wasi_causes.specs.Failed.{FailureLeaves, left_failed}
 use Rattle.wasi_causes.specs.Reached.{IsBeginning, IsClosedByListen, ListensNoMore}
-use Rattle.wasi_host.specs.Standing.{standing_as}
+use Rattle.host_store.specs.Standing.{standing_as}
 use Rattle.wasi_steps.specs.declared.reply.Field.{Field}
 use Rattle.wasi_steps.specs.declared.reply.Reply.TheVariants as reply
 use Rattle.wasi_steps.specs.declared.step.Step.TheVariants as step

@@ -9,9 +9,9 @@ use Rattle.wasi_tcp.specs.declared.listener.Accepting.TheVariants as accepting
 use Rattle.wasi_udp.specs.Create.{Create, after_create as udp_after_create}
 use Rattle.wasi_records.specs.Slots.{slot_of}
 use Rattle.wasi_records.specs.Records.{input_pipe_of, lookup_of, output_pipe_of, tcp2_at, tcp2_of, tcp2_put, udp2_at, udp2_of}
-use Rattle.wasi_host.specs.declared.kind.Kind.TheVariants.{Incoming, Input, Lookup, Network, Outgoing, Output, PlainInput, PlainOutput, Pollable, Tcp3, Udp2, Udp3, Listen3, Receive3, Send3, Result3}
-use Rattle.wasi_host.specs.declared.kind.PlainInput.TheVariants as plain_input
-use Rattle.wasi_host.specs.declared.kind.PlainOutput.TheVariants as plain_output
+use Rattle.host_store.specs.declared.kind.Kind.TheVariants.{Incoming, Input, Lookup, Network, Outgoing, Output, PlainInput, PlainOutput, Pollable, Tcp3, Udp2, Udp3, Listen3, Receive3, Send3, Result3}
+use Rattle.host_store.specs.declared.kind.PlainInput.TheVariants as plain_input
+use Rattle.host_store.specs.declared.kind.PlainOutput.TheVariants as plain_output
 use Rattle.wasi_records.specs.declared.name_lookup.LookupOp.{LookupOp}
 use Rattle.wasi_records.specs.declared.records.Record.{Record}
 use Rattle.wasi_records.specs.declared.udp.UdpRecord.{UdpRecord}
@@ -39,7 +39,7 @@ use Rattle.wasi_causes.specs.NamedRecords.{IsGivenBack, call_names, record_named
 use Rattle.wasi_causes.proofs.GivenBack.{no_job}
 use Rattle.wasi_causes.proofs.Words.{Bool, false, if◌then◌else◌, IsSome, inl, inr, ◌⊎◌}
 use Rattle.std.proofs.lemmas.Bool.{eq-eqb}
-use Rattle.wasi_host.specs.GivingBack.{is_on, other_jobs}
+use Rattle.host_store.specs.GivingBack.{is_on, other_jobs}
 use Rattle.wasi_records.specs.Numbered.{record_gone}
 use Rattle.wasi_jobs.specs.declared.job.HostJob.{HostJob}
 use Rattle.wasi_jobs.specs.declared.job.HostJob.TheVariants as job

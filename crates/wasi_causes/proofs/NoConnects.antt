@@ -6,8 +6,8 @@ use Rattle.wasi_causes.proofs.Words.{Done, Entry, OpId, Refused, Waits}
 use Rattle.wasi_records.specs.declared.name_lookup.LookupOp.{LookupOp}
 use Rattle.wasi_walks.proofs.walks.Moves.{listen_after}
 use Rattle.wasi_causes.proofs.Derived.{OwnedIn, first_in}
-use Rattle.wasi_host.specs.Kinds.{udp_kind}
-use Rattle.wasi_host.specs.declared.kind.Kind.TheVariants.{Incoming, Listen3, Outgoing, Result3, Tcp3}
+use Rattle.host_store.specs.Kinds.{udp_kind}
+use Rattle.host_store.specs.declared.kind.Kind.TheVariants.{Incoming, Listen3, Outgoing, Result3, Tcp3}
 use Rattle.wasi_records.specs.Records.{tcp2_at, tcp2_of, tcp2_put, tcp2_pushed}
 use Rattle.wasi_records.specs.declared.records.Record.{Record}
 use Rattle.wasi_records.specs.declared.udp.UdpRecord.{UdpRecord}

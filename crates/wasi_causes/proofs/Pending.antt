@@ -10,10 +10,10 @@ use Rattle.std.proofs.Math.Nat.{min-le_left}
 use Rattle.std.proofs.lemmas.List.{length-replicate}
 use Rattle.wasi_world.specs.declared.ids.Ids.{Ids}
 use Rattle.wasi_streams.specs.Streams.{zeros}
-use Rattle.wasi_host.specs.declared.blocking.BlockingCall.{BlockingCall}
-use Rattle.wasi_host.specs.declared.blocking.BlockingCall.TheVariants as blocking
-use Rattle.wasi_host.specs.Kinds.{tcp3_of, udp_of, input_of, is_readable, is_writable, plain_input_of}
-use Rattle.wasi_host.specs.declared.kind.Kind.TheVariants.{PlainInput}
+use Rattle.host_store.specs.declared.store.BlockingCall.{BlockingCall}
+use Rattle.host_store.specs.declared.store.BlockingCall.TheVariants as blocking
+use Rattle.host_store.specs.Kinds.{tcp3_of, udp_of, input_of, is_readable, is_writable, plain_input_of}
+use Rattle.host_store.specs.declared.kind.Kind.TheVariants.{PlainInput}
 use Rattle.wasi_udp.specs.Create.{Create, after_create as udp_after_create}
 use Rattle.wasi_walks.proofs.fits.Law.{whatever}
 use Rattle.wasi_walks.proofs.fits.Polls.{Anything}
@@ -32,7 +32,7 @@ use Rattle.wasi_causes.specs.PollableCalls.{AllPollables, BeginsToWait, ForNone,
 use Rattle.wasi_causes.proofs.streams.Kept.{PartsThere}
 use Rattle.wasi_causes.proofs.Beside.{one_of_three, polled_beside}
 use Rattle.wasi_causes.specs.P3Connects.{IsBeside}
-use Rattle.wasi_host.specs.Beside.{stands_under}
+use Rattle.host_store.specs.Beside.{stands_under}
 use Rattle.wasi_walks.specs.Waiting.{call_over}
 use Rattle.wasi_causes.proofs.streams.Live.{HasInput, begun_live, blocked_live, check_free, flush_free, free_well, read_free, skip_free, splice_free, splice_live, write_free}
 use Rattle.wasi_causes.proofs.sockets.ListenLives.{listen_live}
@@ -55,19 +55,19 @@ use Rattle.wasi_records.specs.Records.{input_pipe_of, open_of, output_pipe_at, o
 use Rattle.wasi_records.specs.declared.records.Record.{Record}
 use Rattle.wasi_records.specs.declared.udp.OpenUdp.{OpenUdp}
 use Rattle.wasi_records.specs.declared.udp.UdpRecord.{UdpRecord}
-use Rattle.wasi_host.specs.Beside.{beside_of}
-use Rattle.wasi_host.specs.Kinds.{watch_of}
-use Rattle.wasi_host.specs.declared.beside.Beside.{Beside}
-use Rattle.wasi_host.specs.declared.beside.BesideCall.{BesideCall}
-use Rattle.wasi_host.specs.declared.beside.BesideCall.TheVariants.{Connect, Receive, Resolve, Send}
+use Rattle.host_store.specs.Beside.{beside_of}
+use Rattle.host_store.specs.Kinds.{watch_of}
+use Rattle.host_store.specs.declared.beside.Beside.{Beside}
+use Rattle.host_store.specs.declared.beside.BesideCall.{BesideCall}
+use Rattle.host_store.specs.declared.beside.BesideCall.TheVariants.{Connect, Receive, Resolve, Send}
 use Rattle.wasi_causes.specs.GivenUp.{giving_back}
 use Rattle.wasi_causes.specs.P3Connects.{BesideCancelled, LeavesBeside}
 use Rattle.wasi_causes.specs.P3Datagrams.{DatagramOver, IsHeldNoMore, IsStillHeld}
 use Rattle.wasi_causes.proofs.Words.{HandleTable, Watched, ◌∷◌, ap, suc, zero, slice_get, is_some, ◌⊎◌, ◌∙◌}
 use Rattle.wasi_causes.proofs.Words.{Input, Kind, asks_while, record_in, streams_in}
-use Rattle.wasi_host.specs.Blocking.{blocking_splice_when}
+use Rattle.host_streams.specs.Blocking.{blocking_splice_when}
 use Rattle.wasi_records.specs.Records.{input_pipe_at, open_at, tcp2_at}
-use Rattle.wasi_host.specs.declared.kind.PlainInput.TheVariants as plain_input
+use Rattle.host_store.specs.declared.kind.PlainInput.TheVariants as plain_input
 use Rattle.wasi_walks.specs.Missing.{MissesInputPipe}
 use Rattle.wasi_walks.proofs.walks.OfState.{Becomes, Handles, HasHandle, HasNoRoom, NoRoom, OfError, OfLine, OfState, UdpBegun, Writing, begins_state, of_state}
 use Rattle.wasi_walks.proofs.walks.Law.{InCall}

@@ -1,11 +1,11 @@
 -- A poll of the pending call.
-use Rattle.wasi_host.specs.declared.blocking.BlockingCall.{BlockingCall}
+use Rattle.host_store.specs.declared.store.BlockingCall.{BlockingCall}
 use Rattle.wasi_causes.proofs.pollables.Polls.{blocked_goes_on}
 use Rattle.wasi_records.specs.Records.{tcp2_at, udp2_at, open_at, open_of}
 use Rattle.wasi_records.specs.declared.tcp_binding.InProgress.TheVariants.{Binding}
 use Rattle.wasi_walks.proofs.walks.States.{stands_so as stands_under_it}
-use Rattle.wasi_host.specs.declared.beside.Beside.{Beside}
-use Rattle.wasi_host.specs.Beside.{beside_of}
+use Rattle.host_store.specs.declared.beside.Beside.{Beside}
+use Rattle.host_store.specs.Beside.{beside_of}
 use Rattle.wasi_host.specs.Pending.{resume_beside}
 use Rattle.wasi_causes.proofs.Beside.{no_call}
 use Rattle.wasi_causes.proofs.ConnectPolls.{resumes_beside}
@@ -26,28 +26,31 @@ use Rattle.wasi_causes.proofs.udp_streams.Makes.{makes_both, marks_of}
 use Rattle.wasi_causes.proofs.operations.ConnectPolls.{ConnectRow, udp_connect_gives}
 use Rattle.wasi_causes.proofs.operations.Marks.{poll_marks_none}
 use Rattle.wasi_causes.specs.Datagrams.{LacksRoomForStreams, PendingHandleIsLive, with_both}
-use Rattle.wasi_host.specs.DatagramCalls.{drop_outgoing_at, drop_outgoing_by, mark_streams, mark_streams_of, reconnect_udp_at, remake_streams_asks, streams_so}
+use Rattle.host_udp.specs.DatagramCalls.{drop_outgoing_at, drop_outgoing_by, mark_streams, mark_streams_of, reconnect_udp_at, remake_streams_asks, streams_so}
 use Rattle.wasi_records.specs.Datagrams.{poll_udp_connecting, sends, udp_connect_ended, udp_connect_left, udp_reconnect_asks, udp_reconnect_ended, udp_reconnecting}
-use Rattle.wasi_host.specs.Machine.{udp_socket_at}
+use Rattle.host_store.specs.Machine.{udp_socket_at}
 use Rattle.wasi_steps.specs.Reply.{pair_fields}
 use Rattle.wasi_causes.proofs.operations.Polls.{CreateFails, create_ends, udp_bind_ends}
 use Rattle.wasi_causes.proofs.sockets.UdpCreates.{marks_udp}
 use Rattle.wasi_causes.proofs.tables.Meets.{chain, both}
 use Rattle.wasi_causes.specs.Udp.{MakesOneHandle}
 use Rattle.wasi_records.specs.Udp.{opened_udp, poll_create_asks, udp_create_ended, udp_bind_ended, poll_udp_binding}
-use Rattle.wasi_host.specs.GivingBack.{given_back}
+use Rattle.host_store.specs.GivingBack.{given_back}
 use Rattle.wasi_records.specs.declared.records.Record.{Record}
 use Rattle.wasi_causes.proofs.GivenBack.{put_gone}
-use Rattle.wasi_host.specs.UdpConnects.{udp_reconnect_of}
-use Rattle.wasi_host.specs.UdpCalls.{udp_left, with_udp, with_open_udp, udp_call_answered}
-use Rattle.wasi_host.specs.UdpCreates.{create_answered, poll_create_at, create_so, create_on}
-use Rattle.wasi_host.specs.BaseStops.{BaseStop}
-use Rattle.wasi_host.specs.Binds.{Answered, bind_told, keeps, rebind_of, rebinds as tcp_rebinds, udp_bind_told, udp_rebind_of, udp_rebinds as its_rebinds}
-use Rattle.wasi_host.specs.Block.{Call, goes_on}
-use Rattle.wasi_host.specs.Standing.{stood}
-use Rattle.wasi_host.specs.Kinds.{udp_kind}
-use Rattle.wasi_host.specs.declared.kind.Interface.{Interface}
-use Rattle.wasi_host.specs.declared.kind.Interface.TheVariants.{P2, P3}
+use Rattle.host_udp.specs.UdpConnects.{udp_reconnect_of}
+use Rattle.host_udp.specs.UdpCalls.{udp_left, udp_call_answered}
+use Rattle.host_store.specs.Store.{with_udp, with_open_udp}
+use Rattle.host_udp.specs.UdpCreates.{create_answered, poll_create_at, create_so, create_on}
+use Rattle.host_store.specs.BaseStops.{BaseStop}
+use Rattle.host_store.specs.Lines.{Answered, keeps}
+use Rattle.host_tcp.specs.Binds.{bind_told, rebind_of, rebinds as tcp_rebinds}
+use Rattle.host_udp.specs.UdpBinds.{udp_bind_told, udp_rebind_of, udp_rebinds as its_rebinds}
+use Rattle.host_store.specs.Block.{Call, goes_on}
+use Rattle.host_store.specs.Standing.{stood}
+use Rattle.host_store.specs.Kinds.{udp_kind}
+use Rattle.host_store.specs.declared.kind.Interface.{Interface}
+use Rattle.host_store.specs.declared.kind.Interface.TheVariants.{P2, P3}
 use Rattle.wasi_records.specs.Stops.{Code}
 use Rattle.wasi_walks.specs.Waiting.{word_for}
 use Rattle.wasi_records.specs.declared.udp.OpenUdp.{OpenUdp}
@@ -61,7 +64,7 @@ use Rattle.wasi_walks.specs.Waiting.{CreateFailed, CreateWaits, IsCreating, IsRe
 use Rattle.wasi_host.specs.declared.pending.Outcome.{Outcome as Given}
 use Rattle.wasi_udp.specs.Connect.{with_given}
 use Rattle.wasi_world.specs.Operation.{Given as GivenByConnect}
-use Rattle.wasi_host.specs.declared.store.StandingCall.TheVariants.{Bind, Listen, DropOutput}
+use Rattle.host_store.specs.declared.store.StandingCall.TheVariants.{Bind, Listen, DropOutput}
 use Rattle.wasi_steps.specs.declared.reply.Reply.TheVariants as reply
 use Rattle.wasi_steps.specs.declared.step.Step.TheVariants as step
 use Rattle.wasi_world.specs.declared.call.Call.TheVariants as call

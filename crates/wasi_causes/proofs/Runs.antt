@@ -2,9 +2,9 @@
 -- pending as a bind is a bind, as a listen a listen, and as a create a create; each live handle is of a record that is there, a
 -- connect in progress may be finished, and a socket that does nothing yet doesn't listen.
 use Rattle.wasi_records.specs.Records.{tcp2_at, udp2_at, open_at, open_of}
-use Rattle.wasi_host.specs.declared.kind.Kind.TheVariants.{Tcp3, Udp2, Udp3, Listen3, Lookup, Incoming, Outgoing, PlainInput, PlainOutput, Network, ErrorValue, Receive3, Result3, Send3}
-use Rattle.wasi_host.specs.Kinds.{lookup_of}
-use Rattle.wasi_host.specs.Machine.{lookup_number}
+use Rattle.host_store.specs.declared.kind.Kind.TheVariants.{Tcp3, Udp2, Udp3, Listen3, Lookup, Incoming, Outgoing, PlainInput, PlainOutput, Network, ErrorValue, Receive3, Result3, Send3}
+use Rattle.host_store.specs.Kinds.{lookup_of}
+use Rattle.host_store.specs.Machine.{lookup_number}
 use Rattle.wasi_walks.specs.Answered.{lookup_in}
 use Rattle.wasi_causes.proofs.Beside.{none_of, not_both}
 use Rattle.wasi_causes.proofs.Words.{eq-eqb, stands_as, ◌∙◌}
@@ -21,9 +21,9 @@ use Rattle.wasi_walks.proofs.owners.Names.{listens_in}
 use Rattle.wasi_walks.specs.Listens.{HasNoListener}
 use Rattle.wasi_world.specs.Operation.{Operation}
 use Rattle.wasi_causes.specs.Udp.{MakesOneHandle}
-use Rattle.wasi_host.specs.Lines.{tcp_in}
-use Rattle.wasi_host.specs.Kinds.{listen3_of}
-use Rattle.wasi_host.specs.Machine.{listen3_at, tcp3_at}
+use Rattle.host_store.specs.Lines.{tcp_in}
+use Rattle.host_store.specs.Kinds.{listen3_of}
+use Rattle.host_store.specs.Machine.{listen3_at, tcp3_at}
 use Rattle.wasi_walks.specs.Waiting.{IsCreating, IsUdpBinding}
 use Rattle.wasi_records.specs.declared.tcp_binding.InProgress.TheVariants.{Binding}
 use Rattle.wasi_causes.proofs.Words.{AcceptsAt, AcceptsIn, Allows, Answered, Bool, CodeWord, ConnectsAt, Entry}
@@ -43,7 +43,7 @@ use Rattle.wasi_causes.proofs.tables.Steps.{its_own}
 use Rattle.wasi_causes.specs.Outcomes.{InputIsThere, Traps}
 use Rattle.wasi_causes.specs.Reached.{Finishes, MayFinish, ListensLate, HasRecord, HasUdpRecord, OfItsRecord}
 use Rattle.wasi_records.specs.declared.tcp_listening.Listening.TheVariants as listening
-use Rattle.wasi_host.specs.declared.store.StandingCall.TheVariants as standing
+use Rattle.host_store.specs.declared.store.StandingCall.TheVariants as standing
 use Rattle.wasi_walks.proofs.fits.Law.{Fit}
 use Rattle.wasi_walks.proofs.owners.Names.{held_udp}
 use Rattle.wasi_causes.proofs.Fitted.{Fitted, none_lost}
@@ -66,20 +66,20 @@ use Rattle.wasi_steps.specs.declared.step.Step.TheVariants as step
 use Rattle.wasi_tcp.specs.declared.socket.TcpState.TheVariants as state
 use Rattle.wasi_causes.proofs.Pending.{Holds, inputs_are_there, runs_hold, runs_keep_sockets}
 use Rattle.wasi_world.specs.declared.ids.Ids.{Ids}
-use Rattle.wasi_host.specs.declared.blocking.BlockingCall.{BlockingCall}
+use Rattle.host_store.specs.declared.store.BlockingCall.{BlockingCall}
 use Rattle.wasi_host.specs.Polling.{are_pollables}
-use Rattle.wasi_host.specs.Standing.{standing_as}
+use Rattle.host_store.specs.Standing.{standing_as}
 use Rattle.wasi_causes.proofs.Watching.{runs_have_what_is_watched}
 use Rattle.wasi_causes.proofs.pollables.Steps.{all_there}
 use Rattle.wasi_causes.specs.Blocking.{IsCallOfStream, StreamCallStands}
 use Rattle.wasi_causes.specs.PollableCalls.{WatchedAreThere}
-use Rattle.wasi_host.specs.declared.kind.PlainInput.TheVariants as plain_input
-use Rattle.wasi_host.specs.declared.kind.PlainOutput.TheVariants as plain_output
+use Rattle.host_store.specs.declared.kind.PlainInput.TheVariants as plain_input
+use Rattle.host_store.specs.declared.kind.PlainOutput.TheVariants as plain_output
 use Rattle.wasi_causes.proofs.Steady.{AsksToConnect, AsksToListen, Steady, runs_are_steady}
 use Rattle.wasi_causes.proofs.BoundListens.{CallBound, StandsBound, begins_bound, runs_listen_bound}
 use Rattle.wasi_causes.proofs.Derived.{held, listens_held, streams_held, OwnedIn, its_record, watched_record}
 use Rattle.wasi_causes.proofs.Words.{streams_in}
-use Rattle.wasi_host.specs.Kinds.{place_of}
+use Rattle.host_store.specs.Kinds.{place_of}
 use Rattle.wasi_causes.specs.Datagrams.{HasItsHandle, HasItsSocket, LacksRoomForStreams, PendingHandleIsLive}
 use Rattle.wasi_world.specs.declared.outcome.TrapKind.TheVariants.{Capacity, StreamsAlive, EmptyList, TooLong}
 use Rattle.wasi_walks.proofs.fits.Records.{FitConnecting}

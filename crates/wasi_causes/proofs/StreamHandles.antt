@@ -10,8 +10,8 @@ use Rattle.wasi_records.specs.Datagrams.{has_streams}
 use Rattle.wasi_records.specs.Records.{tcp2_put, tcp2_pushed, udp2_at}
 use Rattle.wasi_records.specs.declared.datagrams.Incoming.{Incoming as IncomingStream}
 use Rattle.wasi_records.specs.declared.datagrams.Outgoing.{Outgoing as OutgoingStream}
-use Rattle.wasi_host.specs.Kinds.{udp_kind}
-use Rattle.wasi_host.specs.declared.kind.Kind.TheVariants.{Incoming, Listen3, Result3, Tcp3}
+use Rattle.host_store.specs.Kinds.{udp_kind}
+use Rattle.host_store.specs.declared.kind.Kind.TheVariants.{Incoming, Listen3, Result3, Tcp3}
 use Rattle.wasi_records.specs.declared.records.Record.{Record}
 use Rattle.wasi_records.specs.declared.udp.OpenUdp.{OpenUdp}
 use Rattle.wasi_records.specs.declared.udp.UdpRecord.{UdpRecord}
@@ -32,7 +32,7 @@ use Rattle.wasi_walks.proofs.walks.Layers.{begins_layer, begins_over, begins_sta
 use Rattle.wasi_walks.proofs.owners.Law.{Owns, owners, owners_begin}
 use Rattle.wasi_walks.proofs.owners.Names.{Names, held_udp, unless_gone}
 use Rattle.wasi_walks.proofs.owners.Owned.{IsOf}
-use Rattle.wasi_host.specs.SocketDatagrams.{is_udp_held}
+use Rattle.host_udp.specs.SocketDatagrams.{is_udp_held}
 use Rattle.wasi_records.specs.Records.{open_of}
 use Rattle.wasi_causes.proofs.StreamsLive.{NoIncoming}
 use Rattle.wasi_causes.proofs.Words.{Bool, IsSome, slice_get, true, false}

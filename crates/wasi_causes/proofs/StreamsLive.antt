@@ -7,10 +7,10 @@ use Rattle.wasi_table.specs.Table.{Live}
 use Rattle.wasi_udp.specs.Create.{Create}
 use Rattle.wasi_world.specs.Operation.{Done, Refused, Waits}
 use Rattle.wasi_records.specs.Datagrams.{has_streams, udp_connect_left, udp_reconnect_left}
-use Rattle.wasi_host.specs.Kinds.{udp_kind, udp_of}
+use Rattle.host_store.specs.Kinds.{udp_kind, udp_of}
 use Rattle.wasi_records.specs.Records.{tcp2_pushed, udp2_at, udp2_put}
 use Rattle.wasi_records.specs.declared.datagrams.Incoming.{Incoming as IncomingStream}
-use Rattle.wasi_host.specs.declared.kind.Kind.TheVariants.{Incoming}
+use Rattle.host_store.specs.declared.kind.Kind.TheVariants.{Incoming}
 use Rattle.wasi_records.specs.declared.name_lookup.LookupOp.{LookupOp}
 use Rattle.wasi_records.specs.declared.records.Record.{Record}
 use Rattle.wasi_records.specs.declared.udp.OpenUdp.{OpenUdp}

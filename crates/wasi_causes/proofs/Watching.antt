@@ -1,7 +1,7 @@
 -- In a run what a live pollable watches is there: the socket, the streams of a connection, or the UDP socket of an incoming datagram
 -- stream, since the pollable is under a live handle of it.
 use Rattle.wasi_causes.proofs.Words.{Entry, Give, IsSome, Kind, Left, List, Machine, Option, Pollable, Reply, Some, Step, WasiSocketsCtx, Watched, [], first_state, kind_at, refl, run, ℕ, ◌≡◌}
-use Rattle.wasi_host.specs.Kinds.{watch_of}
+use Rattle.host_store.specs.Kinds.{watch_of}
 use Rattle.wasi_walks.specs.Missing.{MissesWatched}
 use Rattle.wasi_records.specs.Records.{tcp2_at}
 use Rattle.wasi_walks.specs.Answered.{streams_in}

@@ -55,17 +55,19 @@ pub use Rattle.wasi_table.proofs.Tables.{value_without, value_without_it}
 pub use Rattle.wasi_tcp.specs.Addresses.{after_peer, local_asks, local_from, local_where, peer_known, remote_in, still_connected}
 pub use Rattle.wasi_tcp.specs.Addresses.{usable_side}
 pub use Rattle.wasi_tcp.specs.Listen.{IsListen, held_side}
-pub use Rattle.wasi_host.specs.Dropping.{released, wait_at}
+pub use Rattle.host_tcp.specs.Dropping.{released, wait_at}
 pub use Rattle.wasi_records.specs.Looks.{wait_answer}
-pub use Rattle.wasi_host.specs.CallStops.{CallStop}
+pub use Rattle.host_store.specs.CallStops.{CallStop}
 pub use Rattle.wasi_records.specs.Stops.{Code, code_stop}
 pub use Rattle.wasi_records.specs.Halves.{begins_job, has_job, turn_record, turned}
-pub use Rattle.wasi_host.specs.Jobs.{is_on, other_jobs, turn_at, turn_job, turn_jobs, turn_store_asks, with_job}
-pub use Rattle.wasi_host.specs.Machine.{answered, at_once, drop_asks, drop_kind, no_such_handle, ready_asks, subscribe_asks}
+pub use Rattle.host_store.specs.Jobs.{is_on, other_jobs, turn_at, turn_job, turn_jobs, turn_store_asks, with_job}
+pub use Rattle.wasi_host.specs.HandleDrops.{answered, at_once, drop_asks, drop_kind}
+pub use Rattle.host_store.specs.Machine.{no_such_handle}
+pub use Rattle.wasi_host.specs.Pollables.{ready_asks, subscribe_asks}
 pub use Rattle.wasi_host.specs.Pending.{resume_asks}
-pub use Rattle.wasi_host.specs.Standing.{allowed_answer, stands_as}
-pub use Rattle.wasi_host.specs.Store.{with_record_put}
-pub use Rattle.wasi_host.specs.StreamCalls.{check_asks, converted, flushed_asks, read_asks, stream_on, write_asks, write_on}
+pub use Rattle.host_store.specs.Standing.{allowed_answer, stands_as}
+pub use Rattle.host_store.specs.Store.{with_record_put}
+pub use Rattle.host_streams.specs.StreamCalls.{check_asks, converted, flushed_asks, read_asks, stream_on, write_asks, write_on}
 pub use Rattle.wasi_p2.specs.Tcp.{accepted_handles, network_asks}
 pub use Rattle.wasi_p2.specs.Tcp.{shutdown_on, start_listen_on}
 pub use Rattle.wasi_steps.specs.Replies.{Each, Truth}

@@ -11,16 +11,16 @@ use Rattle.wasi_world.specs.declared.outcome.TrapKind.TheVariants.{NoSuchHandle,
 use Rattle.wasi_world.specs.declared.outcome.WasiSocketsCtx.{WasiSocketsCtx}
 use Rattle.wasi_tcp.specs.declared.halves.TcpReceiveStream.{TcpReceiveStream}
 use Rattle.wasi_tcp.specs.declared.reader.ReadState.TheVariants as reading
-use Rattle.wasi_host.specs.declared.blocking.BlockingCall.{BlockingCall}
-use Rattle.wasi_host.specs.declared.blocking.BlockingCall.TheVariants.{Read, Skip, Write, Finish, Flush, Splice, Block, Poll}
-use Rattle.wasi_host.specs.declared.machine.Machine.{Machine}
+use Rattle.host_store.specs.declared.store.BlockingCall.{BlockingCall}
+use Rattle.host_store.specs.declared.store.BlockingCall.TheVariants.{Read, Skip, Write, Finish, Flush, Splice, Block, Poll}
+use Rattle.host_store.specs.declared.machine.Machine.{Machine}
 use Rattle.wasi_host.specs.declared.polling.Look.TheVariants.{Later}
-use Rattle.wasi_host.specs.declared.store.StandingCall.{StandingCall}
-use Rattle.wasi_host.specs.declared.store.StandingCall.TheVariants.{Blocking}
-use Rattle.wasi_host.specs.Kinds.{kind_at, is_writable}
-use Rattle.wasi_host.specs.Machine.{input_at, own_of}
+use Rattle.host_store.specs.declared.store.StandingCall.{StandingCall}
+use Rattle.host_store.specs.declared.store.StandingCall.TheVariants.{Blocking}
+use Rattle.host_store.specs.Kinds.{kind_at, is_writable}
+use Rattle.host_store.specs.Machine.{input_at, own_of}
 use Rattle.wasi_records.specs.Names.{first_ids}
-use Rattle.wasi_host.specs.StreamCalls.{plain_input_at}
+use Rattle.host_streams.specs.StreamCalls.{plain_input_at}
 use Rattle.wasi_steps.specs.declared.reply.Field.{Field}
 use Rattle.wasi_steps.specs.declared.reply.Reply.{Reply}
 use Rattle.wasi_steps.specs.declared.reply.Reply.TheVariants as reply

@@ -4,21 +4,21 @@ use Rattle.std.specs.Prelude.{◌≡◌, ◌⊎◌, ⊤, ℕ, ◌+◌, true, fal
 use Rattle.wasi_world.specs.declared.call.Entry.{Entry}
 use Rattle.wasi_records.specs.declared.datagrams.Incoming.{Incoming}
 use Rattle.wasi_records.specs.declared.datagrams.Outgoing.{Outgoing}
-use Rattle.wasi_host.specs.declared.kind.Kind.TheVariants as kind
-use Rattle.wasi_host.specs.declared.kind.Watched.{Watched}
-use Rattle.wasi_host.specs.declared.kind.Watched.TheVariants as watched
-use Rattle.wasi_host.specs.declared.machine.Machine.{Machine}
-use Rattle.wasi_host.specs.declared.store.StandingCall.{StandingCall}
-use Rattle.wasi_host.specs.declared.store.StandingCall.TheVariants as standing
+use Rattle.host_store.specs.declared.kind.Kind.TheVariants as kind
+use Rattle.host_store.specs.declared.kind.Watched.{Watched}
+use Rattle.host_store.specs.declared.kind.Watched.TheVariants as watched
+use Rattle.host_store.specs.declared.machine.Machine.{Machine}
+use Rattle.host_store.specs.declared.store.StandingCall.{StandingCall}
+use Rattle.host_store.specs.declared.store.StandingCall.TheVariants as standing
 use Rattle.wasi_records.specs.declared.udp.OpenUdp.{OpenUdp}
-use Rattle.wasi_host.specs.DatagramCalls.{without_receives}
+use Rattle.host_udp.specs.DatagramCalls.{without_receives}
 use Rattle.wasi_records.specs.Datagrams.{has_streams, permit_of, permitted, sends}
-use Rattle.wasi_host.specs.Kinds.{HandleTable, kind_at, watch_of, with_handle, without_handle}
-use Rattle.wasi_host.specs.Machine.{tcp3_at, udp_socket_at}
+use Rattle.host_store.specs.Kinds.{HandleTable, kind_at, watch_of, with_handle, without_handle}
+use Rattle.host_store.specs.Machine.{tcp3_at, udp_socket_at}
 use Rattle.wasi_records.specs.Receiving.{receives}
 use Rattle.wasi_records.specs.Records.{open_at}
-use Rattle.wasi_host.specs.Standing.{standing_as}
-use Rattle.wasi_host.specs.UdpCalls.{with_open_udp}
+use Rattle.host_store.specs.Standing.{standing_as}
+use Rattle.host_store.specs.Store.{with_open_udp}
 use Rattle.wasi_machine.specs.Machine.{first_ids}
 use Rattle.wasi_steps.specs.declared.reply.Field.{Field}
 use Rattle.wasi_steps.specs.declared.step.Step.{Step}

@@ -5,8 +5,8 @@ use Rattle.wasi_world.specs.declared.call.Entry.{Entry}
 use Rattle.wasi_udp.specs.Connect.{with_given}
 use Rattle.wasi_records.specs.declared.tcp_binding.InProgress.TheVariants as doing
 use Rattle.wasi_records.specs.declared.tcp_listening.Listening.TheVariants as listening
-use Rattle.wasi_host.specs.declared.machine.Machine.{Machine}
-use Rattle.wasi_host.specs.declared.store.StandingCall.{StandingCall}
+use Rattle.host_store.specs.declared.machine.Machine.{Machine}
+use Rattle.host_store.specs.declared.store.StandingCall.{StandingCall}
 use Rattle.wasi_records.specs.declared.udp.UdpInProgress.TheVariants as udp_doing
 use Rattle.wasi_records.specs.Listening.{with_listening}
 use Rattle.wasi_records.specs.Sockets.{with_progress}

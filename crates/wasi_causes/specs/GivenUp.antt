@@ -1,9 +1,9 @@
 -- What a drop and a shutdown release: what is asked then, and what is left afterwards.
-use Rattle.wasi_host.specs.declared.kind.PlainInput.TheVariants as plain_input
-use Rattle.wasi_host.specs.declared.kind.PlainOutput.TheVariants as plain_output
+use Rattle.host_store.specs.declared.kind.PlainInput.TheVariants as plain_input
+use Rattle.host_store.specs.declared.kind.PlainOutput.TheVariants as plain_output
 use Rattle.std.specs.Prelude.{◌≡◌, ◌≢◌, ⊤, ℕ, Bool, true, false, List, [], ◌∷◌, ◌++◌, Option, Some, None, IsSome, IsSomeAnd}
-use Rattle.wasi_host.specs.GivingBack.{given_back}
-use Rattle.wasi_host.specs.Store.{with_socket}
+use Rattle.host_store.specs.GivingBack.{given_back}
+use Rattle.host_store.specs.Store.{with_socket}
 use Rattle.wasi_records.specs.Holding.{is_held}
 use Rattle.wasi_records.specs.Listening.{with_listening}
 use Rattle.wasi_records.specs.Names.{own_of}
@@ -30,15 +30,15 @@ use Rattle.wasi_tcp.specs.Listen.{held_side}
 use Rattle.wasi_tcp.specs.Socket.{side_of}
 use Rattle.wasi_tcp.specs.Writer.{writer_side}
 use Rattle.wasi_jobs.specs.declared.job.HostJob.{HostJob}
-use Rattle.wasi_host.specs.declared.kind.Kind.{Kind}
-use Rattle.wasi_host.specs.declared.kind.Kind.TheVariants as kind
+use Rattle.host_store.specs.declared.kind.Kind.{Kind}
+use Rattle.host_store.specs.declared.kind.Kind.TheVariants as kind
 use Rattle.wasi_records.specs.declared.tcp_listening.Listening.{Listening}
 use Rattle.wasi_records.specs.declared.tcp_listening.Listening.TheVariants as listening
-use Rattle.wasi_host.specs.declared.machine.Machine.{Machine}
+use Rattle.host_store.specs.declared.machine.Machine.{Machine}
 use Rattle.wasi_records.specs.declared.socket.Streams.{Streams}
 use Rattle.wasi_records.specs.declared.socket.TcpRecord.{TcpRecord}
-use Rattle.wasi_host.specs.Kinds.{kind_at, without_handle}
-use Rattle.wasi_host.specs.Jobs.{is_on}
+use Rattle.host_store.specs.Kinds.{kind_at, without_handle}
+use Rattle.host_store.specs.Jobs.{is_on}
 use Rattle.wasi_steps.specs.declared.reply.Reply.{Reply}
 use Rattle.wasi_steps.specs.declared.reply.Reply.TheVariants as reply
 use Rattle.wasi_steps.specs.declared.step.Step.{Step}

@@ -2,8 +2,8 @@
 use Rattle.wasi_records.specs.Records.{tcp2_at, udp2_at, open_at, lookup_at}
 use Rattle.wasi_records.specs.declared.slot.Slot.{Slot}
 use Rattle.wasi_records.specs.Slots.{slot_at}
-use Rattle.wasi_host.specs.declared.kind.PlainInput.TheVariants as input
-use Rattle.wasi_host.specs.declared.kind.PlainOutput.TheVariants as output
+use Rattle.host_store.specs.declared.kind.PlainInput.TheVariants as input
+use Rattle.host_store.specs.declared.kind.PlainOutput.TheVariants as output
 use Rattle.wasi_causes.specs.Plain.{InputPipeGone, OutputPipeGone}
 use Rattle.std.specs.Prelude.{◌≡◌, ⊤, ℕ, Bool, true, List, [], Option, Some}
 use Rattle.wasi_records.specs.Holding.{without_socket}
@@ -14,12 +14,12 @@ use Rattle.wasi_records.specs.declared.udp.OpenUdp.{OpenUdp}
 use Rattle.wasi_records.specs.declared.udp.UdpRecord.{UdpRecord}
 use Rattle.wasi_records.specs.declared.udp.UdpRecord.TheVariants.{Open}
 use Rattle.wasi_records.specs.Udp.{without_udp_socket}
-use Rattle.wasi_host.specs.SocketDatagrams.{has_datagram}
-use Rattle.wasi_host.specs.declared.kind.Kind.{Kind}
-use Rattle.wasi_host.specs.declared.kind.Kind.TheVariants as kind
-use Rattle.wasi_host.specs.declared.machine.Machine.{Machine}
+use Rattle.host_store.specs.Beside.{has_datagram}
+use Rattle.host_store.specs.declared.kind.Kind.{Kind}
+use Rattle.host_store.specs.declared.kind.Kind.TheVariants as kind
+use Rattle.host_store.specs.declared.machine.Machine.{Machine}
 use Rattle.wasi_records.specs.declared.socket.TcpRecord.{TcpRecord}
-use Rattle.wasi_host.specs.Machine.{own_of}
+use Rattle.host_store.specs.Machine.{own_of}
 use Rattle.wasi_causes.specs.Lookups.{LookupGone}
 use Rattle.wasi_causes.specs.Datagrams.{IncomingGone, OutgoingGone}
 use Rattle.wasi_causes.specs.P3Streams.{IsLetGo, ReadEndGoes, WriteEndGoes}

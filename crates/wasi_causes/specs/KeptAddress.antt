@@ -11,7 +11,7 @@ use Rattle.wasi_records.specs.declared.datagrams.Receiving.TheVariants as receiv
 use Rattle.wasi_records.specs.declared.datagrams.Sending.TheVariants as sending
 use Rattle.wasi_records.specs.declared.udp.OpenUdp.{OpenUdp}
 use Rattle.wasi_records.specs.Records.{open_at}
-use Rattle.wasi_host.specs.declared.machine.Machine.{Machine}
+use Rattle.host_store.specs.declared.machine.Machine.{Machine}
 use Rattle.wasi_causes.specs.StreamCauses.{both_marks, peer_entry}
 
 -- the remote address that the network reported: none where it reported a code or the wildcard

@@ -22,7 +22,7 @@ use Rattle.wasi_records.specs.declared.datagrams.Receiving.TheVariants as receiv
 use Rattle.wasi_records.specs.declared.socket.TcpRecord.{TcpRecord}
 use Rattle.wasi_records.specs.declared.tcp_listening.Listening.TheVariants.{Accepts}
 use Rattle.wasi_records.specs.declared.udp.OpenUdp.{OpenUdp}
-use Rattle.wasi_host.specs.declared.machine.Machine.{Machine}
+use Rattle.host_store.specs.declared.machine.Machine.{Machine}
 use Rattle.wasi_causes.specs.SendCauses.{BoundSo, found_so}
 use Rattle.wasi_causes.specs.TurnPolls.{PolledOnce, ReceivePolled, still}
 

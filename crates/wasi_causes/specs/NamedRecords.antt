@@ -1,15 +1,15 @@
 -- Which records handles, pending calls and jobs name, and which were given back.
 use Rattle.std.specs.Prelude.{◌≡◌, ℕ, Option, Some, None, slice_get}
-use Rattle.wasi_host.specs.declared.kind.Kind.{Kind}
-use Rattle.wasi_host.specs.declared.kind.Kind.TheVariants.{Tcp2, Tcp3, Udp2, Udp3, Input, Output, PlainInput, PlainOutput, Incoming, Outgoing, Pollable, Lookup, Listen3, Result3}
-use Rattle.wasi_host.specs.declared.kind.PlainInput.TheVariants as plain_input
-use Rattle.wasi_host.specs.declared.kind.PlainOutput.TheVariants as plain_output
-use Rattle.wasi_host.specs.declared.kind.Watched.{Watched}
-use Rattle.wasi_host.specs.declared.kind.Watched.TheVariants as watched
-use Rattle.wasi_host.specs.declared.machine.Machine.{Machine}
+use Rattle.host_store.specs.declared.kind.Kind.{Kind}
+use Rattle.host_store.specs.declared.kind.Kind.TheVariants.{Tcp2, Tcp3, Udp2, Udp3, Input, Output, PlainInput, PlainOutput, Incoming, Outgoing, Pollable, Lookup, Listen3, Result3}
+use Rattle.host_store.specs.declared.kind.PlainInput.TheVariants as plain_input
+use Rattle.host_store.specs.declared.kind.PlainOutput.TheVariants as plain_output
+use Rattle.host_store.specs.declared.kind.Watched.{Watched}
+use Rattle.host_store.specs.declared.kind.Watched.TheVariants as watched
+use Rattle.host_store.specs.declared.machine.Machine.{Machine}
 use Rattle.wasi_records.specs.declared.records.Record.TheVariants.{Gone}
-use Rattle.wasi_host.specs.declared.store.StandingCall.{StandingCall}
-use Rattle.wasi_host.specs.declared.store.StandingCall.TheVariants as call
+use Rattle.host_store.specs.declared.store.StandingCall.{StandingCall}
+use Rattle.host_store.specs.declared.store.StandingCall.TheVariants as call
 
 -- the record of this number was given back
 abbrev pub IsGivenBack : Machine → ℕ → Type 0

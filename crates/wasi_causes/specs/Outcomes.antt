@@ -11,17 +11,17 @@ use Rattle.std.specs.Prelude.{IfSome}
 use Rattle.wasi_world.specs.declared.ids.Ids.{Ids}
 use Rattle.memory_streams.specs.Plain.{no_contents}
 use Rattle.wasi_streams.specs.Streams.{zeros}
-use Rattle.wasi_host.specs.declared.blocking.BlockingCall.{BlockingCall}
-use Rattle.wasi_host.specs.declared.blocking.BlockingCall.TheVariants as blocking
-use Rattle.wasi_host.specs.declared.kind.PlainInput.TheVariants as input
-use Rattle.wasi_host.specs.declared.kind.PlainOutput.TheVariants as output
+use Rattle.host_store.specs.declared.store.BlockingCall.{BlockingCall}
+use Rattle.host_store.specs.declared.store.BlockingCall.TheVariants as blocking
+use Rattle.host_store.specs.declared.kind.PlainInput.TheVariants as input
+use Rattle.host_store.specs.declared.kind.PlainOutput.TheVariants as output
 use Rattle.wasi_records.specs.declared.records.Record.TheVariants.{InputPipe, OutputPipe}
-use Rattle.wasi_host.specs.declared.store.StandingCall.TheVariants as standing
-use Rattle.wasi_host.specs.Kinds.{is_readable, kind_at, is_network, watched_by, with_handle, without_handle}
-use Rattle.wasi_host.specs.PlainStreams.{with_record_more}
-use Rattle.wasi_host.specs.Beside.{beside_of, stands_under}
-use Rattle.wasi_host.specs.Standing.{standing_as, stands_as}
-use Rattle.wasi_host.specs.StreamCalls.{plain_output_at}
+use Rattle.host_store.specs.declared.store.StandingCall.TheVariants as standing
+use Rattle.host_store.specs.Kinds.{is_readable, kind_at, is_network, watched_by, with_handle, without_handle}
+use Rattle.host_streams.specs.PlainStreams.{with_record_more}
+use Rattle.host_store.specs.Beside.{beside_of, stands_under}
+use Rattle.host_store.specs.Standing.{standing_as, stands_as}
+use Rattle.host_streams.specs.StreamCalls.{plain_output_at}
 use Rattle.wasi_steps.specs.Reply.{bytes_fields}
 use Rattle.wasi_walks.specs.Answered.{Answered}
 use Rattle.wasi_walks.specs.Missing.{MissesInput, MissesHandle, MakesHandle, IsWrite}
@@ -61,13 +61,14 @@ use Rattle.wasi_table.specs.Table.{is_full}
 use Rattle.wasi_tcp.specs.declared.writer.WriteError.TheVariants as error
 use Rattle.wasi_tcp.specs.Socket.{new_socket}
 use Rattle.wasi_records.specs.declared.name_lookup.Lookup.{Lookup}
-use Rattle.wasi_host.specs.NameLookupCalls.{lookup_ready}
-use Rattle.wasi_host.specs.declared.kind.Kind.TheVariants as kind
-use Rattle.wasi_host.specs.declared.machine.Machine.{Machine}
-use Rattle.wasi_host.specs.Machine.{incoming_at, input_at, outgoing_at, output_at, own_of, receive3_at, result3_at, send3_at, socket_at, udp_socket_at, with_room}
+use Rattle.host_lookups.specs.NameLookupCalls.{lookup_ready}
+use Rattle.host_store.specs.declared.kind.Kind.TheVariants as kind
+use Rattle.host_store.specs.declared.machine.Machine.{Machine}
+use Rattle.host_store.specs.Machine.{incoming_at, input_at, outgoing_at, output_at, own_of, receive3_at, result3_at, send3_at, socket_at, udp_socket_at}
+use Rattle.host_tcp.specs.Creates.{with_room}
 use Rattle.wasi_records.specs.Shutdowns.{with_streams}
-use Rattle.wasi_host.specs.Limits.{most_of}
-use Rattle.wasi_host.specs.Store.{with_record}
+use Rattle.host_store.specs.Limits.{most_of}
+use Rattle.host_store.specs.Store.{with_record}
 use Rattle.wasi_walks.specs.Licence.{entry, Has, marks_in}
 use Rattle.wasi_walks.specs.Listens.{AcceptsAt, closed_by_listen, AcceptTakes, HasNoListenInProgress, RefusedAccept, RefusedListen}
 use Rattle.wasi_steps.specs.Settings.{chosen, udp_opt}
@@ -78,7 +79,7 @@ use Rattle.wasi_causes.specs.Options.{GetsOption, P3RefusedGet, P3RefusedSet, Re
 use Rattle.wasi_causes.specs.Refusals.{CreateRefusal, KnowsTcp3Bound, LocalRefusal, OfTcp3, P3CreateRefusal, P3LocalRefusal, P3RemoteRefusal, RemoteRefusal}
 use Rattle.wasi_causes.specs.Reached.{FinishesAt, ListensLateAt}
 use Rattle.wasi_causes.specs.Turns.{IsOfJob}
-use Rattle.wasi_host.specs.DatagramCalls.{outgoing_ready}
+use Rattle.host_udp.specs.DatagramCalls.{outgoing_ready}
 use Rattle.wasi_records.specs.Names.{next_name}
 use Rattle.wasi_causes.specs.SendCauses.{ReceivesSome, SendsSome, UdpReceiveRefusal, UdpSendRefusal}
 use Rattle.wasi_causes.specs.StreamCauses.{HasNewStreams, MakesStreams, UdpStreamRefusal, StreamsStand}
@@ -91,7 +92,7 @@ use Rattle.wasi_causes.specs.Gone.{AsksOnce, Gone}
 use Rattle.wasi_causes.specs.P3Listens.{AcceptGave, AcceptRefusal, ByListener, Listens, ListenStands, ListensUnnamed, NoneCame, OfListener, P3ListenRefusal, TakesUnnamed}
 use Rattle.wasi_causes.specs.P3Streams.{EndReads, EndWrites, GivesUp, IsEndPoll, IsResultStep, IsUnfilled, LacksRoomForEnd, MakesEnd, OfEnd, ReadEnds, ReadGivesUp, TakesOut, WentIll, WentWell, WriteEnds, WriteGivesUp}
 use Rattle.wasi_causes.specs.P3Udp.{Disconnects, KnowsUdp3Bound, OfUdp3, P3DisconnectRefusal, P3UdpCreateRefusal, P3UdpGetRefusal, P3UdpLocalRefusal, P3UdpSetRefusal}
-use Rattle.wasi_host.specs.declared.kind.Interface.TheVariants.{P3}
+use Rattle.host_store.specs.declared.kind.Interface.TheVariants.{P3}
 use Rattle.wasi_causes.specs.Udp.{OfUdp, RefusedOfUdp, HasUdpInProgress, HasNoUdpBind, KeepsNoRemote, WatchesUdp, udp_create_entry, writable_entry, with_udp_record, new_udp, UdpCreateRefusal, CreatesUdp, CreatesUdpFor, CreateStands, CreateStandsFor, KnowsUdpBound, UdpBindRefusal, BindsUdp, UdpBindStands, FinishesUdpBind, UdpLocalRefusal, TellsUdpLocal, TellsUdpRemote, UdpGetRefusal, GetsUdpOption, UdpSetRefusal, SetsUdpOption, GivesBy, MakesOneHandle}
 
 -- == what holds whatever the reply is

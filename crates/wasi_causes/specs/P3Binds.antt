@@ -24,11 +24,11 @@ use Rattle.wasi_records.specs.declared.udp.UdpInProgress.TheVariants as udp
 use Rattle.wasi_records.specs.Names.{own_of}
 use Rattle.wasi_records.specs.Sockets.{with_progress}
 use Rattle.wasi_records.specs.Udp.{with_udp_progress}
-use Rattle.wasi_host.specs.declared.kind.Interface.TheVariants.{P3}
-use Rattle.wasi_host.specs.declared.machine.Machine.{Machine}
-use Rattle.wasi_host.specs.declared.store.StandingCall.{StandingCall}
-use Rattle.wasi_host.specs.declared.store.StandingCall.TheVariants.{Bind, UdpBind}
-use Rattle.wasi_host.specs.Standing.{standing_as}
+use Rattle.host_store.specs.declared.kind.Interface.TheVariants.{P3}
+use Rattle.host_store.specs.declared.machine.Machine.{Machine}
+use Rattle.host_store.specs.declared.store.StandingCall.{StandingCall}
+use Rattle.host_store.specs.declared.store.StandingCall.TheVariants.{Bind, UdpBind}
+use Rattle.host_store.specs.Standing.{standing_as}
 use Rattle.wasi_machine.specs.Machine.{first_ids}
 use Rattle.wasi_steps.specs.declared.reply.CodeWord.{CodeWord}
 use Rattle.wasi_walks.specs.Answered.{IsBound, IsFoundUnbound, knowing_bound, may_bind_to, putting}

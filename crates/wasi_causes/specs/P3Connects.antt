@@ -30,11 +30,11 @@ use Rattle.wasi_records.specs.Names.{own_of}
 use Rattle.wasi_records.specs.Records.{open_at, tcp2_at}
 use Rattle.wasi_records.specs.declared.udp.OpenUdp.{OpenUdp}
 use Rattle.wasi_records.specs.Sockets.{with_inner}
-use Rattle.wasi_host.specs.declared.beside.BesideCall.{BesideCall}
-use Rattle.wasi_host.specs.declared.beside.BesideCall.TheVariants.{Connect, Receive, Resolve, Send}
-use Rattle.wasi_host.specs.declared.machine.Machine.{Machine}
-use Rattle.wasi_host.specs.Beside.{beside_as, beside_of, beside_with, beside_without}
-use Rattle.wasi_host.specs.Standing.{stands_as}
+use Rattle.host_store.specs.declared.beside.BesideCall.{BesideCall}
+use Rattle.host_store.specs.declared.beside.BesideCall.TheVariants.{Connect, Receive, Resolve, Send}
+use Rattle.host_store.specs.declared.machine.Machine.{Machine}
+use Rattle.host_store.specs.Beside.{beside_as, beside_of, beside_with, beside_without}
+use Rattle.host_store.specs.Standing.{stands_as}
 use Rattle.wasi_steps.specs.declared.reply.CodeWord.{CodeWord}
 use Rattle.wasi_steps.specs.declared.reply.CodeWord.TheVariants as word
 use Rattle.wasi_steps.specs.declared.reply.Field.{Field}

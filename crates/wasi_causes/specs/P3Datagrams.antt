@@ -31,11 +31,11 @@ use Rattle.wasi_records.specs.declared.udp.OpenUdp.{OpenUdp}
 use Rattle.wasi_records.specs.Names.{own_of}
 use Rattle.wasi_records.specs.Records.{open_at}
 use Rattle.wasi_records.specs.Udp.{with_udp_inner}
-use Rattle.wasi_host.specs.Beside.{beside_as, beside_with}
-use Rattle.wasi_host.specs.declared.beside.BesideCall.{BesideCall}
-use Rattle.wasi_host.specs.declared.beside.BesideCall.TheVariants.{Receive, Send}
-use Rattle.wasi_host.specs.declared.machine.Machine.{Machine}
-use Rattle.wasi_host.specs.SocketDatagrams.{is_udp_held}
+use Rattle.host_store.specs.Beside.{beside_as, beside_with}
+use Rattle.host_store.specs.declared.beside.BesideCall.{BesideCall}
+use Rattle.host_store.specs.declared.beside.BesideCall.TheVariants.{Receive, Send}
+use Rattle.host_store.specs.declared.machine.Machine.{Machine}
+use Rattle.host_udp.specs.SocketDatagrams.{is_udp_held}
 use Rattle.wasi_steps.specs.declared.reply.CodeWord.{CodeWord}
 use Rattle.wasi_steps.specs.declared.reply.Field.{Field}
 use Rattle.wasi_steps.specs.declared.reply.Reply.{Reply}

@@ -30,13 +30,13 @@ use Rattle.wasi_records.specs.Listening.{with_listening}
 use Rattle.wasi_records.specs.Names.{own_of}
 use Rattle.wasi_records.specs.Records.{tcp2_at}
 use Rattle.wasi_records.specs.Sockets.{with_inner}
-use Rattle.wasi_host.specs.declared.kind.Kind.TheVariants as kind
-use Rattle.wasi_host.specs.declared.machine.Machine.{Machine}
-use Rattle.wasi_host.specs.declared.store.StandingCall.TheVariants as standing
-use Rattle.wasi_host.specs.Kinds.{with_handle}
-use Rattle.wasi_host.specs.Lines.{tcp_in}
-use Rattle.wasi_host.specs.Machine.{listen3_at}
-use Rattle.wasi_host.specs.Store.{with_record}
+use Rattle.host_store.specs.declared.kind.Kind.TheVariants as kind
+use Rattle.host_store.specs.declared.machine.Machine.{Machine}
+use Rattle.host_store.specs.declared.store.StandingCall.TheVariants as standing
+use Rattle.host_store.specs.Kinds.{with_handle}
+use Rattle.host_store.specs.Lines.{tcp_in}
+use Rattle.host_store.specs.Machine.{listen3_at}
+use Rattle.host_store.specs.Store.{with_record}
 use Rattle.wasi_steps.specs.declared.reply.CodeWord.{CodeWord}
 use Rattle.wasi_steps.specs.declared.reply.Field.{Field}
 use Rattle.wasi_steps.specs.declared.reply.Reply.{Reply}

@@ -32,15 +32,15 @@ use Rattle.wasi_records.specs.Records.{tcp2_at}
 use Rattle.wasi_records.specs.Shutdowns.{with_streams}
 use Rattle.wasi_records.specs.Slots.{StreamEnd, slot_at}
 use Rattle.wasi_records.specs.Sockets.{with_inner}
-use Rattle.wasi_host.specs.declared.kind.ConnectionEnd.{ConnectionEnd}
-use Rattle.wasi_host.specs.declared.kind.Kind.{Kind}
-use Rattle.wasi_host.specs.declared.kind.Kind.TheVariants as kind
-use Rattle.wasi_host.specs.declared.machine.Machine.{Machine}
-use Rattle.wasi_host.specs.ConnectionEnds.{end_of, fill, with_end}
-use Rattle.wasi_host.specs.Jobs.{is_on}
-use Rattle.wasi_host.specs.Kinds.{with_handle}
-use Rattle.wasi_host.specs.Lines.{tcp_in}
-use Rattle.wasi_host.specs.Machine.{result3_at}
+use Rattle.host_store.specs.declared.kind.ConnectionEnd.{ConnectionEnd}
+use Rattle.host_store.specs.declared.kind.Kind.{Kind}
+use Rattle.host_store.specs.declared.kind.Kind.TheVariants as kind
+use Rattle.host_store.specs.declared.machine.Machine.{Machine}
+use Rattle.host_tcp.specs.ConnectionEnds.{end_of, fill, with_end}
+use Rattle.host_store.specs.Jobs.{is_on}
+use Rattle.host_store.specs.Kinds.{with_handle}
+use Rattle.host_store.specs.Lines.{tcp_in}
+use Rattle.host_store.specs.Machine.{result3_at}
 use Rattle.wasi_steps.specs.declared.guest_call.GuestCall.TheVariants as guest
 use Rattle.wasi_steps.specs.declared.reply.CodeWord.{CodeWord}
 use Rattle.wasi_steps.specs.declared.reply.Field.{Field}

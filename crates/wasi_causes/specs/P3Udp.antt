@@ -16,8 +16,8 @@ use Rattle.wasi_udp.specs.Socket.{after_peer}
 use Rattle.wasi_records.specs.declared.udp.OpenUdp.{OpenUdp}
 use Rattle.wasi_records.specs.Records.{open_at}
 use Rattle.wasi_records.specs.Udp.{with_udp_inner}
-use Rattle.wasi_host.specs.declared.machine.Machine.{Machine}
-use Rattle.wasi_host.specs.Machine.{udp3_at}
+use Rattle.host_store.specs.declared.machine.Machine.{Machine}
+use Rattle.host_store.specs.Machine.{udp3_at}
 use Rattle.wasi_steps.specs.declared.reply.CodeWord.{CodeWord}
 use Rattle.wasi_steps.specs.declared.setting.UdpSetting.{UdpSetting}
 use Rattle.wasi_walks.specs.Licence.{entry}

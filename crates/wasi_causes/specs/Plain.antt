@@ -6,19 +6,19 @@ use Rattle.wasi_world.specs.declared.call.Entry.{Entry}
 use Rattle.wasi_world.specs.declared.call.Told.TheVariants as told
 use Rattle.wasi_world.specs.declared.outcome.TrapKind.TheVariants.{Capacity}
 use Rattle.memory_streams.specs.Plain.{Contents, left_in}
-use Rattle.wasi_host.specs.declared.kind.Kind.{Kind}
-use Rattle.wasi_host.specs.declared.kind.PlainInput.{PlainInput}
-use Rattle.wasi_host.specs.declared.kind.PlainInput.TheVariants as input
-use Rattle.wasi_host.specs.declared.kind.PlainOutput.{PlainOutput}
-use Rattle.wasi_host.specs.declared.kind.PlainOutput.TheVariants as output
-use Rattle.wasi_host.specs.declared.kind.Watched.TheVariants as watched
-use Rattle.wasi_host.specs.declared.machine.Machine.{Machine}
-use Rattle.wasi_host.specs.Kinds.{kind_at, name_of, watch_of, with_handle}
-use Rattle.wasi_host.specs.Machine.{own_of}
-use Rattle.wasi_host.specs.PlainStreams.{with_contents, with_input_bytes}
+use Rattle.host_store.specs.declared.kind.Kind.{Kind}
+use Rattle.host_store.specs.declared.kind.PlainInput.{PlainInput}
+use Rattle.host_store.specs.declared.kind.PlainInput.TheVariants as input
+use Rattle.host_store.specs.declared.kind.PlainOutput.{PlainOutput}
+use Rattle.host_store.specs.declared.kind.PlainOutput.TheVariants as output
+use Rattle.host_store.specs.declared.kind.Watched.TheVariants as watched
+use Rattle.host_store.specs.declared.machine.Machine.{Machine}
+use Rattle.host_store.specs.Kinds.{kind_at, name_of, watch_of, with_handle}
+use Rattle.host_store.specs.Machine.{own_of}
+use Rattle.host_streams.specs.PlainStreams.{with_contents, with_input_bytes}
 use Rattle.wasi_records.specs.Records.{input_pipe_at, output_pipe_at}
-use Rattle.wasi_host.specs.Store.{Records}
-use Rattle.wasi_host.specs.StreamCalls.{plain_input_at, plain_output_at}
+use Rattle.host_store.specs.Store.{Records}
+use Rattle.host_streams.specs.StreamCalls.{plain_input_at, plain_output_at}
 use Rattle.wasi_steps.specs.declared.reply.Field.{Field}
 use Rattle.wasi_steps.specs.declared.reply.Reply.{Reply}
 use Rattle.wasi_steps.specs.declared.reply.Reply.TheVariants as reply

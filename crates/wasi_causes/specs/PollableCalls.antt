@@ -6,18 +6,18 @@ use Rattle.wasi_world.specs.declared.ids.Ids.{Ids}
 use Rattle.wasi_world.specs.declared.outcome.TrapKind.TheVariants.{EmptyList, NoSuchHandle}
 use Rattle.wasi_world.specs.declared.outcome.WasiSocketsCtx.{WasiSocketsCtx}
 use Rattle.wasi_world.specs.Asks.{Give, Left}
-use Rattle.wasi_host.specs.declared.blocking.BlockingCall.{BlockingCall}
-use Rattle.wasi_host.specs.declared.blocking.BlockingCall.TheVariants.{Block, Poll}
-use Rattle.wasi_host.specs.declared.machine.Machine.{Machine}
+use Rattle.host_store.specs.declared.store.BlockingCall.{BlockingCall}
+use Rattle.host_store.specs.declared.store.BlockingCall.TheVariants.{Block, Poll}
+use Rattle.host_store.specs.declared.machine.Machine.{Machine}
 use Rattle.wasi_host.specs.declared.polling.Look.{Look}
 use Rattle.wasi_host.specs.declared.polling.Look.TheVariants.{First, Later}
-use Rattle.wasi_host.specs.declared.store.StandingCall.{StandingCall}
-use Rattle.wasi_host.specs.declared.store.StandingCall.TheVariants.{Blocking}
-use Rattle.wasi_host.specs.Kinds.{kind_at, watch_of}
-use Rattle.wasi_host.specs.Machine.{ready_asks}
+use Rattle.host_store.specs.declared.store.StandingCall.{StandingCall}
+use Rattle.host_store.specs.declared.store.StandingCall.TheVariants.{Blocking}
+use Rattle.host_store.specs.Kinds.{kind_at, watch_of}
+use Rattle.wasi_host.specs.Pollables.{ready_asks}
 use Rattle.wasi_records.specs.Names.{first_ids}
 use Rattle.wasi_host.specs.Polling.{Found, are_pollables, begins_at, ids_after_look, ready_places}
-use Rattle.wasi_host.specs.Standing.{standing_as}
+use Rattle.host_store.specs.Standing.{standing_as}
 use Rattle.wasi_steps.specs.declared.reply.Reply.{Reply}
 use Rattle.wasi_steps.specs.declared.reply.Reply.TheVariants as reply
 use Rattle.wasi_steps.specs.declared.step.Step.{Step}

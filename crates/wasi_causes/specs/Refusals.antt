@@ -16,8 +16,8 @@ use Rattle.wasi_tcp.specs.declared.socket.TcpState.TheVariants as state
 use Rattle.wasi_tcp.specs.Addresses.{usable_side}
 use Rattle.wasi_records.specs.declared.socket.TcpRecord.{TcpRecord}
 use Rattle.wasi_records.specs.Records.{tcp2_at}
-use Rattle.wasi_host.specs.declared.machine.Machine.{Machine}
-use Rattle.wasi_host.specs.Machine.{tcp3_at}
+use Rattle.host_store.specs.declared.machine.Machine.{Machine}
+use Rattle.host_store.specs.Machine.{tcp3_at}
 use Rattle.wasi_steps.specs.declared.reply.CodeWord.{CodeWord}
 pub use Rattle.wasi_walks.specs.Answered.{p3_word}
 use Rattle.wasi_walks.specs.Answered.{IsBound, IsFoundUnbound, knowing_bound, word_of_code}

@@ -17,8 +17,8 @@ use Rattle.wasi_records.specs.Datagrams.{with_streams}
 use Rattle.wasi_records.specs.Names.{own_of}
 use Rattle.wasi_records.specs.Records.{open_at}
 use Rattle.wasi_records.specs.Udp.{with_udp_inner}
-use Rattle.wasi_host.specs.UdpCalls.{with_open_udp}
-use Rattle.wasi_host.specs.declared.machine.Machine.{Machine}
+use Rattle.host_store.specs.Store.{with_open_udp}
+use Rattle.host_store.specs.declared.machine.Machine.{Machine}
 use Rattle.wasi_records.specs.declared.udp.OpenUdp.{OpenUdp}
 use Rattle.wasi_steps.specs.declared.reply.CodeWord.{CodeWord}
 use Rattle.wasi_steps.specs.declared.reply.CodeWord.TheVariants as word

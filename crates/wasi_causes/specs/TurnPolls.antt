@@ -29,7 +29,7 @@ use Rattle.wasi_records.specs.declared.socket.TcpRecord.{TcpRecord}
 use Rattle.wasi_records.specs.declared.udp.OpenUdp.{OpenUdp}
 use Rattle.wasi_jobs.specs.declared.job.HostJob.{HostJob}
 use Rattle.wasi_jobs.specs.declared.job.HostJob.TheVariants as job
-use Rattle.wasi_host.specs.Jobs.{is_going}
+use Rattle.host_store.specs.Jobs.{is_going}
 use Rattle.wasi_walks.specs.Answered.{EndsPending}
 use Rattle.wasi_causes.specs.Lookups.{lookup_entry}
 use Rattle.wasi_causes.specs.SendCauses.{DatagramFails}

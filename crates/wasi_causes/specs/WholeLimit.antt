@@ -10,8 +10,8 @@ use Rattle.wasi_tcp.specs.declared.writer.WriteState.TheVariants as writing
 use Rattle.wasi_tcp.specs.Writer.{collected}
 use Rattle.wasi_records.specs.declared.socket.TcpRecord.{TcpRecord}
 use Rattle.wasi_records.specs.Used.{held_in}
-use Rattle.wasi_host.specs.Limits.{left}
-use Rattle.wasi_host.specs.Store.{Records}
+use Rattle.host_store.specs.Limits.{left}
+use Rattle.host_store.specs.Store.{Records}
 use Rattle.wasi_walks.specs.Answered.{IsUnfinished}
 use Rattle.wasi_walks.specs.Licence.{entry}
 

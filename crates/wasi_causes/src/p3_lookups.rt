@@ -5,10 +5,10 @@ ghost use Rattle.std.specs.Prelude.{◌≡◌, ◌↔◌, ℕ, true, false, List
 ghost use Rattle.wasi_names.specs.Names.{name_is};
 ghost use Rattle.wasi_world.specs.declared.call.Entry.{Entry};
 ghost use Rattle.wasi_world.specs.declared.outcome.WasiSocketsCtx.{WasiSocketsCtx};
-ghost use Rattle.wasi_host.specs.declared.beside.BesideCall.{BesideCall};
-ghost use Rattle.wasi_host.specs.declared.machine.Machine.{Machine};
-ghost use Rattle.wasi_host.specs.Beside.{beside_as, beside_of};
-ghost use Rattle.wasi_host.specs.Machine.{own_of};
+ghost use Rattle.host_store.specs.declared.beside.BesideCall.{BesideCall};
+ghost use Rattle.host_store.specs.declared.machine.Machine.{Machine};
+ghost use Rattle.host_store.specs.Beside.{beside_as, beside_of};
+ghost use Rattle.host_store.specs.Machine.{own_of};
 ghost use Rattle.wasi_machine.specs.Machine.{context_at};
 ghost use Rattle.wasi_steps.specs.declared.guest_call.GuestCall.{GuestCall};
 ghost use Rattle.wasi_steps.specs.declared.reply.CodeWord.{CodeWord};

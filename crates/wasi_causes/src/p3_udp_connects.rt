@@ -9,10 +9,10 @@ ghost use Rattle.wasi_world.specs.declared.outcome.WasiSocketsCtx.{WasiSocketsCt
 ghost use Rattle.wasi_world.specs.Operation.{Operation};
 ghost use Rattle.wasi_records.specs.Records.{open_at};
 ghost use Rattle.wasi_records.specs.declared.udp.OpenUdp.{OpenUdp};
-ghost use Rattle.wasi_host.specs.declared.machine.Machine.{Machine};
-ghost use Rattle.wasi_host.specs.declared.store.StandingCall.{StandingCall};
-ghost use Rattle.wasi_host.specs.Machine.{own_of};
-ghost use Rattle.wasi_host.specs.Standing.{standing_as};
+ghost use Rattle.host_store.specs.declared.machine.Machine.{Machine};
+ghost use Rattle.host_store.specs.declared.store.StandingCall.{StandingCall};
+ghost use Rattle.host_store.specs.Machine.{own_of};
+ghost use Rattle.host_store.specs.Standing.{standing_as};
 ghost use Rattle.wasi_steps.specs.declared.guest_call.GuestCall.{GuestCall};
 ghost use Rattle.wasi_steps.specs.declared.reply.CodeWord.{CodeWord};
 ghost use Rattle.wasi_steps.specs.declared.reply.Field.{Field};

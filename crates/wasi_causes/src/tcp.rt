@@ -11,7 +11,7 @@ ghost use Rattle.wasi_world.specs.declared.outcome.TrapKind.{TrapKind};
 ghost use Rattle.wasi_world.specs.declared.outcome.WasiSocketsCtx.{WasiSocketsCtx};
 ghost use Rattle.wasi_world.specs.Asks.{Give, Left};
 ghost use Rattle.wasi_tcp.specs.Socket.{new_socket};
-ghost use Rattle.wasi_host.specs.declared.machine.Machine.{Machine};
+ghost use Rattle.host_store.specs.declared.machine.Machine.{Machine};
 ghost use Rattle.wasi_steps.specs.declared.reply.CodeWord.{CodeWord};
 ghost use Rattle.wasi_steps.specs.declared.reply.Field.{Field};
 ghost use Rattle.wasi_steps.specs.declared.reply.Reply.{Reply};
@@ -27,12 +27,13 @@ ghost use Rattle.wasi_causes.specs.Reached.{FinishesAt};
 ghost use Rattle.wasi_causes.specs.GivenUp.{HasNoStreams, shut_down, shutdown_entries};
 ghost use Rattle.wasi_walks.specs.Licence.{entry};
 ghost use Rattle.wasi_machine.specs.Machine.{context_at, run};
-ghost use Rattle.wasi_host.specs.Limits.{with_limit};
-ghost use Rattle.wasi_host.specs.Machine.{first_state, own_of, socket_at, with_room};
+ghost use Rattle.host_store.specs.Limits.{with_limit};
+ghost use Rattle.host_store.specs.Machine.{first_state, own_of, socket_at};
+ghost use Rattle.host_tcp.specs.Creates.{with_room};
 ghost use Rattle.wasi_records.specs.Shutdowns.{with_streams};
-ghost use Rattle.wasi_host.specs.Kinds.{is_network, kind_at};
+ghost use Rattle.host_store.specs.Kinds.{is_network, kind_at};
 ghost use Rattle.wasi_walks.specs.Waiting.{WatchesConnect};
-ghost use Rattle.wasi_host.specs.Store.{with_record};
+ghost use Rattle.host_store.specs.Store.{with_record};
 ghost use Rattle.wasi_table.specs.Table.{is_full};
 
 /// Why the finish of a bind is refused.

@@ -9,15 +9,15 @@ use Rattle.wasi_world.specs.Seen.{Seen}
 use Rattle.wasi_world.specs.Asks.{Asks, Give, Reaches, AsksFor}
 use Rattle.wasi_world.proofs.Walks.{reaches_on, reaches_then, asks_err, asks_ok}
 use Rattle.wasi_world.specs.declared.outcome.Answer.TheVariants.{Ready, Pending}
-use Rattle.wasi_host.specs.declared.blocking.BlockingCall.TheVariants as blocking
-use Rattle.wasi_host.specs.declared.machine.Machine.{Machine}
-use Rattle.wasi_host.specs.declared.store.StandingCall.TheVariants.{Blocking}
-use Rattle.wasi_host.specs.Standing.{standing_as}
+use Rattle.host_store.specs.declared.store.BlockingCall.TheVariants as blocking
+use Rattle.host_store.specs.declared.machine.Machine.{Machine}
+use Rattle.host_store.specs.declared.store.StandingCall.TheVariants.{Blocking}
+use Rattle.host_store.specs.Standing.{standing_as}
 use Rattle.wasi_host.specs.declared.polling.Look.{Look}
 use Rattle.wasi_records.specs.Stops.{Stop, fault_outcome}
 use Rattle.wasi_host.specs.Polling.{Found, found_of, look_at_pollable, ids_after_look, look_each, looked_at, ready_places, places_given, polled_each}
-use Rattle.wasi_host.specs.Views.{SameView}
-use Rattle.wasi_host.specs.declared.view.WasiSocketsCtxView.{WasiSocketsCtxView}
+use Rattle.host_store.specs.Views.{SameView}
+use Rattle.host_store.specs.declared.view.WasiSocketsCtxView.{WasiSocketsCtxView}
 use Rattle.wasi_records.proofs.Hosts.{fault_passed}
 
 -- what is asked after the first of the asks were made

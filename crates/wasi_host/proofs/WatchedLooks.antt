@@ -2,12 +2,13 @@
 use Rattle.std.proofs.Common.{◌≡◌, ℕ, Some, refl, ◌⊎◌, inl, inr}
 use Rattle.wasi_world.specs.declared.ids.Ids.{Ids}
 use Rattle.wasi_world.specs.Asks.{Give, bind}
-use Rattle.wasi_host.specs.declared.kind.Watched.{Watched}
-use Rattle.wasi_host.specs.declared.kind.Watched.TheVariants as watched
-use Rattle.wasi_host.specs.declared.machine.Machine.{Machine}
-use Rattle.wasi_host.specs.Machine.{ready_on, with_store}
+use Rattle.host_store.specs.declared.kind.Watched.{Watched}
+use Rattle.host_store.specs.declared.kind.Watched.TheVariants as watched
+use Rattle.host_store.specs.declared.machine.Machine.{Machine}
+use Rattle.wasi_host.specs.Pollables.{ready_on}
+use Rattle.host_store.specs.Machine.{with_store}
 use Rattle.wasi_records.specs.Names.{own_of}
-use Rattle.wasi_host.specs.Readiness.{ready_at}
+use Rattle.host_store.specs.Readiness.{ready_at}
 use Rattle.wasi_records.specs.Records.{tcp2_at}
 
 -- it is a TCP socket or a stream of one

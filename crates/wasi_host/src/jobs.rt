@@ -1,25 +1,18 @@
 //! The host's background work, and its turn.
 
-ghost use Rattle.std.specs.Prelude.{◌≡◌, ◌++◌, ◌∷◌, [], List, false, IfOk};
+ghost use Rattle.std.specs.Prelude.{◌≡◌, [], false, IfOk};
 ghost use Rattle.wasi_world.specs.Asks.{AsksFor};
-ghost use Rattle.wasi_world.specs.Seen.{Seen};
 ghost use Rattle.wasi_records.specs.Records.{tcp2_at, open_at, lookup_at};
 ghost use Rattle.wasi_records.specs.NameLookup.{looks_on, turn_lookup_at};
 ghost use Rattle.wasi_jobs.specs.declared.job.HostJob.{HostJob};
-ghost use Rattle.wasi_jobs.specs.Jobs.{other_than_receive};
-ghost use Rattle.wasi_host.specs.Jobs.{turn_at, turn_datagram_at, turn_receive_at, sends_on};
-ghost use Rattle.wasi_host.specs.Jobs.{receives_on, turn_job, turn_jobs, turn_store_asks};
-ghost use Rattle.wasi_host.specs.Jobs.{jobs_with, is_going};
+ghost use Rattle.host_store.specs.Jobs.{turn_at, turn_datagram_at, turn_receive_at, sends_on, receives_on, turn_job, turn_jobs, turn_store_asks, is_going};
 ghost use Rattle.wasi_records.specs.Halves.{has_job};
-ghost use Rattle.wasi_host.specs.GivingBack.{given_back};
-ghost use Rattle.wasi_records.specs.Numbered.{item_at};
-ghost use Rattle.wasi_host.specs.Machine.{turn_machine_asks};
-ghost use Rattle.wasi_host.specs.KnownSides.{KnowsSides};
-ghost use Rattle.wasi_records.specs.Sides.{MakesNone, held_by, held_in, no_socket};
-ghost use Rattle.wasi_host.specs.Views.{SameView, state_of};
+ghost use Rattle.wasi_host.specs.Turns.{turn_machine_asks};
+ghost use Rattle.host_store.specs.KnownSides.{KnowsSides};
+ghost use Rattle.wasi_records.specs.Sides.{MakesNone, held_in};
+ghost use Rattle.host_store.specs.Views.{SameView, state_of};
 
-use crate::store::Store;
-use crate::view::WasiSocketsCtxView;
+use host_store::{Store, WasiSocketsCtxView};
 use std::alloc::AllocError;
 use wasi_jobs::{HostJob, JobList, Listed};
 use wasi_records::{Lookup, OpenUdp, RecordId, RecordList, SlotKey, TcpRecord, find_mut_in};
@@ -164,45 +157,15 @@ fn turn_jobs<W: World>(
     Ok(())
 }
 
-/// Keeps the job that was added last where `begins` is true, and takes it out else.
-pub(crate) fn keep_job(jobs: &mut JobList, begins: bool)
-    ensures { (before : List HostJob) (job : HostJob) → jobs.old.items ≡ before ++ job ∷ []
-        → jobs.new.items ≡ jobs_with before job begins }
+/// Polls each job once, in the order of making, and takes out those that are over.
+pub(crate) fn turn_store<W: World>(store: &mut Store, world: &mut W) -> Result<(), AllocError>
+    requires { (W.seen world.old).ended ≡ false }
+    ensures asked { AsksFor (turn_store_asks store.old) (W.seen world.old) (W.seen world.new)
+        (λ done. (done, store.new)) result }
+    ensures sides { KnowsSides (W.seen world.old) store.old
+        → KnowsSides (W.seen world.new) store.new }
 {
-    if !begins {
-        jobs.withdraw();
-    }
-}
-
-impl Store {
-    /// Polls each job once, in the order of making, and takes out those that are over.
-    pub(crate) fn turn<W: World>(&mut self, world: &mut W) -> Result<(), AllocError>
-        requires { (W.seen world.old).ended ≡ false }
-        ensures asked { AsksFor (turn_store_asks self.old) (W.seen world.old) (W.seen world.new)
-            (λ done. (done, self.new)) result }
-        ensures sides { KnowsSides (W.seen world.old) self.old
-            → KnowsSides (W.seen world.new) self.new }
-    {
-        turn_jobs(&mut self.records, world, &mut self.jobs)
-    }
-
-    /// Takes the receives of this record out of the jobs.
-    pub(crate) fn forget_receives(&mut self, place: RecordId)
-        ensures { self.new ≡ record self.old { jobs = other_than_receive place self.old.jobs } }
-    {
-        self.jobs.forget_receives(place);
-    }
-
-    /// Gives back the record with this number, to which nothing refers any more, and takes its jobs
-    /// out.
-    pub(crate) fn give_back(&mut self, place: RecordId)
-        ensures state { self.new ≡ given_back place self.old }
-        ensures sides { (s : Seen) → held_by (item_at self.old.records place) ≡ no_socket
-            → KnowsSides s self.old → KnowsSides s self.new }
-    {
-        self.records.give_back(place);
-        self.jobs.forget(place);
-    }
+    turn_jobs(&mut store.records, world, &mut store.jobs)
 }
 
 /// Lets the host's background work go on: polls each job once, in the order of making. It begins no
@@ -215,5 +178,5 @@ pub fn turn<W: World>(view: &mut WasiSocketsCtxView<'_>, world: &mut W) -> Resul
         → KnowsSides (W.seen world.new) view.new.store.now }
     ensures view { SameView view.old view.new }
 {
-    view.store.turn(world)
+    turn_store(view.store, world)
 }

@@ -1,38 +1,34 @@
 //! Pending calls, and how they continue.
 
-ghost use Rattle.std.specs.Prelude.{◌≡◌, IfNone, IsSome, None, OnErr, Ok, false};
+ghost use Rattle.std.specs.Prelude.{◌≡◌, None, OnErr, Ok, false};
 ghost use Rattle.wasi_world.specs.Asks.{AsksFor};
-ghost use Rattle.wasi_records.specs.Records.{tcp2_at};
 ghost use Rattle.wasi_records.specs.Stops.{host_outcome};
-ghost use Rattle.wasi_host.specs.Pending.{outcome_of, handle_outcome, pair_outcome, places_outcome};
-ghost use Rattle.wasi_host.specs.Pending.{relisten_at, stop_told, blocked_told};
-ghost use Rattle.wasi_host.specs.Pending.{nothing_given, unblock_asks, go_on, resume_asks};
-ghost use Rattle.wasi_host.specs.Pending.{resume_beside, datagram_outcome};
-ghost use Rattle.wasi_host.specs.SocketDatagrams.{is_datagram_in};
-ghost use Rattle.wasi_host.specs.Pending.{refused_as, answered_told, resolved_told};
-ghost use Rattle.wasi_host.specs.BaseStops.{ends_as};
-ghost use Rattle.wasi_host.specs.declared.kind.Interface.TheVariants.{P3};
-ghost use Rattle.wasi_host.specs.Beside.{beside_of};
-ghost use Rattle.wasi_host.specs.KnownSides.{KnowsSides};
-ghost use Rattle.wasi_host.specs.Standing.{call_of, unstood};
-ghost use Rattle.wasi_host.specs.Views.{SameView, state_of};
+ghost use Rattle.wasi_host.specs.Pending.{outcome_of, handle_outcome, pair_outcome, places_outcome, stop_told, blocked_told, nothing_given, unblock_asks, go_on, resume_asks, resume_beside, datagram_outcome, refused_as, answered_told, resolved_told};
+ghost use Rattle.host_udp.specs.SocketDatagrams.{is_datagram_in};
+ghost use Rattle.host_store.specs.BaseStops.{ends_as};
+ghost use Rattle.host_store.specs.declared.kind.Interface.TheVariants.{P3};
+ghost use Rattle.host_store.specs.Beside.{beside_of};
+ghost use Rattle.host_store.specs.KnownSides.{KnowsSides};
+ghost use Rattle.host_store.specs.Standing.{call_of};
+ghost use Rattle.host_store.specs.Views.{SameView, state_of};
 
-use crate::beside::BesideCall;
-use crate::blocking::{
-    BlockingCall, blocking_flush, blocking_read, blocking_skip, blocking_splice, finish_rest,
-    write_rest,
-};
-use crate::error::{CallError, LookupError, StoreError};
-use crate::kind::Interface;
 use crate::polling::{Look, block_by, poll_by};
-use crate::store::{Standing, StandingCall, Store};
-use crate::view::WasiSocketsCtxView;
+use host_lookups::reresolve_host;
+use host_store::{
+    BesideCall, BlockingCall, CallError, Interface, LookupError, StandingCall, StoreError,
+    WasiSocketsCtxView,
+};
+use host_streams::{
+    blocking_flush, blocking_read, blocking_skip, blocking_splice, finish_rest, write_rest,
+};
+use host_tcp::{drop_output, reconnect_tcp, relisten, relisten_tcp, tcp_rebind};
+use host_udp::{
+    create_on, drop_outgoing, rebind_udp, reconnect_udp, remake_streams, rereceive, resend,
+};
 use std::alloc::Global;
 use wasi_addr::{ErrorCode, lookup, p2, p3};
-use wasi_records::{RecordId, SocketError, TcpRecord, find_mut};
-use wasi_world::{
-    Answer, Handle, Ids, IncomingDatagram, IpList, NumberList, Octets, TrapKind, World,
-};
+use wasi_records::{RecordId, SocketError};
+use wasi_world::{Answer, Handle, Ids, IncomingDatagram, IpList, NumberList, Octets, World};
 
 /// What a pending call gives once it is polled: its value, or the error of a call of a stream.
 #[derive(Drop)]
@@ -112,53 +108,6 @@ impl Outcome {
             Answer::Ready(places) => Answer::Ready(Outcome::Places(places)),
             Answer::Pending => Answer::Pending,
         }
-    }
-}
-
-impl Store {
-    /// Takes the exclusive pending call out, if it has this number.
-    pub(crate) fn take(&mut self, line: u32) -> Option<Standing>
-        ensures taken { result ≡ call_of self.old.standing line }
-        ensures some { IsSome result → self.new ≡ unstood self.old }
-        ensures none { IfNone result (self.new ≡ self.old) }
-    {
-        if !self.is_exclusive(line) {
-            return None;
-        }
-        self.standing.take()
-    }
-
-    /// From here on no exclusive call is pending.
-    fn forget_call(&mut self)
-        ensures { self.new ≡ unstood self.old }
-    {
-        self.standing = None;
-    }
-
-    /// Polls the listen of the TCP socket with this record number. If it is still pending it is
-    /// stored again.
-    fn relisten<W: World>(
-        &mut self,
-        world: &mut W,
-        ids: Ids,
-        place: RecordId,
-    ) -> Result<Answer<()>, SocketError>
-        requires { (W.seen world.old).ended ≡ false }
-        ensures asked { AsksFor (relisten_at self.old ids place (tcp2_at self.old.records place))
-            (W.seen world.old) (W.seen world.new) (λ answer. (answer, self.new))
-            (host_outcome result) }
-        ensures sides { KnowsSides (W.seen world.old) self.old
-            → KnowsSides (W.seen world.new) self.new }
-    {
-        let Some(record) = find_mut::<TcpRecord>(&mut self.records, place) else {
-            return Err(SocketError::Trap(TrapKind::NoSuchHandle));
-        };
-        let answer = record.poll_listen(world)?;
-        let call = StandingCall::Listen {
-            socket: place,
-            handle: None,
-        };
-        Ok(self.stand(ids, call, answer))
     }
 }
 
@@ -340,12 +289,10 @@ fn go_on_listen<W: World>(
     ensures view { SameView view.old view.new }
 {
     let Some(handle) = handle else {
-        let answer = view.store.relisten(world, ids, socket)?;
+        let answer = relisten(view.store, world, ids, socket)?;
         return Ok(Outcome::of_nothing(answer));
     };
-    let listened = view
-        .store
-        .relisten_tcp(view.table, world, ids, socket, handle);
+    let listened = relisten_tcp(view.store, view.table, world, ids, socket, handle);
     of_handle(Interface::P3, listened)
 }
 
@@ -367,36 +314,32 @@ fn go_on<W: World>(
 {
     match call {
         StandingCall::Bind { socket, interface } => {
-            let bound = view.store.tcp_rebind(world, ids, socket, interface);
+            let bound = tcp_rebind(view.store, world, ids, socket, interface);
             of_start(interface, bound)
         }
         StandingCall::Listen { socket, handle } => go_on_listen(view, world, ids, socket, handle),
         StandingCall::DropOutput { socket } => {
-            let answer = view.store.drop_output(world, ids, socket)?;
+            let answer = drop_output(view.store, world, ids, socket)?;
             Ok(Outcome::of_nothing(answer))
         }
         StandingCall::UdpCreate { socket, interface } => {
-            let created = view
-                .store
-                .create_on(view.table, world, ids, socket, interface);
+            let created = create_on(view.store, view.table, world, ids, socket, interface);
             of_handle(interface, created)
         }
         StandingCall::UdpBind { socket, interface } => {
-            let bound = view.store.rebind_udp(world, ids, socket, interface);
+            let bound = rebind_udp(view.store, world, ids, socket, interface);
             of_start(interface, bound)
         }
         StandingCall::UdpConnect { socket, handle } => {
-            let answer = view
-                .store
-                .remake_streams(view.table, world, ids, socket, handle)?;
+            let answer = remake_streams(view.store, view.table, world, ids, socket, handle)?;
             Ok(Outcome::of_pair(answer))
         }
         StandingCall::UdpConnect3 { socket } => {
-            let connected = view.store.reconnect_udp(world, ids, socket);
+            let connected = reconnect_udp(view.store, world, ids, socket);
             of_start(Interface::P3, connected)
         }
         StandingCall::DropOutgoing { socket } => {
-            let answer = view.store.drop_outgoing(ids, socket);
+            let answer = drop_outgoing(view.store, ids, socket);
             Ok(Outcome::of_nothing(answer))
         }
         StandingCall::Blocking(call) => unblock(alloc, view, world, ids, call),
@@ -430,24 +373,24 @@ fn resume_beside<W: World>(
     match &beside.call {
         BesideCall::Connect { socket } => {
             let socket = *socket;
-            let connected = view.store.reconnect_tcp(world, line, socket);
+            let connected = reconnect_tcp(view.store, world, line, socket);
             let answer = of_start(Interface::P3, connected)?;
             Ok(Some(answer))
         }
         BesideCall::Resolve { host } => {
             let host = host.try_clone()?;
-            let answer = of_lookup(view.store.reresolve_host(world, line, host))?;
+            let answer = of_lookup(reresolve_host(view.store, world, line, host))?;
             Ok(Some(answer))
         }
         BesideCall::Send { socket, .. } => {
             let socket = *socket;
-            let sent = view.store.resend(world, line, socket);
+            let sent = resend(view.store, world, line, socket);
             let answer = of_start(Interface::P3, sent)?;
             Ok(Some(answer))
         }
         BesideCall::Receive { socket, .. } => {
             let socket = *socket;
-            let answer = of_received(view.store.rereceive(world, line, socket))?;
+            let answer = of_received(rereceive(view.store, world, line, socket))?;
             Ok(Some(answer))
         }
     }

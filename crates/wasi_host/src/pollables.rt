@@ -5,17 +5,16 @@ ghost use Rattle.wasi_world.specs.Asks.{AsksFor};
 ghost use Rattle.wasi_records.specs.Records.{tcp2_at};
 ghost use Rattle.wasi_records.specs.Listening.{TakesOne};
 ghost use Rattle.wasi_records.specs.Stops.{fault_outcome};
-ghost use Rattle.wasi_host.specs.Machine.{own_of, subscribe_asks, ready_asks, ids_after_ready};
-ghost use Rattle.wasi_host.specs.Machine.{watches_incoming, watched_side};
-ghost use Rattle.wasi_host.specs.Readiness.{ready_at, ready_ids_at, ready_record, ready_ids};
+ghost use Rattle.host_store.specs.Machine.{own_of};
+ghost use Rattle.wasi_host.specs.Pollables.{subscribe_asks, ready_asks, ids_after_ready, watches_incoming, watched_side};
+ghost use Rattle.host_store.specs.Readiness.{ready_at, ready_ids_at, ready_record, ready_ids};
 ghost use Rattle.wasi_records.specs.Sides.{Balances, no_socket};
-ghost use Rattle.wasi_host.specs.KnownSides.{KnowsSides};
-ghost use Rattle.wasi_host.specs.Views.{SameView, state_of, HostKept};
+ghost use Rattle.host_store.specs.KnownSides.{KnowsSides};
+ghost use Rattle.host_store.specs.Views.{SameView, state_of, HostKept};
 
-use crate::handles;
-use crate::kind::{Kind, Watched};
-use crate::store::Store;
-use crate::view::WasiSocketsCtxView;
+use host_lookups::lookup_ready;
+use host_store::{Kind, Store, WasiSocketsCtxView, Watched, handles};
+use host_udp::{incoming_ready, outgoing_ready, udp_side};
 use wasi_records::{TcpRecord, find_mut};
 use wasi_streams::{Fault, TrapKind};
 use wasi_world::{Handle, Ids, Sock, World};
@@ -48,44 +47,42 @@ fn poll_ready<W: World>(
     }
 }
 
-impl Store {
-    /// The network socket of what is watched.
-    fn watched_side(&self, watched: Watched) -> Option<Sock>
-        ensures { result ≡ watched_side self.now watched }
-    {
-        match watched {
-            Watched::Udp(place) | Watched::Incoming(place) | Watched::Outgoing(place) => {
-                self.udp_side(place)
-            }
-            Watched::Socket(place) | Watched::Input(place) | Watched::Output(place) => {
-                self.side(place)
-            }
-            Watched::Lookup(_) | Watched::Plain => None,
+/// The network socket of what is watched.
+fn watched_side(store: &Store, watched: Watched) -> Option<Sock>
+    ensures { result ≡ watched_side store.now watched }
+{
+    match watched {
+        Watched::Udp(place) | Watched::Incoming(place) | Watched::Outgoing(place) => {
+            udp_side(store, place)
         }
+        Watched::Socket(place) | Watched::Input(place) | Watched::Output(place) => {
+            store.side(place)
+        }
+        Watched::Lookup(_) | Watched::Plain => None,
     }
+}
 
-    /// Looks once at what a pollable watches of the TCP socket with this record number.
-    pub(crate) fn poll_ready<W: World>(
-        &mut self,
-        world: &mut W,
-        ids: &mut Ids,
-        watched: Watched,
-        place: usize,
-    ) -> Result<bool, Fault>
-        requires open { (W.seen world.old).ended ≡ false }
-        requires names { ids.old.next_part + 1 < 2 ^ 64 }
-        ensures asked { AsksFor (ready_at self.old (own_of ids.old.line) ids.old watched place
-            (tcp2_at self.old.records place)) (W.seen world.old) (W.seen world.new)
-            (λ ready. (ready, self.new)) (fault_outcome result) }
-        ensures sides { KnowsSides (W.seen world.old) self.old
-            → KnowsSides (W.seen world.new) self.new }
-        ensures ids { ids.new ≡ ready_ids_at ids.old watched (tcp2_at self.old.records place) }
-    {
-        let Some(record) = find_mut::<TcpRecord>(&mut self.records, place) else {
-            return Err(Fault::Trap(TrapKind::NoSuchHandle));
-        };
-        poll_ready(record, world, ids, watched)
-    }
+/// Looks once at what a pollable watches of the TCP socket with this record number.
+pub(crate) fn poll_watched<W: World>(
+    store: &mut Store,
+    world: &mut W,
+    ids: &mut Ids,
+    watched: Watched,
+    place: usize,
+) -> Result<bool, Fault>
+    requires open { (W.seen world.old).ended ≡ false }
+    requires names { ids.old.next_part + 1 < 2 ^ 64 }
+    ensures asked { AsksFor (ready_at store.old (own_of ids.old.line) ids.old watched place
+        (tcp2_at store.old.records place)) (W.seen world.old) (W.seen world.new)
+        (λ ready. (ready, store.new)) (fault_outcome result) }
+    ensures sides { KnowsSides (W.seen world.old) store.old
+        → KnowsSides (W.seen world.new) store.new }
+    ensures ids { ids.new ≡ ready_ids_at ids.old watched (tcp2_at store.old.records place) }
+{
+    let Some(record) = find_mut::<TcpRecord>(&mut store.records, place) else {
+        return Err(Fault::Trap(TrapKind::NoSuchHandle));
+    };
+    poll_ready(record, world, ids, watched)
 }
 
 /// Makes a pollable for a socket, a stream or a lookup, as its child in the table (`subscribe`).
@@ -103,7 +100,7 @@ pub fn subscribe<W: World>(
         (W.seen world.new) }
 {
     let watched = handles::watched(view.table, this)?;
-    let side = view.store.watched_side(watched);
+    let side = watched_side(view.store, watched);
     let kind = Kind::Pollable(watched);
     handles::make(view.table, world, ids.own(), kind, Some(this), side)
 }
@@ -142,11 +139,11 @@ pub fn ready<W: World>(
     let watched = handles::watch(view.table, pollable)?;
     match watched {
         Watched::Udp(_) | Watched::Plain => Ok(true),
-        Watched::Incoming(place) => view.store.incoming_ready(world, ids, place),
-        Watched::Outgoing(place) => Ok(view.store.outgoing_ready(place)),
-        Watched::Lookup(place) => Ok(view.store.lookup_ready(place)),
+        Watched::Incoming(place) => incoming_ready(view.store, world, ids, place),
+        Watched::Outgoing(place) => Ok(outgoing_ready(view.store, place)),
+        Watched::Lookup(place) => Ok(lookup_ready(view.store, place)),
         Watched::Socket(place) | Watched::Input(place) | Watched::Output(place) => {
-            view.store.poll_ready(world, ids, watched, place)
+            poll_watched(view.store, world, ids, watched, place)
         }
     }
 }

@@ -1,24 +1,17 @@
 //! Waiting for pollables (`wasi:io/poll`). A call that finds none of them ready is pending, and
 //! looks again when it is [resumed](crate::resume).
 
-ghost use Rattle.std.specs.Prelude.{◌≡◌, ◌+◌, ◌<◌, ◌^◌, false, true, length, IfOk, OnOk, OnErr, []};
-ghost use Rattle.std.specs.Prelude.{◌∷◌, ◌++◌, ◌≤◌};
+ghost use Rattle.std.specs.Prelude.{◌≡◌, ◌+◌, ◌<◌, ◌^◌, false, true, length, IfOk, OnOk, OnErr, [], ◌∷◌, ◌++◌, ◌≤◌};
 ghost use Rattle.wasi_world.specs.Asks.{AsksFor};
 ghost use Rattle.wasi_world.specs.Seen.{Seen};
 ghost use Rattle.wasi_records.specs.Stops.{fault_outcome};
 ghost use Rattle.wasi_records.specs.Listening.{TakesOne};
-ghost use Rattle.wasi_host.specs.Polling.{begins_on, look_at_pollable, ids_after_look, found_of};
-ghost use Rattle.wasi_host.specs.Polling.{is_ready, look_each, ready_places, poll_by, pollables_in};
-ghost use Rattle.wasi_host.specs.Polling.{poll_asks, block_by, blocked_answer, blocked_store};
-ghost use Rattle.wasi_host.specs.KnownSides.{KnowsSides};
-ghost use Rattle.wasi_host.specs.Views.{SameView, state_of};
+ghost use Rattle.wasi_host.specs.Polling.{begins_on, look_at_pollable, ids_after_look, found_of, is_ready, look_each, ready_places, poll_by, pollables_in, poll_asks, block_by, blocked_answer, blocked_store};
+ghost use Rattle.host_store.specs.KnownSides.{KnowsSides};
+ghost use Rattle.host_store.specs.Views.{SameView, state_of};
 
-use crate::blocking::BlockingCall;
-use crate::handles;
-use crate::kind::{Kind, Watched};
 use crate::pollables::ready;
-use crate::store::Store;
-use crate::view::WasiSocketsCtxView;
+use host_store::{BlockingCall, Kind, Store, WasiSocketsCtxView, Watched, handles};
 use std::alloc::{AllocError, Global};
 use std::collections::BTreeMap;
 use std::marker::Model;
@@ -111,40 +104,38 @@ impl Found {
     }
 }
 
-impl Store {
-    /// Whether a look at what is watched would begin an accept or a receive.
-    fn would_begin(&self, watched: Watched) -> bool
-        ensures { result ≡ begins_on self.now (Some watched) }
-    {
-        match watched {
-            Watched::Socket(place) => match find::<TcpRecord>(&self.records, place) {
-                Some(record) => record.would_accept(),
-                None => false,
-            },
-            Watched::Incoming(place) => match find::<OpenUdp>(&self.records, place) {
-                Some(socket) => socket.would_receive(),
-                None => false,
-            },
-            Watched::Input(_)
-            | Watched::Output(_)
-            | Watched::Udp(_)
-            | Watched::Outgoing(_)
-            | Watched::Lookup(_)
-            | Watched::Plain => false,
-        }
+/// Whether a look at what is watched would begin an accept or a receive.
+fn would_begin(store: &Store, watched: Watched) -> bool
+    ensures { result ≡ begins_on store.now (Some watched) }
+{
+    match watched {
+        Watched::Socket(place) => match find::<TcpRecord>(&store.records, place) {
+            Some(record) => record.would_accept(),
+            None => false,
+        },
+        Watched::Incoming(place) => match find::<OpenUdp>(&store.records, place) {
+            Some(socket) => socket.would_receive(),
+            None => false,
+        },
+        Watched::Input(_)
+        | Watched::Output(_)
+        | Watched::Udp(_)
+        | Watched::Outgoing(_)
+        | Watched::Lookup(_)
+        | Watched::Plain => false,
     }
+}
 
-    /// Answers a wait for one pollable after a look at it: ready, or the call is stored as pending.
-    fn block_unless(&mut self, ids: Ids, pollable: Handle, ready: bool) -> Answer<()>
-        ensures answer { result ≡ blocked_answer ready }
-        ensures state { self.new ≡ blocked_store self.old ids pollable ready }
-        ensures sides { (s : Seen) → KnowsSides s self.old → KnowsSides s self.new }
-    {
-        if ready {
-            return Answer::Ready(());
-        }
-        self.block_as(ids, BlockingCall::Block { pollable })
+/// Answers a wait for one pollable after a look at it: ready, or the call is stored as pending.
+fn block_unless(store: &mut Store, ids: Ids, pollable: Handle, ready: bool) -> Answer<()>
+    ensures answer { result ≡ blocked_answer ready }
+    ensures state { store.new ≡ blocked_store store.old ids pollable ready }
+    ensures sides { (s : Seen) → KnowsSides s store.old → KnowsSides s store.new }
+{
+    if ready {
+        return Answer::Ready(());
     }
+    store.block_as(ids, BlockingCall::Block { pollable })
 }
 
 /// A look in a line that polls a call: what would begin an accept or a receive is ready.
@@ -164,7 +155,7 @@ fn look_again<W: World>(
     ensures view { SameView view.old view.new }
 {
     let watched = handles::watch(view.table, pollable)?;
-    if view.store.would_begin(watched) {
+    if would_begin(view.store, watched) {
         return Ok(true);
     }
     let mut ids = ids;
@@ -294,7 +285,7 @@ pub(crate) fn block_by<W: World>(
 {
     let names = *ids;
     let ready = look_at(view, world, ids, look, pollable)?;
-    Ok(view.store.block_unless(names, pollable, ready))
+    Ok(block_unless(view.store, names, pollable, ready))
 }
 
 /// Waits until a pollable is ready (`pollable.block`): looks at it once as [`ready`](crate::ready)

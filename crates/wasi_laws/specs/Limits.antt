@@ -1,8 +1,8 @@
 -- The bytes that the writers of a context are permitted or have still to write, beside its limit.
 use Rattle.std.specs.Prelude.{⊤, ℕ, ◌<◌, ◌≤◌, List, [], ◌∷◌, IfSome}
 use Rattle.wasi_records.specs.Used.{used}
-use Rattle.wasi_host.specs.Limits.{limit_in, limit_or}
-use Rattle.wasi_host.specs.Store.{Records}
+use Rattle.host_store.specs.Limits.{limit_in, limit_or}
+use Rattle.host_store.specs.Store.{Records}
 use Rattle.wasi_steps.specs.Steps.{context_of}
 use Rattle.wasi_steps.specs.declared.step.Step.{Step}
 

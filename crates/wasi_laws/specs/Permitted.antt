@@ -5,10 +5,10 @@ use Rattle.wasi_world.specs.declared.call.Entry.{Entry}
 use Rattle.wasi_world.specs.declared.outcome.WasiSocketsCtx.{WasiSocketsCtx}
 use Rattle.wasi_world.specs.Asks.{Asks, Left}
 use Rattle.wasi_streams.specs.Streams.{zeros}
-use Rattle.wasi_host.specs.declared.machine.Machine.{Machine}
-use Rattle.wasi_host.specs.declared.store.Standing.{Standing}
+use Rattle.host_store.specs.declared.machine.Machine.{Machine}
+use Rattle.host_store.specs.declared.store.Standing.{Standing}
 use Rattle.wasi_records.specs.Names.{own_of}
-use Rattle.wasi_host.specs.Standing.{call_of}
+use Rattle.host_store.specs.Standing.{call_of}
 use Rattle.wasi_steps.specs.declared.reply.Reply.{Reply}
 use Rattle.wasi_steps.specs.declared.step.Step.{Step}
 use Rattle.wasi_steps.specs.declared.guest_call.GuestCall.TheVariants as guest

@@ -16,7 +16,7 @@ ghost use Rattle.wasi_world.specs.declared.outcome.WasiSocketsCtx.{WasiSocketsCt
 ghost use Rattle.wasi_world.specs.Asks.{Asks, Give, Left};
 ghost use Rattle.wasi_world.specs.Operation.{Item, End, Operation};
 ghost use Rattle.wasi_tcp.specs.Taken.{taken_in, IsFrontOf};
-ghost use Rattle.wasi_host.specs.declared.machine.Machine.{Machine};
+ghost use Rattle.host_store.specs.declared.machine.Machine.{Machine};
 ghost use Rattle.wasi_steps.specs.declared.reply.Reply.{Reply};
 ghost use Rattle.wasi_steps.specs.declared.step.Step.{Step};
 ghost use Rattle.wasi_steps.specs.declared.reply.Reply.TheVariants as Reply;
@@ -24,7 +24,7 @@ ghost use Rattle.wasi_steps.specs.declared.guest_call.GuestCall.TheVariants as G
 ghost use Rattle.wasi_steps.specs.declared.step.Step.TheVariants as Step;
 ghost use Rattle.wasi_walks.specs.Answered.{Answered};
 ghost use Rattle.wasi_walks.specs.Licence.{Has, entry};
-ghost use Rattle.wasi_host.specs.Machine.{first_state};
+ghost use Rattle.host_store.specs.Machine.{first_state};
 ghost use Rattle.wasi_machine.specs.Machine.{machine_asks, run};
 ghost use Rattle.wasi_laws.specs.Opened.{socket_of, AsksOpenSockets};
 ghost use Rattle.wasi_laws.specs.Order.{IsOutward, ChecksFirst, HasGone, NoCheckLeft};

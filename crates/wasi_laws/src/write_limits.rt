@@ -7,9 +7,9 @@ ghost use Rattle.wasi_world.specs.declared.outcome.WasiSocketsCtx.{WasiSocketsCt
 ghost use Rattle.wasi_world.specs.Asks.{Give, Left};
 ghost use Rattle.wasi_world.specs.Contexts.{AreNumbered};
 ghost use Rattle.wasi_records.specs.Used.{used};
-ghost use Rattle.wasi_host.specs.declared.machine.Machine.{Machine};
-ghost use Rattle.wasi_host.specs.Limits.{limit_in, limit_or};
-ghost use Rattle.wasi_host.specs.Machine.{first_state};
+ghost use Rattle.host_store.specs.declared.machine.Machine.{Machine};
+ghost use Rattle.host_store.specs.Limits.{limit_in, limit_or};
+ghost use Rattle.host_store.specs.Machine.{first_state};
 ghost use Rattle.wasi_machine.specs.Machine.{run};
 ghost use Rattle.wasi_steps.specs.declared.reply.Reply.{Reply};
 ghost use Rattle.wasi_steps.specs.declared.step.Step.{Step};

@@ -3,7 +3,7 @@ use Rattle.std.proofs.Common.{◌≡◌, refl, sym, ap, subst, ◌∙◌, Bool, 
 use Rattle.wasi_world.specs.declared.outcome.WasiSocketsCtx.{WasiSocketsCtx}
 use Rattle.wasi_world.specs.Asks.{Asks, Give}
 unfoldable use Rattle.wasi_world.specs.Asks.{bind}
-use Rattle.wasi_host.specs.declared.machine.Machine.{Machine}
+use Rattle.host_store.specs.declared.machine.Machine.{Machine}
 use Rattle.wasi_steps.specs.declared.reply.Reply.{Reply}
 use Rattle.wasi_steps.specs.declared.reply.Reply.TheVariants as reply
 use Rattle.wasi_steps.specs.declared.step.Step.{Step}
@@ -14,7 +14,7 @@ use Rattle.wasi_limits.specs.Runs.{EndsInTrap, IsRunBut, IsTcpScript, Kept, Leav
 use Rattle.wasi_limits.specs.Contexts.{LikeContexts}
 use Rattle.wasi_limits.proofs.Runs.{runs_alike}
 use Rattle.wasi_limits.proofs.Together.{after_both}
-use Rattle.wasi_host.specs.Machine.{first_state}
+use Rattle.host_store.specs.Machine.{first_state}
 use Rattle.wasi_steps.specs.Reply.{no_fields}
 
 one_left_out : (b : Bool) (r : Reply) → LeavesOut (r ∷ []) (without_number b r ∷ [])

@@ -7,10 +7,10 @@ unfoldable use Rattle.wasi_world.specs.Asks.{bind}
 use Rattle.wasi_world.specs.Typed.{ask_made}
 use Rattle.wasi_table.specs.Table.{Live, is_full, value_at, without}
 use Rattle.wasi_records.specs.Stops.{Stop, Trap}
-use Rattle.wasi_host.specs.declared.kind.Kind.{Kind}
-use Rattle.wasi_host.specs.declared.machine.Machine.{Machine}
-use Rattle.wasi_host.specs.Kinds.{HandleTable, make_asks, name_of, with_handle}
-use Rattle.wasi_host.specs.Machine.{with_table}
+use Rattle.host_store.specs.declared.kind.Kind.{Kind}
+use Rattle.host_store.specs.declared.machine.Machine.{Machine}
+use Rattle.host_store.specs.Kinds.{HandleTable, make_asks, name_of, with_handle}
+use Rattle.host_store.specs.Machine.{with_table}
 use Rattle.wasi_limits.specs.Alike.{BothGive, Same}
 use Rattle.wasi_limits.proofs.Like.{AllTcp, IsTcpKind, LikeMachine, Machines, With, Also}
 use Rattle.wasi_limits.proofs.Together.{both_give}

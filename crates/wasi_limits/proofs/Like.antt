@@ -9,16 +9,16 @@ use Rattle.wasi_records.specs.declared.records.Record.TheVariants.{Tcp}
 use Rattle.wasi_records.specs.declared.socket.Streams.{Streams}
 use Rattle.wasi_records.specs.declared.socket.TcpRecord.{TcpRecord}
 use Rattle.wasi_records.specs.Halves.{with_writer}
-use Rattle.wasi_host.specs.declared.machine.Machine.{Machine}
-use Rattle.wasi_host.specs.declared.limits.Limit.{Limit}
+use Rattle.host_store.specs.declared.machine.Machine.{Machine}
+use Rattle.host_store.specs.declared.limits.Limit.{Limit}
 use Rattle.wasi_table.specs.Table.{Live}
-use Rattle.wasi_host.specs.declared.kind.Interface.TheVariants.{P2}
-use Rattle.wasi_host.specs.declared.kind.Kind.{Kind}
-use Rattle.wasi_host.specs.declared.kind.Watched.{Watched}
-use Rattle.wasi_host.specs.declared.store.Standing.{Standing}
-use Rattle.wasi_host.specs.declared.store.StandingCall.{StandingCall}
-use Rattle.wasi_host.specs.Kinds.{HandleTable}
-use Rattle.wasi_host.specs.Store.{Records}
+use Rattle.host_store.specs.declared.kind.Interface.TheVariants.{P2}
+use Rattle.host_store.specs.declared.kind.Kind.{Kind}
+use Rattle.host_store.specs.declared.kind.Watched.{Watched}
+use Rattle.host_store.specs.declared.store.Standing.{Standing}
+use Rattle.host_store.specs.declared.store.StandingCall.{StandingCall}
+use Rattle.host_store.specs.Kinds.{HandleTable}
+use Rattle.host_store.specs.Store.{Records}
 use Rattle.wasi_limits.specs.Contexts.{SameBut}
 
 -- the same but for the permit of a writer that this context's limit is for

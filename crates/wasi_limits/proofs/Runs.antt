@@ -3,9 +3,9 @@ use Rattle.std.proofs.Common.{◌≡◌, refl, ap, subst, Bool, true, false, if�
 use Rattle.wasi_world.specs.declared.outcome.WasiSocketsCtx.{WasiSocketsCtx}
 use Rattle.wasi_world.specs.Asks.{Asks, Give}
 unfoldable use Rattle.wasi_world.specs.Asks.{bind}
-use Rattle.wasi_host.specs.declared.machine.Machine.{Machine}
-use Rattle.wasi_host.specs.declared.store.Standing.{Standing}
-use Rattle.wasi_host.specs.Machine.{first_state}
+use Rattle.host_store.specs.declared.machine.Machine.{Machine}
+use Rattle.host_store.specs.declared.store.Standing.{Standing}
+use Rattle.host_store.specs.Machine.{first_state}
 use Rattle.wasi_steps.specs.declared.reply.Reply.{Reply}
 use Rattle.wasi_steps.specs.declared.reply.Reply.TheVariants as reply
 use Rattle.wasi_steps.specs.declared.guest_call.GuestCall.TheVariants as guest
@@ -18,8 +18,8 @@ use Rattle.wasi_limits.specs.Alike.{Alike, BothGive, OneStops, OtherStops, Stops
 use Rattle.wasi_limits.specs.Contexts.{LikeContext, LikeContexts, MoreContexts, NoContexts, OtherLimit}
 use Rattle.wasi_limits.proofs.Like.{LikeMachine, Machines, LikeStore, Stores, NoRecords, NoLimits, LikeFound, NoneFound, BothFound, SameSocket, OtherPermit}
 use Rattle.wasi_records.specs.declared.socket.TcpRecord.{TcpRecord}
-use Rattle.wasi_host.specs.Kinds.{HandleTable, kind_at, output_of}
-use Rattle.wasi_host.specs.Store.{Records}
+use Rattle.host_store.specs.Kinds.{HandleTable, kind_at, output_of}
+use Rattle.host_store.specs.Store.{Records}
 use Rattle.wasi_limits.proofs.Stores.{found_like}
 use Rattle.wasi_limits.specs.Runs.{is_made_by, is_writer_of, EndsInTrap, IsTcpScript, IsTcpStep, SameReplies, Trapped, checks_writer_of, run_but, without_number}
 use Rattle.wasi_limits.proofs.Together.{alike_then}

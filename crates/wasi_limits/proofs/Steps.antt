@@ -25,30 +25,34 @@ use Rattle.wasi_records.specs.Names.{first_ids, own_of}
 use Rattle.wasi_records.specs.Records.{tcp2_at}
 use Rattle.wasi_records.specs.Sockets.{new_record}
 use Rattle.wasi_records.specs.Stops.{Stop, Trap}
-use Rattle.wasi_host.specs.BaseStops.{BaseStop}
-use Rattle.wasi_host.specs.CallStops.{CallStop, Closed, Failed, Traps as CallTraps}
-use Rattle.wasi_host.specs.Kinds.{HandleTable, has_no_child, is_network, kind_at, make_asks, plain_input_of, plain_output_of, taken_out, watch_of, watched_by, without_handle, input_of, output_of}
-use Rattle.wasi_host.specs.Machine.{at_once, create_asks, create_handle, created_asks, drop_asks, drop_kind, drop_taken, output_at, ready_asks, ready_on, side_at, socket_at, subscribe_asks, subscribe_on, turn_machine_asks, with_room, with_store, with_table, answered}
+use Rattle.host_store.specs.BaseStops.{BaseStop}
+use Rattle.host_store.specs.CallStops.{CallStop, Closed, Failed, Traps as CallTraps}
+use Rattle.host_store.specs.Kinds.{HandleTable, has_no_child, is_network, kind_at, make_asks, plain_input_of, plain_output_of, taken_out, watch_of, watched_by, without_handle, input_of, output_of}
+use Rattle.wasi_host.specs.HandleDrops.{at_once, drop_asks, drop_kind, drop_taken, answered}
+use Rattle.host_tcp.specs.Creates.{create_asks, create_handle, created_asks, with_room}
+use Rattle.host_store.specs.Machine.{output_at, side_at, socket_at, with_store, with_table}
+use Rattle.wasi_host.specs.Pollables.{ready_asks, ready_on, subscribe_asks, subscribe_on}
+use Rattle.wasi_host.specs.Turns.{turn_machine_asks}
 use Rattle.wasi_addr.specs.declared.p2.ErrorCode.{ErrorCode as P2Code}
-use Rattle.wasi_host.specs.Block.{Does, Read, after_call, give, last, or_trap, ◌>>=◌, ◌>>◌}
-use Rattle.wasi_host.specs.Lines.{finish_connect_of, in_store, makes, on_tcp, same_stop, storing, tabling, tcp_in, told_of}
-use Rattle.wasi_host.specs.declared.kind.Interface.TheVariants.{P2, P3}
+use Rattle.host_store.specs.Block.{Does, Read, after_call, give, last, or_trap, ◌>>=◌, ◌>>◌}
+use Rattle.host_store.specs.Lines.{finish_connect_of, in_store, makes, on_tcp, same_stop, storing, tabling, tcp_in, told_of}
+use Rattle.host_store.specs.declared.kind.Interface.TheVariants.{P2, P3}
 use Rattle.wasi_records.specs.Sockets.{tell_local_asks, tell_remote_asks}
 use Rattle.wasi_tcp.specs.Addresses.{is_listening as listens}
 use Rattle.wasi_host.specs.Pending.{answered_on, go_on, gone_on, outcome_of, resume_asks, resume_call, resumed}
-use Rattle.wasi_host.specs.Standing.{allowed_answer, call_of, unstood}
-use Rattle.wasi_host.specs.Store.{Records, with_record}
-use Rattle.wasi_host.specs.StreamCalls.{check_asks, check_by, flush_by, flushed_asks, read_asks, read_by, write_asks, write_by}
-use Rattle.wasi_host.specs.declared.kind.Kind.{Kind}
-use Rattle.wasi_host.specs.declared.kind.Kind.TheVariants as kind
-use Rattle.wasi_host.specs.declared.kind.PlainInput.{PlainInput}
-use Rattle.wasi_host.specs.declared.kind.PlainOutput.{PlainOutput}
-use Rattle.wasi_host.specs.declared.kind.Watched.TheVariants as watched
-use Rattle.wasi_host.specs.declared.machine.Machine.{Machine}
+use Rattle.host_store.specs.Standing.{allowed_answer, call_of, unstood}
+use Rattle.host_store.specs.Store.{Records, with_record}
+use Rattle.host_streams.specs.StreamCalls.{check_asks, check_by, flush_by, flushed_asks, read_asks, read_by, write_asks, write_by}
+use Rattle.host_store.specs.declared.kind.Kind.{Kind}
+use Rattle.host_store.specs.declared.kind.Kind.TheVariants as kind
+use Rattle.host_store.specs.declared.kind.PlainInput.{PlainInput}
+use Rattle.host_store.specs.declared.kind.PlainOutput.{PlainOutput}
+use Rattle.host_store.specs.declared.kind.Watched.TheVariants as watched
+use Rattle.host_store.specs.declared.machine.Machine.{Machine}
 use Rattle.wasi_host.specs.declared.pending.Outcome.{Outcome}
-use Rattle.wasi_host.specs.declared.store.Standing.{Standing}
-use Rattle.wasi_host.specs.declared.store.StandingCall.{StandingCall}
-use Rattle.wasi_host.specs.declared.store.StandingCall.TheVariants as standing
+use Rattle.host_store.specs.declared.store.Standing.{Standing}
+use Rattle.host_store.specs.declared.store.StandingCall.{StandingCall}
+use Rattle.host_store.specs.declared.store.StandingCall.TheVariants as standing
 use Rattle.wasi_p2.specs.Tcp.{accept_on, accepted_asks, accepted_handles, accepted_streams, finish_on, make_streams, network_asks, shutdown_on, socket_with_streams, start_bind_asks, start_bind_on, start_connect_asks, start_connect_on, start_listen_on}
 use Rattle.wasi_steps.specs.declared.reply.Field.{Field}
 use Rattle.wasi_steps.specs.declared.reply.Reply.{Reply}

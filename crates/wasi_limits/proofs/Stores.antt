@@ -28,24 +28,25 @@ use Rattle.wasi_records.specs.Receiving.{turn_incoming}
 use Rattle.wasi_records.specs.Records.{tcp2_at, tcp2_put, tcp2_pushed, open_at, open_of, udp2_of, lookup_at, lookup_of}
 use Rattle.wasi_records.specs.Sockets.{with_progress}
 use Rattle.wasi_records.specs.Stops.{Code, Stop, code_stop}
-use Rattle.wasi_host.specs.declared.store.StandingCall.{StandingCall}
-use Rattle.wasi_host.specs.declared.store.StandingCall.TheVariants as standing
-use Rattle.wasi_host.specs.Dropping.{drop_output_at, drop_waits, release_at, released, wait_at}
-use Rattle.wasi_host.specs.GivingBack.{given_back, other_jobs}
-use Rattle.wasi_host.specs.Jobs.{after_turn, is_going, jobs_with, receives_on, sends_on, turn_at, turn_datagram_at, turn_job, turn_jobs, turn_receive_at, turn_store_asks}
-use Rattle.wasi_host.specs.Pending.{relisten_at}
-use Rattle.wasi_host.specs.Binds.{bind_told, keeps, rebind_of, rebinds}
-use Rattle.wasi_host.specs.Block.{Call, after_call, give, last, need, or_trap, ◌>>=◌, ◌>>◌}
-use Rattle.wasi_host.specs.Lines.{asked_of, done_by, finish_connect_of, on_tcp, same_stop, told_of}
-use Rattle.wasi_host.specs.declared.kind.Interface.TheVariants.{P2}
+use Rattle.host_store.specs.declared.store.StandingCall.{StandingCall}
+use Rattle.host_store.specs.declared.store.StandingCall.TheVariants as standing
+use Rattle.host_tcp.specs.Dropping.{drop_output_at, drop_waits, release_at, released, wait_at}
+use Rattle.host_store.specs.GivingBack.{given_back, other_jobs}
+use Rattle.host_store.specs.Jobs.{after_turn, is_going, jobs_with, receives_on, sends_on, turn_at, turn_datagram_at, turn_job, turn_jobs, turn_receive_at, turn_store_asks}
+use Rattle.host_tcp.specs.TcpCalls.{relisten_at}
+use Rattle.host_tcp.specs.Binds.{bind_told, rebind_of, rebinds}
+use Rattle.host_store.specs.Lines.{keeps}
+use Rattle.host_store.specs.Block.{Call, after_call, give, last, need, or_trap, ◌>>=◌, ◌>>◌}
+use Rattle.host_store.specs.Lines.{asked_of, done_by, finish_connect_of, on_tcp, same_stop, told_of}
+use Rattle.host_store.specs.declared.kind.Interface.TheVariants.{P2}
 use Rattle.wasi_addr.specs.declared.p2.ErrorCode.TheVariants.{NotInProgress}
 use Rattle.wasi_records.specs.Sockets.{poll_connect_asks}
-use Rattle.wasi_host.specs.Readiness.{ready_at, ready_record}
-use Rattle.wasi_host.specs.Standing.{call_answered, stood, standing_as, allowed_answer, call_place}
-use Rattle.wasi_host.specs.Store.{Records, put_back, with_record_put, with_socket}
-use Rattle.wasi_host.specs.TcpCalls.{accept_answered, accept_at, finish_at, finish_by, shutdown_at, start_bind_at, start_bind_by, start_connect_at, start_connect_by, start_listen_at, start_listen_by, with_records}
-use Rattle.wasi_host.specs.declared.kind.Watched.{Watched}
-use Rattle.wasi_host.specs.declared.kind.Watched.TheVariants as watched
+use Rattle.host_store.specs.Readiness.{ready_at, ready_record}
+use Rattle.host_store.specs.Standing.{call_answered, stood, standing_as, allowed_answer, call_place}
+use Rattle.host_store.specs.Store.{Records, put_back, with_record_put, with_socket}
+use Rattle.host_tcp.specs.TcpCalls.{accept_answered, accept_at, finish_at, finish_by, shutdown_at, start_bind_at, start_bind_by, start_connect_at, start_connect_by, start_listen_at, start_listen_by, with_records}
+use Rattle.host_store.specs.declared.kind.Watched.{Watched}
+use Rattle.host_store.specs.declared.kind.Watched.TheVariants as watched
 use Rattle.wasi_limits.specs.Alike.{Alike, BothGive, Same}
 use Rattle.wasi_limits.proofs.Like.{LikeSocket, SameSocket, OtherPermit, SameRecord, LikeTcp, LikeRecords, LikeFound, NoneFound, BothFound, LikeStore, Stores, IsTcpCall, With, Also}
 use Rattle.wasi_limits.proofs.Together.{same_then, both_give, same_give}

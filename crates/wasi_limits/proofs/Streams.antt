@@ -13,15 +13,15 @@ use Rattle.wasi_jobs.specs.declared.job.HostJob.TheVariants.{Write}
 use Rattle.wasi_records.specs.declared.socket.TcpRecord.{TcpRecord}
 use Rattle.wasi_records.specs.Halves.{begins_job, writer_asks}
 use Rattle.wasi_records.specs.Stops.{Stop}
-use Rattle.wasi_host.specs.declared.kind.Kind.TheVariants.{ErrorValue}
-use Rattle.wasi_host.specs.declared.machine.Machine.{Machine}
-use Rattle.wasi_host.specs.CallStops.{CallStop, Closed, Traps as CallTraps, Failed}
-use Rattle.wasi_host.specs.Jobs.{noted, with_job, write_at}
-use Rattle.wasi_host.specs.Kinds.{HandleTable}
-use Rattle.wasi_host.specs.Limits.{check_record, most_of}
-use Rattle.wasi_host.specs.Machine.{side_at, with_store, with_table}
-use Rattle.wasi_host.specs.Store.{Records, stream_at, with_record_put}
-use Rattle.wasi_host.specs.StreamCalls.{convert_asks, converted, failed_made, stopped, stream_on, write_on}
+use Rattle.host_store.specs.declared.kind.Kind.TheVariants.{ErrorValue}
+use Rattle.host_store.specs.declared.machine.Machine.{Machine}
+use Rattle.host_store.specs.CallStops.{CallStop, Closed, Traps as CallTraps, Failed}
+use Rattle.host_store.specs.Jobs.{noted, with_job, write_at}
+use Rattle.host_store.specs.Kinds.{HandleTable}
+use Rattle.host_store.specs.Limits.{check_record, most_of}
+use Rattle.host_store.specs.Machine.{side_at, with_store, with_table}
+use Rattle.host_store.specs.Store.{Records, stream_at, with_record_put}
+use Rattle.host_streams.specs.StreamCalls.{convert_asks, converted, failed_made, stopped, stream_on, write_on}
 use Rattle.wasi_limits.specs.Alike.{Alike, BothGive, Same, StopsAt, Stopped}
 use Rattle.wasi_limits.proofs.Like.{LikeSocket, SameSocket, OtherPermit, LikeFound, NoneFound, BothFound, LikeStore, Stores, LikeMachine, Machines, With, Also, Gives, GiveOk, GiveErr, Traps}
 use Rattle.wasi_limits.specs.Runs.{is_made_by, is_writer_of}

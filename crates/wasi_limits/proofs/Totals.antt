@@ -5,9 +5,9 @@ use Rattle.wasi_world.specs.declared.outcome.WasiSocketsCtx.{WasiSocketsCtx}
 use Rattle.wasi_records.specs.declared.records.Record.{Record}
 use Rattle.wasi_records.specs.declared.socket.TcpRecord.{TcpRecord}
 use Rattle.wasi_records.specs.Used.{used, used_in}
-use Rattle.wasi_host.specs.declared.limits.Limit.{Limit}
-use Rattle.wasi_host.specs.Limits.{limit_in, most_of, with_limit, with_limit_by}
-use Rattle.wasi_host.specs.Store.{Records}
+use Rattle.host_store.specs.declared.limits.Limit.{Limit}
+use Rattle.host_store.specs.Limits.{limit_in, most_of, with_limit, with_limit_by}
+use Rattle.host_store.specs.Store.{Records}
 use Rattle.wasi_limits.specs.Contexts.{SameBut, LikeContext, OtherLimit}
 use Rattle.wasi_limits.proofs.Like.{SameSocket, OtherPermit, LikeRecord, SameRecord, LikeTcp, LikeRecords, NoRecords, MoreRecords, LikeLimits, NoLimits, MoreLimits, LikeStore, Stores}
 

@@ -12,38 +12,42 @@ use Rattle.wasi_world.specs.declared.outcome.WasiSocketsCtx.{WasiSocketsCtx}
 use Rattle.wasi_world.specs.declared.call.Entry.{Entry}
 use Rattle.wasi_world.specs.Contexts.{default_context}
 use Rattle.wasi_world.specs.Asks.{Asks, Give, bind, Left}
-use Rattle.wasi_host.specs.declared.machine.Machine.{Machine}
+use Rattle.host_store.specs.declared.machine.Machine.{Machine}
 use Rattle.wasi_host.specs.declared.pending.Outcome.{Outcome}
 use Rattle.wasi_host.specs.declared.pending.Outcome.TheVariants.{Nothing, One, Two, Count, Bytes, Places}
 use Rattle.wasi_host.specs.declared.pending.Outcome.TheVariants as outcome
-use Rattle.wasi_host.specs.declared.store.Standing.{Standing}
+use Rattle.host_store.specs.declared.store.Standing.{Standing}
 use Rattle.wasi_records.specs.Stops.{Stop, StopOf, Code, Trap}
 use Rattle.wasi_records.specs.declared.slot.StreamResult.{StreamResult}
 use Rattle.wasi_records.specs.declared.slot.StreamResult.TheVariants.{Completed, Dropped, Cancelled}
-use Rattle.wasi_host.specs.CallStops.{CallStop, Failed, Closed, Traps}
-use Rattle.wasi_host.specs.Machine.{first_state, own_of, socket_at, udp_socket_at, incoming_at, outgoing_at, lookup_number, create_asks, subscribe_asks, ready_asks, drop_asks, turn_machine_asks}
-use Rattle.wasi_host.specs.declared.kind.Kind.TheVariants.{PlainInput, PlainOutput}
-use Rattle.wasi_host.specs.declared.kind.PlainInput.TheVariants as plain_input
-use Rattle.wasi_host.specs.declared.kind.PlainOutput.TheVariants as plain_output
-use Rattle.wasi_host.specs.PlainStreams.{input_pipe_asks, output_pipe_asks, plain_asks, contents_asks}
-use Rattle.wasi_host.specs.StreamCalls.{read_asks, skip_asks, check_asks, write_asks, write_zeroes_asks, flushed_asks, splice_asks}
-use Rattle.wasi_host.specs.Blocking.{blocking_read_asks, blocking_skip_asks, blocking_write_asks, blocking_zeroes_asks, blocking_flush_asks, blocking_splice_asks}
+use Rattle.host_store.specs.CallStops.{CallStop, Failed, Closed, Traps}
+use Rattle.host_store.specs.Machine.{first_state, own_of, socket_at, udp_socket_at, incoming_at, outgoing_at, lookup_number}
+use Rattle.host_tcp.specs.Creates.{create_asks}
+use Rattle.wasi_host.specs.Pollables.{subscribe_asks, ready_asks}
+use Rattle.wasi_host.specs.HandleDrops.{drop_asks}
+use Rattle.wasi_host.specs.Turns.{turn_machine_asks}
+use Rattle.host_store.specs.declared.kind.Kind.TheVariants.{PlainInput, PlainOutput}
+use Rattle.host_store.specs.declared.kind.PlainInput.TheVariants as plain_input
+use Rattle.host_store.specs.declared.kind.PlainOutput.TheVariants as plain_output
+use Rattle.host_streams.specs.PlainStreams.{input_pipe_asks, output_pipe_asks, plain_asks, contents_asks}
+use Rattle.host_streams.specs.StreamCalls.{read_asks, skip_asks, check_asks, write_asks, write_zeroes_asks, flushed_asks, splice_asks}
+use Rattle.host_streams.specs.Blocking.{blocking_read_asks, blocking_skip_asks, blocking_write_asks, blocking_zeroes_asks, blocking_flush_asks, blocking_splice_asks}
 use Rattle.wasi_host.specs.Cancel.{cancel_asks}
 pub use Rattle.wasi_records.specs.Names.{first_ids}
 use Rattle.wasi_records.specs.InProgress.{is_bind, is_listen}
 use Rattle.wasi_host.specs.Pending.{resume_asks}
 use Rattle.wasi_host.specs.Polling.{block_by, poll_asks}
-use Rattle.wasi_host.specs.Standing.{stands_as}
-use Rattle.wasi_host.specs.Store.{Records}
+use Rattle.host_store.specs.Standing.{stands_as}
+use Rattle.host_store.specs.Store.{Records}
 use Rattle.wasi_host.specs.declared.polling.Look.TheVariants.{First}
-use Rattle.wasi_host.specs.UdpCreates.{create_udp_asks}
+use Rattle.host_udp.specs.UdpCreates.{create_udp_asks}
 use Rattle.wasi_p2.specs.Tcp.{network_asks, start_bind_asks, finish_on, start_connect_asks, finish_connect, local_address, remote_address, is_listening, address_family, shutdown_on, start_listen_on, accept_asks}
 use Rattle.wasi_p2.specs.Options.{get_option_on, set_option_on, set_backlog_on}
 use Rattle.wasi_p2.specs.Lookup.{resolve_asks, next_address_on, error_code_on}
 use Rattle.wasi_p2.specs.Udp.{start_udp_bind_asks, finish_udp_bind_on, udp_local_on, udp_remote_on, udp_family_on, get_udp_option_on, set_udp_option_on, udp_stream_asks, check_send_on, send_datagrams_on, receive_datagrams_on}
-use Rattle.wasi_host.specs.Beside.{beside_of}
-use Rattle.wasi_host.specs.Block.{Does}
-use Rattle.wasi_host.specs.Resolves.{Resolved}
+use Rattle.host_store.specs.Beside.{beside_of}
+use Rattle.host_store.specs.Block.{Does}
+use Rattle.host_lookups.specs.Resolves.{Resolved}
 use Rattle.wasi_p3.specs.Stops.{P3Stop}
 use Rattle.wasi_p3.specs.Listening as listening3
 use Rattle.wasi_p3.specs.Lookup as lookup3

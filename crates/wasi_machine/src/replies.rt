@@ -1,7 +1,7 @@
 //! The replies of calls.
 
 ghost use Rattle.std.specs.Prelude.{◌≡◌, IfOk, IsOkAnd};
-ghost use Rattle.wasi_host.specs.CallStops.{Failed, call_outcome, IsCallStop};
+ghost use Rattle.host_store.specs.CallStops.{Failed, call_outcome, IsCallStop};
 ghost use Rattle.wasi_records.specs.Stops.{host_outcome, IsStop};
 ghost use Rattle.wasi_machine.specs.Machine.{reply_of, stream_reply_of, answer_reply_of};
 ghost use Rattle.wasi_machine.specs.Machine.{blocked_reply_of, cancelled_reply, stop_reply};
@@ -13,7 +13,9 @@ ghost use Rattle.wasi_steps.specs.Reply.{word_of_p3, word_of_lookup};
 
 use std::alloc::{AllocError, Global};
 use wasi_addr::{ErrorCode, p2, p3};
-use wasi_host::{CallError, LookupError, Outcome, SocketError, StreamResult};
+use host_store::{CallError, LookupError};
+use wasi_host::Outcome;
+use wasi_records::{SocketError, StreamResult};
 use wasi_steps::{CodeWord, IntoFields, Reply};
 use wasi_world::{Answer, Handle, IpList};
 

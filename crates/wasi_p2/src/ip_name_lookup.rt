@@ -5,15 +5,15 @@ ghost use Rattle.std.specs.Prelude.{◌≡◌, Ok, false};
 ghost use Rattle.wasi_world.specs.Asks.{AsksFor};
 ghost use Rattle.wasi_world.specs.Seen.{Seen};
 ghost use Rattle.wasi_records.specs.Stops.{host_outcome};
-ghost use Rattle.wasi_host.specs.Machine.{own_of, lookup_number};
-ghost use Rattle.wasi_host.specs.KnownSides.{KnowsSides};
-ghost use Rattle.wasi_host.specs.Views.{SameView, state_of, HostKept};
+ghost use Rattle.host_store.specs.Machine.{own_of, lookup_number};
+ghost use Rattle.host_store.specs.KnownSides.{KnowsSides};
+ghost use Rattle.host_store.specs.Views.{SameView, state_of, HostKept};
 ghost use Rattle.wasi_p2.specs.Lookup.{resolve_asks, resolved_host, next_address_on};
 
 use crate::SocketError;
+use host_store::{WasiSocketsCtxView, handles};
 use std::alloc::Global;
 use wasi_addr::{IpAddress, lookup, p2};
-use wasi_host::{WasiSocketsCtxView, handles};
 use wasi_names::{HostName, host_for};
 use wasi_world::{Handle, Ids, NameText, World};
 
@@ -64,9 +64,15 @@ fn resolve<W: World>(
         (W.seen world.new) }
 {
     match host {
-        Ok(host) => view
-            .store
-            .resolve(alloc, view.table, world, ids.own(), network, host),
+        Ok(host) => host_lookups::resolve(
+            view.store,
+            alloc,
+            view.table,
+            world,
+            ids.own(),
+            network,
+            host,
+        ),
         Err(code) => Err(SocketError::Code(p2::ErrorCode::from_lookup(code))),
     }
 }
@@ -86,5 +92,5 @@ pub fn resolve_next_address(
     ensures view { SameView view.old view.new }
 {
     let place = handles::lookup(view.table, this)?;
-    view.store.next_address(place)
+    host_lookups::next_address(view.store, place)
 }

@@ -5,8 +5,8 @@
 ghost use Rattle.std.specs.Prelude.{◌≡◌, IfErr, IfOk, Ok, false};
 ghost use Rattle.wasi_world.specs.Asks.{AsksFor};
 ghost use Rattle.wasi_records.specs.Stops.{host_outcome};
-ghost use Rattle.wasi_host.specs.Machine.{own_of};
-ghost use Rattle.wasi_host.specs.Views.{state_of, HostKept};
+ghost use Rattle.host_store.specs.Machine.{own_of};
+ghost use Rattle.host_store.specs.Views.{state_of, HostKept};
 ghost use Rattle.wasi_streams.specs.HostError.{of_fault};
 ghost use Rattle.wasi_p2.specs.Lookup.{error_code_on};
 ghost use Rattle.wasi_p2.specs.Tcp.{network_asks};
@@ -16,9 +16,9 @@ mod options;
 pub mod tcp;
 pub mod udp;
 
+use host_store::{Kind, WasiSocketsCtxView, handles};
 use wasi_addr::p2;
-pub use wasi_host::SocketError;
-use wasi_host::{Kind, WasiSocketsCtxView, handles};
+pub use wasi_records::SocketError;
 use wasi_streams::{Fault, HostError};
 use wasi_world::{Handle, Ids, World};
 

@@ -6,11 +6,12 @@ ghost use Rattle.wasi_world.specs.Asks.{AsksFor};
 ghost use Rattle.wasi_world.specs.Seen.{Seen};
 ghost use Rattle.wasi_records.specs.Stops.{host_outcome};
 ghost use Rattle.wasi_records.specs.InProgress.{is_bind, is_listen};
-ghost use Rattle.wasi_host.specs.Kinds.{kind_at};
+ghost use Rattle.host_store.specs.Kinds.{kind_at};
 ghost use Rattle.wasi_records.specs.Listening.{TakesOne};
-ghost use Rattle.wasi_host.specs.Machine.{own_of, socket_at, create_asks};
-ghost use Rattle.wasi_host.specs.KnownSides.{KnowsSides};
-ghost use Rattle.wasi_host.specs.Views.{SameView, state_of, HostKept};
+ghost use Rattle.host_store.specs.Machine.{own_of, socket_at};
+ghost use Rattle.host_tcp.specs.Creates.{create_asks};
+ghost use Rattle.host_store.specs.KnownSides.{KnowsSides};
+ghost use Rattle.host_store.specs.Views.{SameView, state_of, HostKept};
 ghost use Rattle.wasi_p2.specs.Tcp.{start_bind_asks, finish_on, start_connect_asks};
 ghost use Rattle.wasi_p2.specs.Tcp.{finish_connect, make_streams, local_address, remote_address};
 ghost use Rattle.wasi_p2.specs.Tcp.{is_listening, address_family};
@@ -18,15 +19,10 @@ ghost use Rattle.wasi_p2.specs.Tcp.{shutdown_on, start_listen_on, accepted_handl
 ghost use Rattle.wasi_p2.specs.Tcp.{ids_after_accept};
 
 use crate::SocketError;
-pub use crate::options::{
-    get_option, hop_limit, keep_alive_count, keep_alive_enabled, keep_alive_idle_time,
-    keep_alive_interval, receive_buffer_size, send_buffer_size, set_hop_limit,
-    set_keep_alive_count, set_keep_alive_enabled, set_keep_alive_idle_time,
-    set_keep_alive_interval, set_listen_backlog_size, set_option, set_receive_buffer_size,
-    set_send_buffer_size,
-};
+pub use crate::options::{get_option, set_listen_backlog_size, set_option};
+use host_store::{Kind, WasiSocketsCtxView, handles};
 use wasi_addr::{IpSocketAddress, ShutdownType, SocketAddressFamily};
-use wasi_host::{AsyncOperation, Kind, WasiSocketsCtxView, handles};
+use wasi_records::AsyncOperation;
 use wasi_world::{Answer, Handle, Ids, Sock, World};
 
 /// Creates a TCP socket of this family (`create-tcp-socket`). A context that may not use TCP:
@@ -44,8 +40,7 @@ pub fn create_tcp_socket<W: World>(
     ensures kept { HostKept view.old view.new ids.old ids.new (W.seen world.old)
         (W.seen world.new) }
 {
-    view.store
-        .tcp_create_socket(view.table, world, ids.own(), view.ctx, family)
+    host_tcp::tcp_create_socket(view.store, view.table, world, ids.own(), view.ctx, family)
 }
 
 /// Begins to bind a socket to an address (`start-bind`). The handle of the network is tested first.
@@ -68,7 +63,7 @@ pub fn start_bind<W: World>(
 {
     handles::network(view.table, network)?;
     let place = handles::tcp_socket(view.table, this)?;
-    view.store.tcp_start_bind(world, *ids, place, addr)
+    host_tcp::tcp_start_bind(view.store, world, *ids, place, addr)
 }
 
 /// Ends a bind in progress (`finish-bind`). None in progress: `NotInProgress`. Asks nothing.
@@ -81,7 +76,7 @@ pub fn finish_bind(view: &mut WasiSocketsCtxView<'_>, this: Handle) -> Result<()
     ensures view { SameView view.old view.new }
 {
     let place = handles::tcp_socket(view.table, this)?;
-    view.store.tcp_finish(place, AsyncOperation::Bind)
+    host_tcp::tcp_finish(view.store, place, AsyncOperation::Bind)
 }
 
 /// Begins to connect a socket to an address (`start-connect`). An operation in progress:
@@ -103,7 +98,7 @@ pub fn start_connect<W: World>(
 {
     handles::network(view.table, network)?;
     let place = handles::tcp_socket(view.table, this)?;
-    view.store.tcp_start_connect(world, ids.own(), place, addr)
+    host_tcp::tcp_start_connect(view.store, world, ids.own(), place, addr)
 }
 
 /// Polls the connect in progress, and makes the input and the output of the connection once it is
@@ -122,7 +117,7 @@ pub fn finish_connect<W: World>(
         (W.seen world.new) }
 {
     let place = handles::tcp_socket(view.table, this)?;
-    view.store.tcp_finish_connect(world, place)?;
+    host_tcp::tcp_finish_connect(view.store, world, place)?;
     let side = view.store.side(place);
     make_streams(view, world, ids, this, place, side)
 }
@@ -178,7 +173,7 @@ pub fn start_listen<W: World>(
         (W.seen world.new) }
 {
     let place = handles::tcp_socket(view.table, this)?;
-    view.store.start_listen(world, *ids, place)
+    host_tcp::start_listen(view.store, world, *ids, place)
 }
 
 /// Ends a listen in progress (`finish-listen`). None in progress: `NotInProgress`. Asks nothing.
@@ -191,7 +186,7 @@ pub fn finish_listen(view: &mut WasiSocketsCtxView<'_>, this: Handle) -> Result<
     ensures view { SameView view.old view.new }
 {
     let place = handles::tcp_socket(view.table, this)?;
-    view.store.tcp_finish(place, AsyncOperation::Listen)
+    host_tcp::tcp_finish(view.store, place, AsyncOperation::Listen)
 }
 
 /// Accepts a connection of a listener (`accept`): its socket, its input and its output.
@@ -220,7 +215,7 @@ pub fn accept<W: World>(
         ≡ ids_after_accept (state_of view.old) ids.old this) }
 {
     let place = handles::tcp_socket(view.table, this)?;
-    let accepted = view.store.accept(world, ids, place)?;
+    let accepted = host_tcp::accept(view.store, world, ids, place)?;
     let side = view.store.side(accepted);
     make_accepted(view, world, ids, this, accepted, side)
 }
@@ -264,7 +259,7 @@ pub fn local_address<W: World>(
         (W.seen world.new) }
 {
     let place = handles::tcp_socket(view.table, this)?;
-    view.store.tcp_local_address(world, ids.own(), place)
+    host_tcp::tcp_local_address(view.store, world, ids.own(), place)
 }
 
 /// The address of the other end of a connection (`remote-address`). Not connected: `InvalidState`.
@@ -283,7 +278,7 @@ pub fn remote_address<W: World>(
         (W.seen world.new) }
 {
     let place = handles::tcp_socket(view.table, this)?;
-    view.store.tcp_remote_address(world, ids.own(), place)
+    host_tcp::tcp_remote_address(view.store, world, ids.own(), place)
 }
 
 /// Whether a socket is listening (`is-listening`). Asks nothing.
@@ -294,7 +289,7 @@ pub fn is_listening(view: &mut WasiSocketsCtxView<'_>, this: Handle) -> Result<b
     ensures view { SameView view.old view.new }
 {
     let place = handles::tcp_socket(view.table, this)?;
-    view.store.is_listening(place)
+    host_tcp::is_listening(view.store, place)
 }
 
 /// The family of a socket (`address-family`). Asks nothing.
@@ -308,7 +303,7 @@ pub fn address_family(
     ensures view { SameView view.old view.new }
 {
     let place = handles::tcp_socket(view.table, this)?;
-    view.store.tcp_address_family(place)
+    host_tcp::tcp_address_family(view.store, place)
 }
 
 /// Releases the receiving half of a connection, the sending half, or both in that order
@@ -329,5 +324,5 @@ pub fn shutdown<W: World>(
         (W.seen world.new) }
 {
     let place = handles::tcp_socket(view.table, this)?;
-    view.store.shutdown(world, ids.own(), place, how)
+    host_tcp::shutdown(view.store, world, ids.own(), place, how)
 }

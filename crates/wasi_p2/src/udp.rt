@@ -8,20 +8,20 @@ ghost use Rattle.wasi_world.specs.Seen.{Seen};
 ghost use Rattle.socket_common.specs.Options.{largest_value, option_of, number_of};
 ghost use Rattle.wasi_records.specs.Names.{RoseUpTo};
 ghost use Rattle.wasi_records.specs.Stops.{host_outcome};
-ghost use Rattle.wasi_host.specs.Machine.{own_of, udp_socket_at, incoming_at, outgoing_at};
-ghost use Rattle.wasi_host.specs.KnownSides.{KnowsSides};
-ghost use Rattle.wasi_host.specs.UdpCreates.{create_udp_asks};
-ghost use Rattle.wasi_host.specs.Views.{SameView, state_of, HostKept};
+ghost use Rattle.host_store.specs.Machine.{own_of, udp_socket_at, incoming_at, outgoing_at};
+ghost use Rattle.host_store.specs.KnownSides.{KnowsSides};
+ghost use Rattle.host_udp.specs.UdpCreates.{create_udp_asks};
+ghost use Rattle.host_store.specs.Views.{SameView, state_of, HostKept};
 ghost use Rattle.wasi_p2.specs.Udp.{start_udp_bind_asks, finish_udp_bind_on, udp_local_on};
 ghost use Rattle.wasi_p2.specs.Udp.{udp_remote_on, udp_family_on, get_udp_option_on};
 ghost use Rattle.wasi_p2.specs.Udp.{set_udp_option_on, udp_stream_asks, check_send_on};
 ghost use Rattle.wasi_p2.specs.Udp.{send_datagrams_on, receive_datagrams_on, ReceiveLoses};
 
 use crate::SocketError;
+use host_store::{WasiSocketsCtxView, handles};
 use socket_common::Setting;
 use std::alloc::Global;
 use wasi_addr::{IpSocketAddress, SocketAddressFamily};
-use wasi_host::{WasiSocketsCtxView, handles};
 use wasi_world::{Answer, Handle, Ids, IncomingDatagrams, Opt, OutgoingDatagram, World};
 
 /// Creates a UDP socket of this family (`create-udp-socket`). A context that may not use UDP:
@@ -40,8 +40,7 @@ pub fn create_udp_socket<W: World>(
     ensures kept { HostKept view.old view.new ids.old ids.new (W.seen world.old)
         (W.seen world.new) }
 {
-    view.store
-        .create_udp_socket(view.table, world, *ids, view.ctx, family)
+    host_udp::create_udp_socket(view.store, view.table, world, *ids, view.ctx, family)
 }
 
 /// Begins to bind a socket to an address (`start-bind`). The handle of the network is tested first.
@@ -64,7 +63,7 @@ pub fn start_bind<W: World>(
 {
     handles::network(view.table, network)?;
     let place = handles::udp_socket(view.table, this)?;
-    view.store.start_udp_bind(world, *ids, place, addr)
+    host_udp::start_udp_bind(view.store, world, *ids, place, addr)
 }
 
 /// Ends a bind in progress (`finish-bind`). None in progress: `NotInProgress`. Asks nothing.
@@ -77,7 +76,7 @@ pub fn finish_bind(view: &mut WasiSocketsCtxView<'_>, this: Handle) -> Result<()
     ensures view { SameView view.old view.new }
 {
     let place = handles::udp_socket(view.table, this)?;
-    view.store.finish_udp_bind(place)
+    host_udp::finish_udp_bind(view.store, place)
 }
 
 /// The local address of a socket (`local-address`). Not bound: `InvalidState`. A code that the
@@ -96,7 +95,7 @@ pub fn local_address<W: World>(
         (W.seen world.new) }
 {
     let place = handles::udp_socket(view.table, this)?;
-    view.store.udp_local_address(world, ids.own(), place)
+    host_udp::udp_local_address(view.store, world, ids.own(), place)
 }
 
 /// The remote address of a socket (`remote-address`). None: `InvalidState`. Asks nothing.
@@ -108,7 +107,7 @@ pub fn remote_address(
         (udp_socket_at (state_of view.now) this)) }
 {
     let place = handles::udp_socket(view.table, this)?;
-    view.store.udp_remote_address(place)
+    host_udp::udp_remote_address(view.store, place)
 }
 
 /// The family of a socket (`address-family`). Asks nothing.
@@ -120,7 +119,7 @@ pub fn address_family(
         (udp_socket_at (state_of view.now) this)) }
 {
     let place = handles::udp_socket(view.table, this)?;
-    view.store.udp_address_family(place)
+    host_udp::udp_address_family(view.store, place)
 }
 
 /// Makes the datagram streams of a socket, its incoming and its outgoing one (`stream`).
@@ -144,8 +143,7 @@ pub fn stream<W: World>(
         (W.seen world.new) }
 {
     let place = handles::udp_socket(view.table, this)?;
-    view.store
-        .make_streams(view.table, world, *ids, this, remote, place)
+    host_udp::make_streams(view.store, view.table, world, *ids, this, remote, place)
 }
 
 /// How many datagrams the next [`send`] may have (`outgoing-datagram-stream.check-send`): 16, or
@@ -159,7 +157,7 @@ pub fn check_send(view: &mut WasiSocketsCtxView<'_>, this: Handle) -> Result<u64
     ensures view { SameView view.old view.new }
 {
     let place = handles::outgoing(view.table, this)?;
-    view.store.check_send(place)
+    host_udp::check_send(view.store, place)
 }
 
 /// Sends datagrams one after another, and returns how many were sent
@@ -190,7 +188,7 @@ pub fn send<W: World>(
     ensures parts { RoseUpTo 255 ids.old ids.new }
 {
     let place = handles::outgoing(view.table, this)?;
-    view.store.send_datagrams(world, ids, place, items)
+    host_udp::send_datagrams(view.store, world, ids, place, items)
 }
 
 /// Takes the datagrams that have come (`incoming-datagram-stream.receive`): at most this many, at
@@ -224,15 +222,18 @@ pub fn receive<W: World>(
         (W.seen world.old) (W.seen world.new)) }
 {
     let place = handles::incoming(view.table, this)?;
-    view.store
-        .receive_datagrams(alloc, world, ids, place, max_results)
+    host_udp::receive_datagrams(view.store, alloc, world, ids, place, max_results)
 }
 
-/// Reads an option: the hop limit, or a size in bytes. The getters below are this call with their
-/// option.
+/// Reads an option.
+///
+/// - `unicast-hop-limit`: how many hops a packet lives.
+/// - `receive-buffer-size`, `send-buffer-size`: the size of the buffer for what comes in, and
+///   for what goes out, in bytes: half of what is reported.
+///
+/// Refused, it answers:
 ///
 /// - A code that the network reports is returned.
-/// - A reported size is halved.
 /// - A reported value above the option's `largest_value` is `NotSupported`.
 pub fn get_option<W: World>(
     view: &mut WasiSocketsCtxView<'_>,
@@ -250,13 +251,17 @@ pub fn get_option<W: World>(
         (W.seen world.new) }
 {
     let place = handles::udp_socket(view.table, this)?;
-    view.store.get_udp_option(world, ids.own(), place, option)
+    host_udp::get_udp_option(view.store, world, ids.own(), place, option)
 }
 
-/// Sets an option. The setters below are this call with their setting.
+/// Sets an option.
+///
+/// - `set-unicast-hop-limit`: set as it is.
+/// - `set-receive-buffer-size`, `set-send-buffer-size`: in bytes, brought into 1 to 2,147,483,647.
+///
+/// Refused, it answers:
 ///
 /// - 0 is `InvalidArgument`, and nothing is asked.
-/// - Sizes are brought into their range first.
 /// - A code that the network reports is returned.
 pub fn set_option<W: World>(
     view: &mut WasiSocketsCtxView<'_>,
@@ -274,116 +279,5 @@ pub fn set_option<W: World>(
         (W.seen world.new) }
 {
     let place = handles::udp_socket(view.table, this)?;
-    view.store.set_udp_option(world, ids.own(), place, setting)
-}
-
-/// How many hops a datagram lives (`unicast-hop-limit`). A number above 255 that is reported:
-/// `NotSupported`.
-pub fn unicast_hop_limit<W: World>(
-    view: &mut WasiSocketsCtxView<'_>,
-    world: &mut W,
-    ids: &mut Ids,
-    this: Handle,
-) -> Result<u8, SocketError>
-    requires { (W.seen world.old).ended ≡ false }
-    ensures asked { AsksFor (get_udp_option_on (state_of view.old) (own_of ids.old.line)
-        Opt.HopLimit (udp_socket_at (state_of view.old) this)) (W.seen world.old) (W.seen world.new)
-        (λ told. (told, state_of view.new)) (host_outcome result) }
-    ensures kept { HostKept view.old view.new ids.old ids.new (W.seen world.old)
-        (W.seen world.new) }
-{
-    let value = get_option(view, world, ids, this, Opt::HopLimit)?;
-    Ok(value as u8)
-}
-
-/// Sets how many hops a datagram lives (`set-unicast-hop-limit`). 0: `InvalidArgument`.
-pub fn set_unicast_hop_limit<W: World>(
-    view: &mut WasiSocketsCtxView<'_>,
-    world: &mut W,
-    ids: &mut Ids,
-    this: Handle,
-    value: u8,
-) -> Result<(), SocketError>
-    requires { (W.seen world.old).ended ≡ false }
-    ensures asked { AsksFor (set_udp_option_on (state_of view.old) (own_of ids.old.line)
-        Opt.HopLimit value (udp_socket_at (state_of view.old) this)) (W.seen world.old)
-        (W.seen world.new) (λ done. (done, state_of view.new)) (host_outcome result) }
-    ensures kept { HostKept view.old view.new ids.old ids.new (W.seen world.old)
-        (W.seen world.new) }
-{
-    set_option(view, world, ids, this, Setting::HopLimit(value))
-}
-
-/// The size of the buffer for what comes in, in bytes (`receive-buffer-size`): half of what is
-/// reported.
-pub fn receive_buffer_size<W: World>(
-    view: &mut WasiSocketsCtxView<'_>,
-    world: &mut W,
-    ids: &mut Ids,
-    this: Handle,
-) -> Result<u64, SocketError>
-    requires { (W.seen world.old).ended ≡ false }
-    ensures asked { AsksFor (get_udp_option_on (state_of view.old) (own_of ids.old.line)
-        Opt.ReceiveBufferSize (udp_socket_at (state_of view.old) this)) (W.seen world.old)
-        (W.seen world.new) (λ told. (told, state_of view.new)) (host_outcome result) }
-    ensures kept { HostKept view.old view.new ids.old ids.new (W.seen world.old)
-        (W.seen world.new) }
-{
-    get_option(view, world, ids, this, Opt::ReceiveBufferSize)
-}
-
-/// Sets the size of the buffer for what comes in, in bytes (`set-receive-buffer-size`): brought
-/// into 1 to 2,147,483,647. 0: `InvalidArgument`.
-pub fn set_receive_buffer_size<W: World>(
-    view: &mut WasiSocketsCtxView<'_>,
-    world: &mut W,
-    ids: &mut Ids,
-    this: Handle,
-    value: u64,
-) -> Result<(), SocketError>
-    requires { (W.seen world.old).ended ≡ false }
-    ensures asked { AsksFor (set_udp_option_on (state_of view.old) (own_of ids.old.line)
-        Opt.ReceiveBufferSize value (udp_socket_at (state_of view.old) this)) (W.seen world.old)
-        (W.seen world.new) (λ done. (done, state_of view.new)) (host_outcome result) }
-    ensures kept { HostKept view.old view.new ids.old ids.new (W.seen world.old)
-        (W.seen world.new) }
-{
-    set_option(view, world, ids, this, Setting::ReceiveBufferSize(value))
-}
-
-/// The size of the buffer for what goes out, in bytes (`send-buffer-size`): half of what is
-/// reported.
-pub fn send_buffer_size<W: World>(
-    view: &mut WasiSocketsCtxView<'_>,
-    world: &mut W,
-    ids: &mut Ids,
-    this: Handle,
-) -> Result<u64, SocketError>
-    requires { (W.seen world.old).ended ≡ false }
-    ensures asked { AsksFor (get_udp_option_on (state_of view.old) (own_of ids.old.line)
-        Opt.SendBufferSize (udp_socket_at (state_of view.old) this)) (W.seen world.old)
-        (W.seen world.new) (λ told. (told, state_of view.new)) (host_outcome result) }
-    ensures kept { HostKept view.old view.new ids.old ids.new (W.seen world.old)
-        (W.seen world.new) }
-{
-    get_option(view, world, ids, this, Opt::SendBufferSize)
-}
-
-/// Sets the size of the buffer for what goes out, in bytes (`set-send-buffer-size`): brought into 1
-/// to 2,147,483,647. 0: `InvalidArgument`.
-pub fn set_send_buffer_size<W: World>(
-    view: &mut WasiSocketsCtxView<'_>,
-    world: &mut W,
-    ids: &mut Ids,
-    this: Handle,
-    value: u64,
-) -> Result<(), SocketError>
-    requires { (W.seen world.old).ended ≡ false }
-    ensures asked { AsksFor (set_udp_option_on (state_of view.old) (own_of ids.old.line)
-        Opt.SendBufferSize value (udp_socket_at (state_of view.old) this)) (W.seen world.old)
-        (W.seen world.new) (λ done. (done, state_of view.new)) (host_outcome result) }
-    ensures kept { HostKept view.old view.new ids.old ids.new (W.seen world.old)
-        (W.seen world.new) }
-{
-    set_option(view, world, ids, this, Setting::SendBufferSize(value))
+    host_udp::set_udp_option(view.store, world, ids.own(), place, setting)
 }

@@ -21,14 +21,15 @@ use Rattle.wasi_records.specs.declared.socket.TcpRecord.{TcpRecord}
 use Rattle.wasi_records.specs.declared.udp.OpenUdp.{OpenUdp}
 use Rattle.wasi_records.specs.Records.{open_at, tcp2_at}
 use Rattle.wasi_records.specs.Stops.{Stop, Trap, fault_outcome}
-use Rattle.wasi_host.specs.declared.kind.Kind.TheVariants.{Tcp3}
-use Rattle.wasi_host.specs.declared.machine.Machine.{Machine}
-use Rattle.wasi_host.specs.Block.{give, or_stop}
-use Rattle.wasi_host.specs.Lines.{storing}
-use Rattle.wasi_host.specs.Machine.{tcp3_at, udp3_at, made_to}
-use Rattle.wasi_host.specs.Making.{MakesTcp}
-use Rattle.wasi_host.specs.Store.{Records, with_socket}
-use Rattle.wasi_host.specs.UdpCalls.{with_open_udp}
+use Rattle.host_store.specs.declared.kind.Kind.TheVariants.{Tcp3}
+use Rattle.host_store.specs.declared.machine.Machine.{Machine}
+use Rattle.host_store.specs.Block.{give, or_stop}
+use Rattle.host_store.specs.Lines.{storing}
+use Rattle.host_store.specs.Machine.{tcp3_at, udp3_at}
+use Rattle.host_tcp.specs.Creates.{made_to}
+use Rattle.host_tcp.specs.Making.{MakesTcp}
+use Rattle.host_store.specs.Store.{Records, with_socket}
+use Rattle.host_store.specs.Store.{with_open_udp}
 use Rattle.wasi_p3.specs.Lines.{same_stop, of_tcp, of_udp}
 use Rattle.wasi_p3.specs.Stops.{P3Stop, p3_stop, p3_outcome, ends_as}
 use Rattle.wasi_p3.specs.Tcp.{create, code_told, handle_told}

@@ -11,11 +11,11 @@ use Rattle.wasi_world.specs.Seen.{Seen}
 use Rattle.wasi_world.specs.Asks.{Asks, Give, bind, AsksFor}
 use Rattle.wasi_world.proofs.Walks.{asks_at, asks_end, asks_err, asks_given, asks_then, reaches_all, reaches_in}
 use Rattle.wasi_records.specs.Stops.{Code, Trap}
-use Rattle.wasi_host.specs.declared.machine.Machine.{Machine}
-use Rattle.wasi_host.specs.BaseStops.{BaseStop, ends_as, named_as, renamed}
-use Rattle.wasi_host.specs.Block.{Does, after_call}
-use Rattle.wasi_host.specs.Lines.{storing}
-use Rattle.wasi_host.specs.Store.{Records}
+use Rattle.host_store.specs.declared.machine.Machine.{Machine}
+use Rattle.host_store.specs.BaseStops.{BaseStop, ends_as, named_as, renamed}
+use Rattle.host_store.specs.Block.{Does, after_call}
+use Rattle.host_store.specs.Lines.{storing}
+use Rattle.host_store.specs.Store.{Records}
 use Rattle.wasi_p3.specs.Stops.{P3Stop}
 
 abbrev Error : Type 0

@@ -10,11 +10,11 @@ use Rattle.wasi_world.specs.Seen.{Seen}
 use Rattle.wasi_world.specs.Asks.{Asks, bind, AsksFor}
 use Rattle.wasi_world.proofs.Walks.{asks_end, asks_err, reaches_in}
 use Rattle.wasi_records.specs.Stops.{StopOf, Code, Trap}
-use Rattle.wasi_host.specs.declared.machine.Machine.{Machine}
-use Rattle.wasi_host.specs.BaseStops.{BaseStop, ends_as, named_as, renamed}
-use Rattle.wasi_host.specs.Block.{Does, after_call, give}
-use Rattle.wasi_host.specs.Lines.{same_stop, storing}
-use Rattle.wasi_host.specs.Store.{Records}
+use Rattle.host_store.specs.declared.machine.Machine.{Machine}
+use Rattle.host_store.specs.BaseStops.{BaseStop, ends_as, named_as, renamed}
+use Rattle.host_store.specs.Block.{Does, after_call, give}
+use Rattle.host_store.specs.Lines.{same_stop, storing}
+use Rattle.host_store.specs.Store.{Records}
 use Rattle.wasi_p3.specs.Stops.{P3Stop}
 
 -- a call on all of it

@@ -11,14 +11,14 @@ use Rattle.wasi_records.specs.declared.udp.OpenUdp.{OpenUdp}
 use Rattle.wasi_records.specs.Records.{open_at}
 use Rattle.wasi_records.specs.Sockets.{inner_answered}
 use Rattle.wasi_records.specs.Stops.{Trap}
-use Rattle.wasi_host.specs.declared.machine.Machine.{Machine}
-use Rattle.wasi_host.specs.Block.{Does, Line, Look, Call, last, ◌>>=◌}
-use Rattle.wasi_host.specs.BaseStops.{renamed}
-pub use Rattle.wasi_host.specs.Lines.{in_store, same_stop}
-use Rattle.wasi_host.specs.Lines.{storing, tcp_at, tcp_in}
-use Rattle.wasi_host.specs.Machine.{tcp3_at, udp3_at}
-use Rattle.wasi_host.specs.UdpCalls.{with_open_udp}
-use Rattle.wasi_host.specs.Store.{Records, with_socket}
+use Rattle.host_store.specs.declared.machine.Machine.{Machine}
+use Rattle.host_store.specs.Block.{Does, Line, Look, Call, last, ◌>>=◌}
+use Rattle.host_store.specs.BaseStops.{renamed}
+pub use Rattle.host_store.specs.Lines.{in_store, same_stop}
+use Rattle.host_store.specs.Lines.{storing, tcp_at, tcp_in}
+use Rattle.host_store.specs.Machine.{tcp3_at, udp3_at}
+use Rattle.host_store.specs.Store.{with_open_udp}
+use Rattle.host_store.specs.Store.{Records, with_socket}
 use Rattle.wasi_p3.specs.Stops.{P3Stop, p3_stop, p3_told}
 
 -- == of the records

@@ -9,15 +9,15 @@ use Rattle.wasi_records.specs.declared.slot.StreamResult.{StreamResult}
 use Rattle.wasi_records.specs.declared.slot.StreamResult.TheVariants.{Completed}
 use Rattle.wasi_records.specs.Names.{own_of}
 use Rattle.wasi_records.specs.Records.{tcp2_at}
-use Rattle.wasi_host.specs.declared.kind.Kind.TheVariants.{Tcp3}
-use Rattle.wasi_host.specs.declared.machine.Machine.{Machine}
-use Rattle.wasi_host.specs.Block.{Does, Look, Read, Call, give, last, ◌>>=◌}
-use Rattle.wasi_host.specs.EndPolls.{not_yet}
-use Rattle.wasi_host.specs.Kinds.{make_asks}
-use Rattle.wasi_host.specs.Lines.{tabling}
-use Rattle.wasi_host.specs.Listens.{accept_in, listen_of, look_accept}
-use Rattle.wasi_host.specs.Machine.{listen3_at, side_at}
-use Rattle.wasi_host.specs.TcpCalls.{accept_ids_at}
+use Rattle.host_store.specs.declared.kind.Kind.TheVariants.{Tcp3}
+use Rattle.host_store.specs.declared.machine.Machine.{Machine}
+use Rattle.host_store.specs.Block.{Does, Look, Read, Call, give, last, ◌>>=◌}
+use Rattle.host_tcp.specs.EndPolls.{not_yet}
+use Rattle.host_store.specs.Kinds.{make_asks}
+use Rattle.host_store.specs.Lines.{tabling}
+use Rattle.host_tcp.specs.Listens.{accept_in, listen_of, look_accept}
+use Rattle.host_store.specs.Machine.{listen3_at, side_at}
+use Rattle.host_tcp.specs.TcpCalls.{accept_ids_at}
 use Rattle.wasi_p3.specs.Lines.{in_base, in_host, tcp_named}
 use Rattle.wasi_p3.specs.Stops.{trap_of}
 

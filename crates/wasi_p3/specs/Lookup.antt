@@ -10,9 +10,9 @@ use Rattle.wasi_world.specs.declared.outcome.Answer.TheVariants.{Ready}
 use Rattle.wasi_world.specs.declared.outcome.WasiSocketsCtx.{WasiSocketsCtx}
 use Rattle.wasi_world.specs.Asks.{Give}
 use Rattle.wasi_records.specs.Stops.{Code}
-use Rattle.wasi_host.specs.declared.machine.Machine.{Machine}
-use Rattle.wasi_host.specs.Block.{Does, last}
-use Rattle.wasi_host.specs.Resolves.{resolve_of}
+use Rattle.host_store.specs.declared.machine.Machine.{Machine}
+use Rattle.host_store.specs.Block.{Does, last}
+use Rattle.host_lookups.specs.Resolves.{resolve_of}
 use Rattle.wasi_p3.specs.Lines.{in_store}
 
 -- an address is its own answer; a domain is asked for

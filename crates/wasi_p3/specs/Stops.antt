@@ -1,6 +1,5 @@
 -- How the calls of 0.3 end, with codes of any type.
-use Rattle.std.specs.Prelude.{ℕ, Bool, Result, Ok, Err}
-use Rattle.std.specs.Int.{from_bool}
+use Rattle.std.specs.Prelude.{ℕ, Result, Ok, Err}
 use Rattle.std.specs.declared.alloc.AllocError.{AllocError}
 use Rattle.wasi_addr.specs.declared.code.ErrorCode.{ErrorCode}
 use Rattle.wasi_addr.specs.declared.p3.ErrorCode.{ErrorCode as P3Code}
@@ -10,7 +9,7 @@ use Rattle.wasi_world.specs.declared.outcome.Refusal.TheVariants as refusal
 use Rattle.wasi_streams.specs.declared.fault.HostError.{HostError}
 use Rattle.wasi_streams.specs.declared.fault.HostError.TheVariants as error
 use Rattle.wasi_records.specs.Stops.{StopOf, Code, Trap}
-pub use Rattle.wasi_host.specs.BaseStops.{ends_as, trap_of}
+pub use Rattle.host_store.specs.BaseStops.{ends_as, trap_of}
 
 -- that of a call of a socket
 abbrev pub P3Stop : Type 0
@@ -30,11 +29,6 @@ abbrev pub p3_outcome : {T : Type 0} → Result T Refusal → Result (Result T P
 p3_outcome (Ok value) = Ok (Ok value)
 p3_outcome (Err (refusal.Code c)) = Ok (Err (p3_stop c))
 p3_outcome (Err (refusal.Memory e)) = Err e
-
--- the option that says yes or no: yes is 1, no is 0
-abbrev pub truth_told : Result Bool P3Stop → Result ℕ P3Stop
-truth_told (Ok b) = Ok (from_bool b)
-truth_told (Err stop) = Err stop
 
 -- it is a code or a trap, of which this holds
 abbrev pub IsStopOf : {C : Type 0} → HostError C → (StopOf C → Type 0) → Type 0

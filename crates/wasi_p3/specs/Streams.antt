@@ -13,16 +13,16 @@ use Rattle.wasi_records.specs.Ends.{take_receive_end, take_send_end}
 use Rattle.wasi_records.specs.Records.{tcp2_at}
 use Rattle.wasi_records.specs.Slots.{StreamEnd, slot_at, result_of}
 use Rattle.wasi_records.specs.Stops.{Stop, Trap}
-use Rattle.wasi_host.specs.declared.kind.ConnectionEnd.{ConnectionEnd}
-use Rattle.wasi_host.specs.declared.kind.Kind.{Kind}
-use Rattle.wasi_host.specs.declared.kind.Kind.TheVariants.{Receive3, Send3, Result3}
-use Rattle.wasi_host.specs.declared.machine.Machine.{Machine}
-use Rattle.wasi_host.specs.Block.{Does, Line, Read, Look, Call, give, last, ◌>>=◌}
-use Rattle.wasi_host.specs.ConnectionEnds.{take_end, drop_slot}
-use Rattle.wasi_host.specs.EndPolls.{read_end, write_end}
-use Rattle.wasi_host.specs.Kinds.{HandleTable, kind_at, make_asks, taken_out}
-use Rattle.wasi_host.specs.Lines.{tabling}
-use Rattle.wasi_host.specs.Machine.{side_at, receive3_at, send3_at, result3_at}
+use Rattle.host_store.specs.declared.kind.ConnectionEnd.{ConnectionEnd}
+use Rattle.host_store.specs.declared.kind.Kind.{Kind}
+use Rattle.host_store.specs.declared.kind.Kind.TheVariants.{Receive3, Send3, Result3}
+use Rattle.host_store.specs.declared.machine.Machine.{Machine}
+use Rattle.host_store.specs.Block.{Does, Line, Read, Look, Call, give, last, ◌>>=◌}
+use Rattle.host_tcp.specs.ConnectionEnds.{take_end, drop_slot}
+use Rattle.host_tcp.specs.EndPolls.{read_end, write_end}
+use Rattle.host_store.specs.Kinds.{HandleTable, kind_at, make_asks, taken_out}
+use Rattle.host_store.specs.Lines.{tabling}
+use Rattle.host_store.specs.Machine.{side_at, receive3_at, send3_at, result3_at}
 use Rattle.wasi_p3.specs.Lines.{in_base, tcp_named}
 use Rattle.wasi_p3.specs.Stops.{P3Stop, trap_of}
 

@@ -14,12 +14,12 @@ use Rattle.wasi_tcp.specs.Addresses.{is_listening as listens}
 use Rattle.wasi_tcp.specs.Options.{get_option_asks, set_option_asks, set_backlog_asks}
 use Rattle.wasi_records.specs.Stops.{Stop}
 use Rattle.wasi_records.specs.Sockets.{tell_local_asks, tell_remote_asks}
-use Rattle.wasi_host.specs.declared.kind.Kind.TheVariants.{Tcp3}
-use Rattle.wasi_host.specs.declared.machine.Machine.{Machine}
-use Rattle.wasi_host.specs.Machine.{create_to}
-use Rattle.wasi_host.specs.Binds.{bind_of}
-use Rattle.wasi_host.specs.Block.{Does, last, ◌>>=◌}
-use Rattle.wasi_host.specs.Connects.{connect_of}
+use Rattle.host_store.specs.declared.kind.Kind.TheVariants.{Tcp3}
+use Rattle.host_store.specs.declared.machine.Machine.{Machine}
+use Rattle.host_tcp.specs.Creates.{create_to}
+use Rattle.host_tcp.specs.Binds.{bind_of}
+use Rattle.host_store.specs.Block.{Does, last, ◌>>=◌}
+use Rattle.host_tcp.specs.Connects.{connect_of}
 use Rattle.wasi_p3.specs.Lines.{of_tcp, in_base, inner_call, tcp_named, tcp_of, told_of}
 use Rattle.wasi_p3.specs.Stops.{P3Stop, p3_stop, trap_of}
 

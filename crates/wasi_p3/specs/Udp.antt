@@ -18,13 +18,13 @@ use Rattle.wasi_udp.specs.Options.{get_option_asks, set_option_asks}
 use Rattle.wasi_udp.specs.Socket.{disconnect_asks, remote_of}
 use Rattle.wasi_records.specs.declared.udp.OpenUdp.{OpenUdp}
 use Rattle.wasi_records.specs.Udp.{udp_local_asks, with_udp_inner}
-use Rattle.wasi_host.specs.declared.kind.Interface.TheVariants.{P3}
-use Rattle.wasi_host.specs.declared.machine.Machine.{Machine}
-use Rattle.wasi_host.specs.Binds.{udp_bind_of}
-use Rattle.wasi_host.specs.Block.{Does, last, ◌>>=◌}
-use Rattle.wasi_host.specs.SocketDatagrams.{receive_of, send_of}
-use Rattle.wasi_host.specs.UdpConnects.{udp_connect_of}
-use Rattle.wasi_host.specs.UdpCreates.{create_udp, created_by}
+use Rattle.host_store.specs.declared.kind.Interface.TheVariants.{P3}
+use Rattle.host_store.specs.declared.machine.Machine.{Machine}
+use Rattle.host_udp.specs.UdpBinds.{udp_bind_of}
+use Rattle.host_store.specs.Block.{Does, last, ◌>>=◌}
+use Rattle.host_udp.specs.SocketDatagrams.{receive_of, send_of}
+use Rattle.host_udp.specs.UdpConnects.{udp_connect_of}
+use Rattle.host_udp.specs.UdpCreates.{create_udp, created_by}
 use Rattle.wasi_p3.specs.Lines.{in_base, of_udp, udp_named, udp_of, told_of}
 use Rattle.wasi_p3.specs.Stops.{P3Stop}
 

@@ -2,11 +2,11 @@
 
 ghost use Rattle.std.specs.Prelude.{◌≡◌, IfOk, Ok};
 ghost use Rattle.wasi_addr.specs.Code.{p3_of_code};
-ghost use Rattle.wasi_host.specs.BaseStops.{named_as};
+ghost use Rattle.host_store.specs.BaseStops.{named_as};
 ghost use Rattle.wasi_p3.specs.Stops.{ends_as, p3_outcome, p3_told};
 
+use host_store::StoreError;
 use wasi_addr::{ErrorCode, p3};
-use wasi_host::StoreError;
 use wasi_streams::HostError;
 use wasi_world::Refusal;
 

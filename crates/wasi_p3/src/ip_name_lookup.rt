@@ -2,13 +2,13 @@
 
 ghost use Rattle.std.specs.Prelude.{◌≡◌, [], ◌∷◌, IfOk, false};
 ghost use Rattle.wasi_world.specs.Asks.{AsksFor};
-ghost use Rattle.wasi_host.specs.Views.{state_of, HostKept};
+ghost use Rattle.host_store.specs.Views.{state_of, HostKept};
 ghost use Rattle.wasi_p3.specs.Lookup.{resolve, resolve_host};
 ghost use Rattle.wasi_p3.specs.Stops.{ends_as};
 
+use host_store::{LookupError, WasiSocketsCtxView};
 use std::alloc::{AllocError, Global};
 use wasi_addr::{IpAddress, lookup};
-use wasi_host::{LookupError, WasiSocketsCtxView};
 use wasi_names::{HostName, host_for};
 use wasi_world::{Answer, Ids, IpList, NameText, World};
 
@@ -22,7 +22,7 @@ use wasi_world::{Answer, Ids, IpList, NameText, World};
 ///   code: `NameUnresolvable`.
 ///
 /// The call is pending while the network's answer is, beside other calls, and
-/// [`resume`](wasi_host::resume) continues it. Takes memory for the name and for the addresses.
+/// `wasi_host::resume` continues it. Takes memory for the name and for the addresses.
 pub fn resolve_addresses<W: World>(
     alloc: Global,
     view: &mut WasiSocketsCtxView<'_>,
@@ -69,7 +69,7 @@ fn resolve<W: World>(
             let addresses = one_address(alloc, address)?;
             Ok(Answer::Ready(addresses))
         }
-        Ok(HostName::Domain(host)) => view.store.resolve_host(world, *ids, host),
+        Ok(HostName::Domain(host)) => host_lookups::resolve_host(view.store, world, *ids, host),
         Err(code) => Err(LookupError::Code(code)),
     }
 }

@@ -3,14 +3,16 @@
 ghost use Rattle.std.specs.Prelude.{◌≡◌, ◌+◌, ◌<◌, ◌^◌, false, IfOk};
 ghost use Rattle.wasi_world.specs.Asks.{AsksFor};
 ghost use Rattle.wasi_records.specs.Listening.{TakesOne};
-ghost use Rattle.wasi_host.specs.KnownSides.{KnowsSides};
-ghost use Rattle.wasi_host.specs.Machine.{own_of};
-ghost use Rattle.wasi_host.specs.Views.{state_of, HostKept, SameView};
+ghost use Rattle.host_store.specs.KnownSides.{KnowsSides};
+ghost use Rattle.host_store.specs.Machine.{own_of};
+ghost use Rattle.host_store.specs.Views.{state_of, HostKept, SameView};
 ghost use Rattle.wasi_p3.specs.Listening.{listen_to, looked, handed, accept, ids_after_accept};
 ghost use Rattle.wasi_p3.specs.Stops.{ends_as};
 
 use crate::error::{SocketError, named};
-use wasi_host::{Kind, StreamResult, WasiSocketsCtxView, handles, not_yet};
+use host_store::{Kind, WasiSocketsCtxView, handles};
+use host_tcp::not_yet;
+use wasi_records::StreamResult;
 use wasi_world::{Answer, Handle, Ids, World};
 
 /// Makes a socket listen (`tcp-socket.listen`), and makes its listener, which outlives the handle of
@@ -20,7 +22,7 @@ use wasi_world::{Answer, Handle, Ids, World};
 /// - A check says no: `AccessDenied`. The network's code is returned. Either closes the socket, with
 ///   the code `Other`.
 ///
-/// The call is pending while a check or the network is, and [`resume`](wasi_host::resume) continues
+/// The call is pending while a check or the network is, and `wasi_host::resume` continues
 /// it.
 pub fn listen<W: World>(
     view: &mut WasiSocketsCtxView<'_>,
@@ -35,10 +37,7 @@ pub fn listen<W: World>(
         (W.seen world.new) }
 {
     let place = handles::tcp3_socket(view.table, socket)?;
-    named(
-        view.store
-            .listen_tcp(view.table, world, *ids, place, socket),
-    )
+    named(host_tcp::listen_tcp(view.store, view.table, world, *ids, place, socket))
 }
 
 /// The listener of a socket, by its handle (`ListenStreamProducer` of the crate wasmtime-wasi).
@@ -87,10 +86,10 @@ impl ListenStreamProducer {
     {
         let place = handles::listener3(view.table, self.handle)?;
         if remaining == 0 {
-            let answer = named(view.store.look_accept(world, ids, place))?;
+            let answer = named(host_tcp::look_accept(view.store, world, ids, place))?;
             return Ok(looked(finish, answer));
         }
-        let accepted = named(view.store.accept_tcp(world, ids, place))?;
+        let accepted = named(host_tcp::accept_tcp(view.store, world, ids, place))?;
         self.hand_over(view, world, ids, finish, accepted)
     }
 

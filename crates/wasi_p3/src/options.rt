@@ -1,27 +1,36 @@
-//! The options of a TCP socket, and its backlog: a getter and a setter of each in
-//! `wasi:sockets/types@0.3`. Each call tests its handle first: one that isn't live, or is of
-//! another kind, is the trap `NoSuchHandle`. A set leaves the records as they were.
+//! The options of a TCP socket, and its backlog: the getters and setters of
+//! `wasi:sockets/types@0.3` as one call each. Each call tests its handle first: one that isn't
+//! live, or is of another kind, is the trap `NoSuchHandle`. A set leaves the records as they were.
 
 ghost use Rattle.std.specs.Prelude.{◌≡◌, ◌≤◌, IfOk, false};
-ghost use Rattle.std.specs.Int.{from_bool};
 ghost use Rattle.wasi_world.specs.Asks.{AsksFor};
 ghost use Rattle.socket_common.specs.Options.{largest_value, option_of, number_of};
-ghost use Rattle.wasi_host.specs.Machine.{own_of};
-ghost use Rattle.wasi_host.specs.Views.{state_of, HostKept};
-ghost use Rattle.wasi_p3.specs.Stops.{ends_as, truth_told};
+ghost use Rattle.host_store.specs.Machine.{own_of};
+ghost use Rattle.host_store.specs.Views.{state_of, HostKept};
+ghost use Rattle.wasi_p3.specs.Stops.{ends_as};
 ghost use Rattle.wasi_p3.specs.Tcp.{get_option, set_option, set_backlog};
 
 use crate::error::{SocketError, answered};
-use wasi_host::{TcpRecord, WasiSocketsCtxView, handles};
+use host_store::{WasiSocketsCtxView, handles};
+use wasi_records::TcpRecord;
 use wasi_tcp::Setting;
 use wasi_world::{Handle, Ids, Opt, TrapKind, World};
 
-/// Reads an option: yes is 1 and no is 0, a time is in nanoseconds, a size in bytes. The getters
-/// below are this call with their option.
+/// Reads an option: yes is 1 and no is 0, a time is in nanoseconds, a size in bytes.
+///
+/// - `get-keep-alive-enabled`: whether probes are sent on a connection that is idle. Any reported
+///   number but 0 is yes.
+/// - `get-keep-alive-idle-time`: how long a connection is idle before the first probe.
+/// - `get-keep-alive-interval`: the time from one probe to the next.
+/// - `get-keep-alive-count`: how many probes without an answer end a connection.
+/// - `get-hop-limit`: how many hops a packet lives.
+/// - `get-receive-buffer-size`, `get-send-buffer-size`: the size of the buffer for what comes in, and
+///   for what goes out: half of what is reported.
+///
+/// Refused, it answers:
 ///
 /// - Connecting: `InvalidState`. Closed: its code.
 /// - A code that the network reports is returned.
-/// - A reported size is halved, and any reported number but 0 is yes.
 /// - A reported value above the option's `largest_value` is `NotSupported`.
 pub fn get_option<W: World>(
     view: &mut WasiSocketsCtxView<'_>,
@@ -44,12 +53,19 @@ pub fn get_option<W: World>(
     answered(record.inner.get_option(world, ids.own(), option))
 }
 
-/// Sets an option. The setters below are this call with their setting.
+/// Sets an option.
+///
+/// - `set-keep-alive-enabled`: whether probes are to be sent on a connection that is idle.
+/// - `set-keep-alive-idle-time`, `set-keep-alive-interval`: in nanoseconds, brought into one second
+///   to 32,767 seconds. 0: `InvalidArgument`, in any state.
+/// - `set-keep-alive-count`: brought into 1 to 127. 0: `InvalidArgument`, in any state.
+/// - `set-hop-limit`: set as it is. 0: `InvalidArgument`, where the state allows a set.
+/// - `set-receive-buffer-size`, `set-send-buffer-size`: in bytes, brought into 1 to 2,147,483,647.
+///   0: `InvalidArgument`, where the state allows a set.
+///
+/// Refused, it answers:
 ///
 /// - Connecting: `InvalidState`. Closed: its code.
-/// - 0 is `InvalidArgument`: for a time or a number of probes in any state, for the hop limit or a
-///   size where the state allows a set.
-/// - Times, sizes and numbers of probes are brought into their ranges first.
 /// - A code that the network reports is returned.
 pub fn set_option<W: World>(
     view: &mut WasiSocketsCtxView<'_>,
@@ -70,267 +86,6 @@ pub fn set_option<W: World>(
         return Err(SocketError::Trap(TrapKind::NoSuchHandle));
     };
     answered(record.inner.set_option(world, ids.own(), setting))
-}
-
-/// Whether probes are sent on a connection that is idle (`get-keep-alive-enabled`): any reported
-/// number but 0 is yes.
-pub fn get_keep_alive_enabled<W: World>(
-    view: &mut WasiSocketsCtxView<'_>,
-    world: &mut W,
-    ids: &mut Ids,
-    socket: Handle,
-) -> Result<bool, SocketError>
-    requires { (W.seen world.old).ended ≡ false }
-    ensures asked { AsksFor (get_option (own_of ids.old.line) socket Opt.KeepAliveEnabled
-        (state_of view.old)) (W.seen world.old) (W.seen world.new)
-        (λ told. (truth_told told, state_of view.new)) (ends_as result) }
-    ensures kept { HostKept view.old view.new ids.old ids.new (W.seen world.old)
-        (W.seen world.new) }
-{
-    let value = get_option(view, world, ids, socket, Opt::KeepAliveEnabled)?;
-    Ok(value != 0)
-}
-
-/// Whether probes are to be sent on a connection that is idle (`set-keep-alive-enabled`).
-pub fn set_keep_alive_enabled<W: World>(
-    view: &mut WasiSocketsCtxView<'_>,
-    world: &mut W,
-    ids: &mut Ids,
-    socket: Handle,
-    value: bool,
-) -> Result<(), SocketError>
-    requires { (W.seen world.old).ended ≡ false }
-    ensures asked { AsksFor (set_option (own_of ids.old.line) socket Opt.KeepAliveEnabled
-        (from_bool value) (state_of view.old)) (W.seen world.old) (W.seen world.new)
-        (λ done. (done, state_of view.new)) (ends_as result) }
-    ensures kept { HostKept view.old view.new ids.old ids.new (W.seen world.old)
-        (W.seen world.new) }
-{
-    set_option(view, world, ids, socket, Setting::KeepAliveEnabled(value))
-}
-
-/// How long a connection is idle before the first probe, in nanoseconds
-/// (`get-keep-alive-idle-time`).
-pub fn get_keep_alive_idle_time<W: World>(
-    view: &mut WasiSocketsCtxView<'_>,
-    world: &mut W,
-    ids: &mut Ids,
-    socket: Handle,
-) -> Result<u64, SocketError>
-    requires { (W.seen world.old).ended ≡ false }
-    ensures asked { AsksFor (get_option (own_of ids.old.line) socket Opt.KeepAliveIdleTime
-        (state_of view.old)) (W.seen world.old) (W.seen world.new)
-        (λ told. (told, state_of view.new)) (ends_as result) }
-    ensures kept { HostKept view.old view.new ids.old ids.new (W.seen world.old)
-        (W.seen world.new) }
-{
-    get_option(view, world, ids, socket, Opt::KeepAliveIdleTime)
-}
-
-/// How long a connection is to be idle before the first probe, in nanoseconds
-/// (`set-keep-alive-idle-time`): brought into one second to 32,767 seconds. 0: `InvalidArgument`,
-/// in any state.
-pub fn set_keep_alive_idle_time<W: World>(
-    view: &mut WasiSocketsCtxView<'_>,
-    world: &mut W,
-    ids: &mut Ids,
-    socket: Handle,
-    value: u64,
-) -> Result<(), SocketError>
-    requires { (W.seen world.old).ended ≡ false }
-    ensures asked { AsksFor (set_option (own_of ids.old.line) socket Opt.KeepAliveIdleTime value
-        (state_of view.old)) (W.seen world.old) (W.seen world.new)
-        (λ done. (done, state_of view.new)) (ends_as result) }
-    ensures kept { HostKept view.old view.new ids.old ids.new (W.seen world.old)
-        (W.seen world.new) }
-{
-    set_option(view, world, ids, socket, Setting::KeepAliveIdleTime(value))
-}
-
-/// The time from one probe to the next, in nanoseconds (`get-keep-alive-interval`).
-pub fn get_keep_alive_interval<W: World>(
-    view: &mut WasiSocketsCtxView<'_>,
-    world: &mut W,
-    ids: &mut Ids,
-    socket: Handle,
-) -> Result<u64, SocketError>
-    requires { (W.seen world.old).ended ≡ false }
-    ensures asked { AsksFor (get_option (own_of ids.old.line) socket Opt.KeepAliveInterval
-        (state_of view.old)) (W.seen world.old) (W.seen world.new)
-        (λ told. (told, state_of view.new)) (ends_as result) }
-    ensures kept { HostKept view.old view.new ids.old ids.new (W.seen world.old)
-        (W.seen world.new) }
-{
-    get_option(view, world, ids, socket, Opt::KeepAliveInterval)
-}
-
-/// The time from one probe to the next, in nanoseconds (`set-keep-alive-interval`): brought into
-/// one second to 32,767 seconds. 0: `InvalidArgument`, in any state.
-pub fn set_keep_alive_interval<W: World>(
-    view: &mut WasiSocketsCtxView<'_>,
-    world: &mut W,
-    ids: &mut Ids,
-    socket: Handle,
-    value: u64,
-) -> Result<(), SocketError>
-    requires { (W.seen world.old).ended ≡ false }
-    ensures asked { AsksFor (set_option (own_of ids.old.line) socket Opt.KeepAliveInterval value
-        (state_of view.old)) (W.seen world.old) (W.seen world.new)
-        (λ done. (done, state_of view.new)) (ends_as result) }
-    ensures kept { HostKept view.old view.new ids.old ids.new (W.seen world.old)
-        (W.seen world.new) }
-{
-    set_option(view, world, ids, socket, Setting::KeepAliveInterval(value))
-}
-
-/// How many probes without an answer end a connection (`get-keep-alive-count`). A number above
-/// 4,294,967,295 that is reported: `NotSupported`.
-pub fn get_keep_alive_count<W: World>(
-    view: &mut WasiSocketsCtxView<'_>,
-    world: &mut W,
-    ids: &mut Ids,
-    socket: Handle,
-) -> Result<u32, SocketError>
-    requires { (W.seen world.old).ended ≡ false }
-    ensures asked { AsksFor (get_option (own_of ids.old.line) socket Opt.KeepAliveCount
-        (state_of view.old)) (W.seen world.old) (W.seen world.new)
-        (λ told. (told, state_of view.new)) (ends_as result) }
-    ensures kept { HostKept view.old view.new ids.old ids.new (W.seen world.old)
-        (W.seen world.new) }
-{
-    let value = get_option(view, world, ids, socket, Opt::KeepAliveCount)?;
-    Ok(value as u32)
-}
-
-/// How many probes without an answer are to end a connection (`set-keep-alive-count`): brought into
-/// 1 to 127. 0: `InvalidArgument`, in any state.
-pub fn set_keep_alive_count<W: World>(
-    view: &mut WasiSocketsCtxView<'_>,
-    world: &mut W,
-    ids: &mut Ids,
-    socket: Handle,
-    value: u32,
-) -> Result<(), SocketError>
-    requires { (W.seen world.old).ended ≡ false }
-    ensures asked { AsksFor (set_option (own_of ids.old.line) socket Opt.KeepAliveCount value
-        (state_of view.old)) (W.seen world.old) (W.seen world.new)
-        (λ done. (done, state_of view.new)) (ends_as result) }
-    ensures kept { HostKept view.old view.new ids.old ids.new (W.seen world.old)
-        (W.seen world.new) }
-{
-    set_option(view, world, ids, socket, Setting::KeepAliveCount(value))
-}
-
-/// How many hops a packet lives (`get-hop-limit`). A number above 255 that is reported:
-/// `NotSupported`.
-pub fn get_hop_limit<W: World>(
-    view: &mut WasiSocketsCtxView<'_>,
-    world: &mut W,
-    ids: &mut Ids,
-    socket: Handle,
-) -> Result<u8, SocketError>
-    requires { (W.seen world.old).ended ≡ false }
-    ensures asked { AsksFor (get_option (own_of ids.old.line) socket Opt.HopLimit
-        (state_of view.old)) (W.seen world.old) (W.seen world.new)
-        (λ told. (told, state_of view.new)) (ends_as result) }
-    ensures kept { HostKept view.old view.new ids.old ids.new (W.seen world.old)
-        (W.seen world.new) }
-{
-    let value = get_option(view, world, ids, socket, Opt::HopLimit)?;
-    Ok(value as u8)
-}
-
-/// How many hops a packet is to live (`set-hop-limit`): set as it is. 0: `InvalidArgument`, where
-/// the state allows a set.
-pub fn set_hop_limit<W: World>(
-    view: &mut WasiSocketsCtxView<'_>,
-    world: &mut W,
-    ids: &mut Ids,
-    socket: Handle,
-    value: u8,
-) -> Result<(), SocketError>
-    requires { (W.seen world.old).ended ≡ false }
-    ensures asked { AsksFor (set_option (own_of ids.old.line) socket Opt.HopLimit value
-        (state_of view.old)) (W.seen world.old) (W.seen world.new)
-        (λ done. (done, state_of view.new)) (ends_as result) }
-    ensures kept { HostKept view.old view.new ids.old ids.new (W.seen world.old)
-        (W.seen world.new) }
-{
-    set_option(view, world, ids, socket, Setting::HopLimit(value))
-}
-
-/// The size of the buffer for what comes in, in bytes (`get-receive-buffer-size`): half of what is
-/// reported.
-pub fn get_receive_buffer_size<W: World>(
-    view: &mut WasiSocketsCtxView<'_>,
-    world: &mut W,
-    ids: &mut Ids,
-    socket: Handle,
-) -> Result<u64, SocketError>
-    requires { (W.seen world.old).ended ≡ false }
-    ensures asked { AsksFor (get_option (own_of ids.old.line) socket Opt.ReceiveBufferSize
-        (state_of view.old)) (W.seen world.old) (W.seen world.new)
-        (λ told. (told, state_of view.new)) (ends_as result) }
-    ensures kept { HostKept view.old view.new ids.old ids.new (W.seen world.old)
-        (W.seen world.new) }
-{
-    get_option(view, world, ids, socket, Opt::ReceiveBufferSize)
-}
-
-/// The size of the buffer for what comes in, in bytes (`set-receive-buffer-size`): brought into 1
-/// to 2,147,483,647. 0: `InvalidArgument`, where the state allows a set.
-pub fn set_receive_buffer_size<W: World>(
-    view: &mut WasiSocketsCtxView<'_>,
-    world: &mut W,
-    ids: &mut Ids,
-    socket: Handle,
-    value: u64,
-) -> Result<(), SocketError>
-    requires { (W.seen world.old).ended ≡ false }
-    ensures asked { AsksFor (set_option (own_of ids.old.line) socket Opt.ReceiveBufferSize value
-        (state_of view.old)) (W.seen world.old) (W.seen world.new)
-        (λ done. (done, state_of view.new)) (ends_as result) }
-    ensures kept { HostKept view.old view.new ids.old ids.new (W.seen world.old)
-        (W.seen world.new) }
-{
-    set_option(view, world, ids, socket, Setting::ReceiveBufferSize(value))
-}
-
-/// The size of the buffer for what goes out, in bytes (`get-send-buffer-size`): half of what is
-/// reported.
-pub fn get_send_buffer_size<W: World>(
-    view: &mut WasiSocketsCtxView<'_>,
-    world: &mut W,
-    ids: &mut Ids,
-    socket: Handle,
-) -> Result<u64, SocketError>
-    requires { (W.seen world.old).ended ≡ false }
-    ensures asked { AsksFor (get_option (own_of ids.old.line) socket Opt.SendBufferSize
-        (state_of view.old)) (W.seen world.old) (W.seen world.new)
-        (λ told. (told, state_of view.new)) (ends_as result) }
-    ensures kept { HostKept view.old view.new ids.old ids.new (W.seen world.old)
-        (W.seen world.new) }
-{
-    get_option(view, world, ids, socket, Opt::SendBufferSize)
-}
-
-/// The size of the buffer for what goes out, in bytes (`set-send-buffer-size`): brought into 1 to
-/// 2,147,483,647. 0: `InvalidArgument`, where the state allows a set.
-pub fn set_send_buffer_size<W: World>(
-    view: &mut WasiSocketsCtxView<'_>,
-    world: &mut W,
-    ids: &mut Ids,
-    socket: Handle,
-    value: u64,
-) -> Result<(), SocketError>
-    requires { (W.seen world.old).ended ≡ false }
-    ensures asked { AsksFor (set_option (own_of ids.old.line) socket Opt.SendBufferSize value
-        (state_of view.old)) (W.seen world.old) (W.seen world.new)
-        (λ done. (done, state_of view.new)) (ends_as result) }
-    ensures kept { HostKept view.old view.new ids.old ids.new (W.seen world.old)
-        (W.seen world.new) }
-{
-    set_option(view, world, ids, socket, Setting::SendBufferSize(value))
 }
 
 /// Sets how many connections may wait to be accepted (`set-listen-backlog-size`); the number is

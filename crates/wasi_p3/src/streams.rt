@@ -2,18 +2,18 @@
 
 ghost use Rattle.std.specs.Prelude.{◌≡◌, Some, None, Ok, false};
 ghost use Rattle.wasi_world.specs.Asks.{AsksFor};
-ghost use Rattle.wasi_host.specs.Kinds.{table_parent};
-ghost use Rattle.wasi_host.specs.Machine.{own_of};
-ghost use Rattle.wasi_host.specs.Views.{HostKept, SameView, state_of};
+ghost use Rattle.host_store.specs.Kinds.{table_parent};
+ghost use Rattle.host_store.specs.Machine.{own_of};
+ghost use Rattle.host_store.specs.Views.{HostKept, SameView, state_of};
 ghost use Rattle.wasi_p3.specs.Stops.{ends_as};
 ghost use Rattle.wasi_p3.specs.Streams.{make_ends, named_end, read, receive, send, take_result, write};
-ghost use Rattle.wasi_host.specs.KnownSides.{KnowsSides};
+ghost use Rattle.host_store.specs.KnownSides.{KnowsSides};
 ghost use Rattle.wasi_world.specs.Seen.{Seen};
 
 use crate::error::{SocketError, named};
+use host_store::{Kind, WasiSocketsCtxView, handles};
 use std::alloc::Global;
 use wasi_addr::{ErrorCode, p3};
-use wasi_host::{Kind, WasiSocketsCtxView, handles};
 use wasi_records::{RecordId, Slot, StreamResult};
 use wasi_world::{Answer, Handle, Ids, Octets, Sock, TrapKind, World};
 
@@ -46,7 +46,7 @@ pub fn send<W: World>(
         (W.seen world.new) }
 {
     let place = handles::tcp3_socket(view.table, socket)?;
-    let end = named(view.store.take_send_end(place))?;
+    let end = named(host_tcp::take_send_end(view.store, place))?;
     let side = view.store.side(place);
     make_ends(view, world, ids, socket, Kind::Send3(end), end.slot, side)
 }
@@ -66,7 +66,7 @@ pub fn receive<W: World>(
         (W.seen world.new) }
 {
     let place = handles::tcp3_socket(view.table, socket)?;
-    let end = named(view.store.take_receive_end(place))?;
+    let end = named(host_tcp::take_receive_end(view.store, place))?;
     let side = view.store.side(place);
     make_ends(
         view,
@@ -133,7 +133,7 @@ pub fn take_result(
         return Ok(None);
     };
     handles::remove(view.table, slot)?;
-    view.store.drop_slot(place);
+    host_tcp::drop_slot(view.store, place);
     Ok(Some(named_end(ended)))
 }
 
@@ -161,10 +161,7 @@ impl ReceiveStreamProducer {
     {
         let end = handles::receive3(view.table, self.handle)?;
         let own = ids.own();
-        named(
-            view.store
-                .poll_read_end(alloc, world, own, end, remaining, finish),
-        )
+        named(host_tcp::poll_read_end(view.store, alloc, world, own, end, remaining, finish))
     }
 }
 
@@ -191,6 +188,6 @@ impl SendStreamConsumer {
     {
         let end = handles::send3(view.table, self.handle)?;
         let own = ids.own();
-        named(view.store.poll_write_end(world, own, end, bytes, finish))
+        named(host_tcp::poll_write_end(view.store, world, own, end, bytes, finish))
     }
 }

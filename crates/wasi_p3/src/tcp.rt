@@ -3,22 +3,17 @@
 
 ghost use Rattle.std.specs.Prelude.{◌≡◌, Ok, false};
 ghost use Rattle.wasi_world.specs.Asks.{AsksFor};
-ghost use Rattle.wasi_host.specs.Machine.{own_of};
-ghost use Rattle.wasi_host.specs.Views.{state_of, HostKept};
+ghost use Rattle.host_store.specs.Machine.{own_of};
+ghost use Rattle.host_store.specs.Views.{state_of, HostKept};
 ghost use Rattle.wasi_p3.specs.Stops.{ends_as};
 ghost use Rattle.wasi_p3.specs.Tcp.{create, bind_to, connect_to, local_address};
 ghost use Rattle.wasi_p3.specs.Tcp.{remote_address, is_listening, address_family};
 
 use crate::error::{SocketError, answered, named};
-pub use crate::options::{
-    get_hop_limit, get_keep_alive_count, get_keep_alive_enabled, get_keep_alive_idle_time,
-    get_keep_alive_interval, get_option, get_receive_buffer_size, get_send_buffer_size,
-    set_hop_limit, set_keep_alive_count, set_keep_alive_enabled, set_keep_alive_idle_time,
-    set_keep_alive_interval, set_listen_backlog_size, set_option, set_receive_buffer_size,
-    set_send_buffer_size,
-};
+pub use crate::options::{get_option, set_listen_backlog_size, set_option};
+use host_store::{Kind, WasiSocketsCtxView, handles};
 use wasi_addr::{IpSocketAddress, SocketAddressFamily};
-use wasi_host::{Kind, TcpRecord, WasiSocketsCtxView, handles};
+use wasi_records::TcpRecord;
 use wasi_world::{Answer, Handle, Ids, TrapKind, World};
 
 /// Creates a TCP socket of this family (`tcp-socket.create`). A context that may not use TCP:
@@ -39,7 +34,7 @@ pub fn create<W: World>(
         (W.seen world.new) }
 {
     let own = ids.own();
-    let place = answered(view.store.make_tcp(world, own, view.ctx, family))?;
+    let place = answered(host_tcp::make_tcp(view.store, world, own, view.ctx, family))?;
     let side = view.store.side(place);
     let handle = handles::make(view.table, world, own, Kind::Tcp3(place), None, side)?;
     Ok(handle)
@@ -48,7 +43,7 @@ pub fn create<W: World>(
 /// Binds a socket to an address (`tcp-socket.bind`). Bound already, or not in its first state:
 /// `InvalidState`. An address of another family, or that is none of a single host:
 /// `InvalidArgument`. The check says no: `AccessDenied`. The network's code is returned. The call
-/// is pending while its check is, and [`resume`](wasi_host::resume) continues it.
+/// is pending while its check is, and `wasi_host::resume` continues it.
 pub fn bind<W: World>(
     view: &mut WasiSocketsCtxView<'_>,
     world: &mut W,
@@ -63,7 +58,7 @@ pub fn bind<W: World>(
         (W.seen world.new) }
 {
     let place = handles::tcp3_socket(view.table, socket)?;
-    named(view.store.bind_tcp(world, *ids, place, addr))
+    named(host_tcp::bind_tcp(view.store, world, *ids, place, addr))
 }
 
 /// Connects a socket to an address (`tcp-socket.connect`).
@@ -73,7 +68,7 @@ pub fn bind<W: World>(
 /// - A check says no: `AccessDenied`. The network's code is returned. Either closes the socket.
 ///
 /// The call is pending while the check or the network's connect is, beside other calls, and
-/// [`resume`](wasi_host::resume) continues it. A socket whose handle is dropped meanwhile is closed.
+/// `wasi_host::resume` continues it. A socket whose handle is dropped meanwhile is closed.
 pub fn connect<W: World>(
     view: &mut WasiSocketsCtxView<'_>,
     world: &mut W,
@@ -89,7 +84,7 @@ pub fn connect<W: World>(
         (W.seen world.new) }
 {
     let place = handles::tcp3_socket(view.table, socket)?;
-    named(view.store.connect_tcp(world, *ids, place, addr))
+    named(host_tcp::connect_tcp(view.store, world, *ids, place, addr))
 }
 
 /// The address that a socket is bound to (`tcp-socket.get-local-address`). Not bound, or

@@ -4,22 +4,23 @@
 ghost use Rattle.std.specs.Prelude.{◌≡◌, ◌≤◌, IfOk, Ok, false};
 ghost use Rattle.wasi_world.specs.Asks.{AsksFor};
 ghost use Rattle.socket_common.specs.Options.{largest_value, option_of, number_of};
-ghost use Rattle.wasi_host.specs.Machine.{own_of};
-ghost use Rattle.wasi_host.specs.Views.{state_of, HostKept};
+ghost use Rattle.host_store.specs.Machine.{own_of};
+ghost use Rattle.host_store.specs.Views.{state_of, HostKept};
 ghost use Rattle.wasi_p3.specs.Stops.{ends_as};
 ghost use Rattle.wasi_p3.specs.Udp.{create, bind_to, connect_to, local_address, remote_address};
 ghost use Rattle.wasi_p3.specs.Udp.{send, receive};
 ghost use Rattle.wasi_p3.specs.Udp.{address_family, disconnect, get_option, set_option};
 
 use crate::error::{SocketError, answered, named, told};
+use host_store::{Interface, WasiSocketsCtxView, handles};
 use socket_common::Setting;
 use wasi_addr::{IpSocketAddress, SocketAddressFamily};
-use wasi_host::{Interface, OpenUdp, WasiSocketsCtxView, handles};
+use wasi_records::OpenUdp;
 use wasi_world::{Answer, Handle, Ids, IncomingDatagram, Opt, OutgoingDatagram, TrapKind, World};
 
 /// Creates a UDP socket of this family (`udp-socket.create`). A context that may not use UDP:
 /// `AccessDenied`, and nothing is asked. The call is pending until the network socket can send, and
-/// [`resume`](wasi_host::resume) continues it. Takes memory for its record and its handle.
+/// `wasi_host::resume` continues it. Takes memory for its record and its handle.
 pub fn create<W: World>(
     view: &mut WasiSocketsCtxView<'_>,
     world: &mut W,
@@ -34,15 +35,20 @@ pub fn create<W: World>(
         (W.seen world.new) }
 {
     let ids = *ids;
-    named(
-        view.store
-            .create_udp(view.table, world, ids, view.ctx, family, Interface::P3),
-    )
+    named(host_udp::create_udp(
+        view.store,
+        view.table,
+        world,
+        ids,
+        view.ctx,
+        family,
+        Interface::P3,
+    ))
 }
 
 /// Binds a socket to an address (`udp-socket.bind`). Bound already: `InvalidState`. An address of
 /// another family: `InvalidArgument`. The check says no: `AccessDenied`. The network's code is
-/// returned. The call is pending while its check is, and [`resume`](wasi_host::resume) continues
+/// returned. The call is pending while its check is, and `wasi_host::resume` continues
 /// it.
 pub fn bind<W: World>(
     view: &mut WasiSocketsCtxView<'_>,
@@ -58,7 +64,7 @@ pub fn bind<W: World>(
         (W.seen world.new) }
 {
     let place = handles::udp3_socket(view.table, socket)?;
-    named(view.store.bind_udp(world, *ids, place, addr))
+    named(host_udp::bind_udp(view.store, world, *ids, place, addr))
 }
 
 /// Connects a socket to an address (`udp-socket.connect`), also one that is connected already.
@@ -68,7 +74,7 @@ pub fn bind<W: World>(
 ///   and each has the address checked for sending and for receiving.
 /// - The network's code is returned. The remote address is then what the network says it is.
 ///
-/// The call is pending while a check is, and [`resume`](wasi_host::resume) continues it.
+/// The call is pending while a check is, and `wasi_host::resume` continues it.
 pub fn connect<W: World>(
     view: &mut WasiSocketsCtxView<'_>,
     world: &mut W,
@@ -84,7 +90,7 @@ pub fn connect<W: World>(
         (W.seen world.new) }
 {
     let place = handles::udp3_socket(view.table, socket)?;
-    named(view.store.connect_udp(world, *ids, place, addr))
+    named(host_udp::connect_udp(view.store, world, *ids, place, addr))
 }
 
 /// Sends a datagram (`udp-socket.send`), to its address or to the one that the socket is connected
@@ -100,7 +106,7 @@ pub fn connect<W: World>(
 /// - The network's code is returned.
 ///
 /// While it is pending it stands beside other calls, and holds the socket's network socket.
-/// [`resume`](wasi_host::resume) continues it.
+/// `wasi_host::resume` continues it.
 pub fn send<W: World>(
     view: &mut WasiSocketsCtxView<'_>,
     world: &mut W,
@@ -116,7 +122,7 @@ pub fn send<W: World>(
         (W.seen world.new) }
 {
     let place = handles::udp3_socket(view.table, socket)?;
-    named(view.store.send_datagram(world, *ids, place, datagram))
+    named(host_udp::send_datagram(view.store, world, *ids, place, datagram))
 }
 
 /// Receives a datagram (`udp-socket.receive`), whoever sent it. Not bound: `InvalidState`. A
@@ -124,7 +130,7 @@ pub fn send<W: World>(
 /// code is returned.
 ///
 /// While it is pending it stands beside other calls, and holds the socket's network socket.
-/// [`resume`](wasi_host::resume) continues it.
+/// `wasi_host::resume` continues it.
 pub fn receive<W: World>(
     view: &mut WasiSocketsCtxView<'_>,
     world: &mut W,
@@ -138,7 +144,7 @@ pub fn receive<W: World>(
         (W.seen world.new) }
 {
     let place = handles::udp3_socket(view.table, socket)?;
-    named(view.store.receive_datagram(world, *ids, place))
+    named(host_udp::receive_datagram(view.store, world, *ids, place))
 }
 
 /// The address that a socket is bound to (`udp-socket.get-local-address`). Not bound:
@@ -213,11 +219,15 @@ pub fn disconnect<W: World>(
     answered(socket.inner.disconnect(world, ids.own()))
 }
 
-/// Reads an option: the hop limit, or a size in bytes. The getters below are this call with their
-/// option.
+/// Reads an option.
+///
+/// - `get-unicast-hop-limit`: how many hops a packet lives.
+/// - `get-receive-buffer-size`, `get-send-buffer-size`: the size of the buffer for what comes in, and
+///   for what goes out, in bytes: half of what is reported.
+///
+/// Refused, it answers:
 ///
 /// - A code that the network reports is returned.
-/// - A reported size is halved.
 /// - A reported value above the option's `largest_value` is `NotSupported`.
 pub fn get_option<W: World>(
     view: &mut WasiSocketsCtxView<'_>,
@@ -240,10 +250,14 @@ pub fn get_option<W: World>(
     answered(socket.inner.get_option(world, ids.own(), option))
 }
 
-/// Sets an option. The setters below are this call with their setting. The socket stays as it is.
+/// Sets an option. The socket stays as it is.
+///
+/// - `set-unicast-hop-limit`: set as it is.
+/// - `set-receive-buffer-size`, `set-send-buffer-size`: in bytes, brought into 1 to 2,147,483,647.
+///
+/// Refused, it answers:
 ///
 /// - 0 is `InvalidArgument`, and nothing is asked.
-/// - Sizes are brought into their range first.
 /// - A code that the network reports is returned.
 pub fn set_option<W: World>(
     view: &mut WasiSocketsCtxView<'_>,
@@ -264,115 +278,4 @@ pub fn set_option<W: World>(
         return Err(SocketError::Trap(TrapKind::NoSuchHandle));
     };
     answered(socket.inner.set_option(world, ids.own(), setting))
-}
-
-/// How many hops a datagram lives (`get-unicast-hop-limit`). A number above 255 that is reported:
-/// `NotSupported`.
-pub fn get_unicast_hop_limit<W: World>(
-    view: &mut WasiSocketsCtxView<'_>,
-    world: &mut W,
-    ids: &mut Ids,
-    socket: Handle,
-) -> Result<u8, SocketError>
-    requires { (W.seen world.old).ended ≡ false }
-    ensures asked { AsksFor (get_option (own_of ids.old.line) socket Opt.HopLimit
-        (state_of view.old))
-        (W.seen world.old) (W.seen world.new) (λ told. (told, state_of view.new)) (ends_as result) }
-    ensures kept { HostKept view.old view.new ids.old ids.new (W.seen world.old)
-        (W.seen world.new) }
-{
-    let value = get_option(view, world, ids, socket, Opt::HopLimit)?;
-    Ok(value as u8)
-}
-
-/// Sets how many hops a datagram lives (`set-unicast-hop-limit`). 0: `InvalidArgument`.
-pub fn set_unicast_hop_limit<W: World>(
-    view: &mut WasiSocketsCtxView<'_>,
-    world: &mut W,
-    ids: &mut Ids,
-    socket: Handle,
-    value: u8,
-) -> Result<(), SocketError>
-    requires { (W.seen world.old).ended ≡ false }
-    ensures asked { AsksFor (set_option (own_of ids.old.line) socket Opt.HopLimit value
-        (state_of view.old))
-        (W.seen world.old) (W.seen world.new) (λ done. (done, state_of view.new)) (ends_as result) }
-    ensures kept { HostKept view.old view.new ids.old ids.new (W.seen world.old)
-        (W.seen world.new) }
-{
-    set_option(view, world, ids, socket, Setting::HopLimit(value))
-}
-
-/// The size of the buffer for what comes in, in bytes (`get-receive-buffer-size`): half of what is
-/// reported.
-pub fn get_receive_buffer_size<W: World>(
-    view: &mut WasiSocketsCtxView<'_>,
-    world: &mut W,
-    ids: &mut Ids,
-    socket: Handle,
-) -> Result<u64, SocketError>
-    requires { (W.seen world.old).ended ≡ false }
-    ensures asked { AsksFor (get_option (own_of ids.old.line) socket Opt.ReceiveBufferSize
-        (state_of view.old))
-        (W.seen world.old) (W.seen world.new) (λ told. (told, state_of view.new)) (ends_as result) }
-    ensures kept { HostKept view.old view.new ids.old ids.new (W.seen world.old)
-        (W.seen world.new) }
-{
-    get_option(view, world, ids, socket, Opt::ReceiveBufferSize)
-}
-
-/// Sets the size of the buffer for what comes in, in bytes (`set-receive-buffer-size`): brought
-/// into 1 to 2,147,483,647. 0: `InvalidArgument`.
-pub fn set_receive_buffer_size<W: World>(
-    view: &mut WasiSocketsCtxView<'_>,
-    world: &mut W,
-    ids: &mut Ids,
-    socket: Handle,
-    value: u64,
-) -> Result<(), SocketError>
-    requires { (W.seen world.old).ended ≡ false }
-    ensures asked { AsksFor (set_option (own_of ids.old.line) socket Opt.ReceiveBufferSize value
-        (state_of view.old))
-        (W.seen world.old) (W.seen world.new) (λ done. (done, state_of view.new)) (ends_as result) }
-    ensures kept { HostKept view.old view.new ids.old ids.new (W.seen world.old)
-        (W.seen world.new) }
-{
-    set_option(view, world, ids, socket, Setting::ReceiveBufferSize(value))
-}
-
-/// The size of the buffer for what goes out, in bytes (`get-send-buffer-size`): half of what is
-/// reported.
-pub fn get_send_buffer_size<W: World>(
-    view: &mut WasiSocketsCtxView<'_>,
-    world: &mut W,
-    ids: &mut Ids,
-    socket: Handle,
-) -> Result<u64, SocketError>
-    requires { (W.seen world.old).ended ≡ false }
-    ensures asked { AsksFor (get_option (own_of ids.old.line) socket Opt.SendBufferSize
-        (state_of view.old))
-        (W.seen world.old) (W.seen world.new) (λ told. (told, state_of view.new)) (ends_as result) }
-    ensures kept { HostKept view.old view.new ids.old ids.new (W.seen world.old)
-        (W.seen world.new) }
-{
-    get_option(view, world, ids, socket, Opt::SendBufferSize)
-}
-
-/// Sets the size of the buffer for what goes out, in bytes (`set-send-buffer-size`): brought into 1
-/// to 2,147,483,647. 0: `InvalidArgument`.
-pub fn set_send_buffer_size<W: World>(
-    view: &mut WasiSocketsCtxView<'_>,
-    world: &mut W,
-    ids: &mut Ids,
-    socket: Handle,
-    value: u64,
-) -> Result<(), SocketError>
-    requires { (W.seen world.old).ended ≡ false }
-    ensures asked { AsksFor (set_option (own_of ids.old.line) socket Opt.SendBufferSize value
-        (state_of view.old))
-        (W.seen world.old) (W.seen world.new) (λ done. (done, state_of view.new)) (ends_as result) }
-    ensures kept { HostKept view.old view.new ids.old ids.new (W.seen world.old)
-        (W.seen world.new) }
-{
-    set_option(view, world, ids, socket, Setting::SendBufferSize(value))
 }

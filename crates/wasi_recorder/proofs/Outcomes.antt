@@ -9,8 +9,8 @@ use Rattle.wasi_world.specs.Seen.{Seen, Rose}
 use Rattle.wasi_world.specs.Asks.{Asks, Give, Left}
 use Rattle.world_io.specs.Io.{Reading, Writing, Took}
 use Rattle.world_io.specs.Written.{TookAll, TookPart}
-use Rattle.wasi_host.specs.declared.machine.Machine.{Machine}
-use Rattle.wasi_host.specs.Machine.{first_state}
+use Rattle.host_store.specs.declared.machine.Machine.{Machine}
+use Rattle.host_store.specs.Machine.{first_state}
 use Rattle.wasi_machine.specs.Machine.{run}
 use Rattle.wasi_steps.specs.declared.step.Step.{Step}
 use Rattle.wasi_steps.specs.declared.reply.Reply.{Reply}

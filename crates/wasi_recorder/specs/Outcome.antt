@@ -7,8 +7,8 @@ use Rattle.wasi_world.specs.Asks.{Give, Left}
 use Rattle.world_io.specs.Io.{Reading, Writing, Gave, HasEnded}
 use Rattle.world_io.specs.Written.{TookAll, TookPart}
 use Rattle.world_text.specs.Lines.{lines_of, rest_of}
-use Rattle.wasi_host.specs.declared.machine.Machine.{Machine}
-use Rattle.wasi_host.specs.Machine.{first_state}
+use Rattle.host_store.specs.declared.machine.Machine.{Machine}
+use Rattle.host_store.specs.Machine.{first_state}
 use Rattle.wasi_machine.specs.Machine.{run}
 use Rattle.wasi_steps.specs.declared.step.Step.{Step}
 use Rattle.wasi_steps.specs.declared.reply.Reply.{Reply}

@@ -4,7 +4,7 @@
 ghost use Rattle.std.specs.Prelude.{◌≡◌, ℕ, List};
 ghost use Rattle.wasi_world.specs.declared.call.Entry.{Entry};
 ghost use Rattle.wasi_world.specs.Asks.{Asks, Give, Left};
-ghost use Rattle.wasi_host.specs.declared.machine.Machine.{Machine};
+ghost use Rattle.host_store.specs.declared.machine.Machine.{Machine};
 ghost use Rattle.wasi_steps.specs.declared.reply.Reply.{Reply};
 ghost use Rattle.wasi_recorder.specs.Replays.{DiffersAt, WritesByBytes};
 

@@ -8,10 +8,10 @@ use Rattle.wasi_world.specs.declared.call.Entry.{Entry}
 use Rattle.wasi_world.specs.declared.outcome.WasiSocketsCtx.{WasiSocketsCtx}
 use Rattle.wasi_world.specs.Asks.{Give}
 use Rattle.wasi_tcp.specs.Taken.{IsFrontOf, taken_in}
-use Rattle.wasi_host.specs.declared.machine.Machine.{Machine}
-use Rattle.wasi_host.specs.declared.store.Standing.{Standing}
-use Rattle.wasi_host.specs.CallStops.{CallStop, Closed, Failed, Traps}
-use Rattle.wasi_host.specs.StreamCalls.{check_asks}
+use Rattle.host_store.specs.declared.machine.Machine.{Machine}
+use Rattle.host_store.specs.declared.store.Standing.{Standing}
+use Rattle.host_store.specs.CallStops.{CallStop, Closed, Failed, Traps}
+use Rattle.host_streams.specs.StreamCalls.{check_asks}
 use Rattle.wasi_records.specs.Names.{own_of}
 use Rattle.wasi_machine.specs.Machine.{asks_while, is_held_up, stream_reply_of}
 use Rattle.wasi_steps.specs.declared.guest_call.GuestCall.TheVariants as guest

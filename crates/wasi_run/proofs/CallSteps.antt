@@ -1,7 +1,7 @@
 -- How a step continues where an exclusive call is pending.
 use Rattle.wasi_run.proofs.LineWords.{Asks, Bool, Give, List, Machine, None, Option, Reply, Some, Step, WasiSocketsCtx, ap, asks_while, false}
 use Rattle.wasi_run.proofs.LineWords.{if◌then◌else◌, is_held_up, is_some, refl, step_asks, true, ℕ, ◌&&◌, ◌≡◌}
-use Rattle.wasi_host.specs.declared.store.Standing.{Standing}
+use Rattle.host_store.specs.declared.store.Standing.{Standing}
 use Rattle.wasi_steps.specs.declared.reply.Reply.TheVariants as reply
 
 -- == where a call is pending

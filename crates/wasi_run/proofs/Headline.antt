@@ -3,7 +3,7 @@ use Rattle.wasi_run.proofs.Words.{◌∙◌, refl, ap, sym, append-nil, ℕ, Lis
 use Rattle.std.specs.Prelude.{Option}
 use Rattle.wasi_world.specs.declared.ids.OpId.{OpId}
 use Rattle.wasi_run.specs.declared.run.RunEnd.{RunEnd}
-use Rattle.wasi_host.specs.KnownSides.{KnowsSides}
+use Rattle.host_store.specs.KnownSides.{KnowsSides}
 use Rattle.wasi_records.specs.Closing.{HasClosedEach}
 use Rattle.wasi_records.specs.Sides.{ClosesAll, no_socket}
 use Rattle.wasi_run.specs.Script.{RanOver, RanScript}

@@ -14,8 +14,8 @@ pub use Rattle.world_io.specs.Io.{CountRose, Gave, GaveNone, GaveSome, Reading, 
 pub use Rattle.world_text.specs.Lines.{lines_from, lines_of, rest_from, rest_of}
 pub use Rattle.wasi_world.specs.Seen.{Rose, Seen}
 pub use Rattle.wasi_world.specs.declared.outcome.WasiSocketsCtx.{WasiSocketsCtx}
-pub use Rattle.wasi_host.specs.KnownSides.{KnowsSides}
-pub use Rattle.wasi_host.specs.declared.machine.Machine.{Machine}
+pub use Rattle.host_store.specs.KnownSides.{KnowsSides}
+pub use Rattle.host_store.specs.declared.machine.Machine.{Machine}
 pub use Rattle.wasi_steps.specs.Replies.{text_of}
 pub use Rattle.wasi_steps.specs.Reply.{address_values, bytes_fields, datagram_values, family_fields, is_trap, no_values, number_fields, pair_values, triple_values}
 pub use Rattle.wasi_steps.specs.Reply.{received_values, truth_fields}

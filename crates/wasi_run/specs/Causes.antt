@@ -4,10 +4,10 @@ use Rattle.wasi_world.specs.declared.outcome.WasiSocketsCtx.{WasiSocketsCtx}
 use Rattle.wasi_world.specs.Seen.{Seen, Rose}
 use Rattle.wasi_world.specs.Asks.{Give, Reaches, Started}
 use Rattle.world_io.specs.Io.{Reading, Writing, Gave, HasEnded, Took, SameCounts, CountRose}
-use Rattle.wasi_host.specs.declared.machine.Machine.{Machine}
+use Rattle.host_store.specs.declared.machine.Machine.{Machine}
 use Rattle.wasi_steps.specs.declared.step.Step.{Step}
 use Rattle.wasi_steps.specs.declared.reply.Reply.{Reply}
-use Rattle.wasi_host.specs.Machine.{first_state}
+use Rattle.host_store.specs.Machine.{first_state}
 use Rattle.wasi_machine.specs.Machine.{run}
 use Rattle.world_text.specs.Lines.{lines_of, rest_of}
 use Rattle.wasi_run.specs.Lines.{after_lines, StartWith, BadAfter}

@@ -4,7 +4,7 @@ use Rattle.wasi_world.specs.declared.outcome.WasiSocketsCtx.{WasiSocketsCtx}
 use Rattle.wasi_world.specs.Seen.{Seen}
 use Rattle.wasi_world.specs.Asks.{Give, Reaches, Started}
 use Rattle.world_io.specs.Io.{Writing, Took, SameCounts, CountRose}
-use Rattle.wasi_host.specs.declared.machine.Machine.{Machine}
+use Rattle.host_store.specs.declared.machine.Machine.{Machine}
 use Rattle.wasi_steps.specs.declared.step.Step.{Step}
 use Rattle.wasi_steps.specs.declared.reply.Reply.{Reply}
 use Rattle.wasi_run.specs.declared.lines.LinesEnd.{LinesEnd}
@@ -14,7 +14,7 @@ use Rattle.wasi_run.specs.declared.error.RunError.TheVariants.{Memory, BadStep, 
 use Rattle.wasi_steps.specs.Reply.{is_trap}
 use Rattle.wasi_steps.specs.Replies.{text_of}
 use Rattle.wasi_machine.specs.Machine.{machine_asks, run}
-use Rattle.wasi_host.specs.KnownSides.{KnowsSides}
+use Rattle.host_store.specs.KnownSides.{KnowsSides}
 use Rattle.wasi_run.specs.Lines.{StartWith, BadAfter}
 
 abbrev pub texts : List Reply → List ℕ

@@ -3,14 +3,14 @@ use Rattle.std.specs.Prelude.{◌≡◌, ◌≢◌, ℕ, List, [], ◌+◌, ◌�
 use Rattle.wasi_world.specs.declared.outcome.WasiSocketsCtx.{WasiSocketsCtx}
 use Rattle.wasi_world.specs.Seen.{Seen, Rose}
 use Rattle.world_io.specs.Io.{Reading, Writing, Gave, HasEnded, CountRose}
-use Rattle.wasi_host.specs.declared.machine.Machine.{Machine}
+use Rattle.host_store.specs.declared.machine.Machine.{Machine}
 use Rattle.wasi_run.specs.declared.lines.LinesEnd.{LinesEnd}
 use Rattle.wasi_run.specs.declared.lines.LinesEnd.TheVariants as lines
 use Rattle.wasi_run.specs.declared.run.RunEnd.{RunEnd}
 use Rattle.wasi_run.specs.declared.run.RunEnd.TheVariants as end
 use Rattle.wasi_run.specs.declared.error.RunError.{RunError}
 use Rattle.wasi_run.specs.declared.error.RunError.TheVariants.{Memory, BadStep, TooLong, ReadFault}
-use Rattle.wasi_host.specs.Machine.{first_state}
+use Rattle.host_store.specs.Machine.{first_state}
 use Rattle.world_text.specs.Lines.{lines_of, rest_of}
 use Rattle.wasi_run.specs.Lines.{after_lines, AllSteps}
 use Rattle.wasi_records.specs.Closing.{AsksNothing}

@@ -3,8 +3,8 @@
 
 ghost use Rattle.std.specs.Prelude.{◌≡◌, ◌&&◌, is_some, false};
 ghost use Rattle.wasi_world.specs.Asks.{AsksFor};
-ghost use Rattle.wasi_host.specs.KnownSides.{KnowsSides};
-ghost use Rattle.wasi_host.specs.Views.{SameView, state_of};
+ghost use Rattle.host_store.specs.KnownSides.{KnowsSides};
+ghost use Rattle.host_store.specs.Views.{SameView, state_of};
 ghost use Rattle.wasi_machine.specs.Machine.{first_ids, machine_asks};
 ghost use Rattle.wasi_machine.specs.Machine.{is_held_up, polls_beside, asks_in, call_asks};
 ghost use Rattle.wasi_machine.specs.Machine.{context_at, context_for};
@@ -13,8 +13,8 @@ use crate::groups::{CallGroup, group_of};
 use crate::p3_calls::{p3_tcp_call, p3_udp_call};
 use crate::socket_calls::{name_call, tcp_call, udp_call};
 use crate::stream_calls::{pipe_call, pollable_call, stream_call};
+use host_store::{Kind, Machine, Store, WasiSocketsCtxView};
 use std::alloc::{AllocError, Global};
-use wasi_host::{Kind, Machine, Store, WasiSocketsCtxView};
 use wasi_machine::replies::{cancelled_reply, resumed_reply};
 use wasi_steps::{GuestCall, Reply, Step};
 use wasi_table::Table;

@@ -2,15 +2,15 @@
 
 ghost use Rattle.std.specs.Prelude.{◌≡◌, is_some, false};
 ghost use Rattle.wasi_world.specs.Asks.{AsksFor};
-ghost use Rattle.wasi_host.specs.KnownSides.{KnowsSides};
-ghost use Rattle.wasi_host.specs.Views.{SameView, state_of};
+ghost use Rattle.host_store.specs.KnownSides.{KnowsSides};
+ghost use Rattle.host_store.specs.Views.{SameView, state_of};
 ghost use Rattle.wasi_machine.specs.Machine.{first_ids, call_asks};
 ghost use Rattle.wasi_run.specs.Groups.{group_of};
 ghost use Rattle.wasi_run.specs.declared.groups.CallGroup.{CallGroup};
 
 use crate::settings::{set_p3, udp_opt, udp_setting};
+use host_store::WasiSocketsCtxView;
 use std::alloc::{AllocError, Global};
-use wasi_host::WasiSocketsCtxView;
 use wasi_machine::replies::{
     lookup_reply, p3_answer_reply, p3_reply, slot_reply, stream_result_reply,
 };

@@ -3,15 +3,15 @@
 
 ghost use Rattle.std.specs.Prelude.{◌≡◌, ◌+◌, ◌<◌, ◌^◌, false, true};
 ghost use Rattle.wasi_world.specs.Asks.{AsksFor};
-ghost use Rattle.wasi_host.specs.Machine.{first_state};
-ghost use Rattle.wasi_host.specs.KnownSides.{KnowsSides};
+ghost use Rattle.host_store.specs.Machine.{first_state};
+ghost use Rattle.host_store.specs.KnownSides.{KnowsSides};
 ghost use Rattle.wasi_records.specs.Sides.{ClosesAll};
 ghost use Rattle.wasi_records.specs.Closing.{AsksNothing, HasClosedEach};
 ghost use Rattle.wasi_machine.specs.Machine.{machine_asks};
 
 use crate::calls::do_step;
+use host_store::Machine;
 use std::alloc::{AllocError, Global};
-use wasi_host::Machine;
 use wasi_steps::{Reply, Step};
 use wasi_world::{WasiSocketsCtx, World};
 

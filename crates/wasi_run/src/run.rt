@@ -2,7 +2,7 @@
 
 ghost use Rattle.std.specs.Prelude.{◌≡◌, ℕ, ◌<◌, ◌^◌, OnOk, length, false, true};
 ghost use Rattle.wasi_world.specs.Contexts.{AreNumbered};
-ghost use Rattle.wasi_host.specs.Machine.{first_state};
+ghost use Rattle.host_store.specs.Machine.{first_state};
 ghost use Rattle.wasi_records.specs.Closing.{HasClosedAll, HasClosedEach, IsFresh};
 ghost use Rattle.wasi_run.specs.Script.{RanOver, RanScript, Completes};
 ghost use Rattle.wasi_run.specs.Headline.{RunsLicensed};

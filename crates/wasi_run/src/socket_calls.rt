@@ -2,8 +2,8 @@
 
 ghost use Rattle.std.specs.Prelude.{◌≡◌, is_some, false};
 ghost use Rattle.wasi_world.specs.Asks.{AsksFor};
-ghost use Rattle.wasi_host.specs.KnownSides.{KnowsSides};
-ghost use Rattle.wasi_host.specs.Views.{SameView, state_of};
+ghost use Rattle.host_store.specs.KnownSides.{KnowsSides};
+ghost use Rattle.host_store.specs.Views.{SameView, state_of};
 ghost use Rattle.wasi_machine.specs.Machine.{first_ids, call_asks};
 ghost use Rattle.wasi_run.specs.Groups.{group_of};
 ghost use Rattle.wasi_run.specs.declared.groups.CallGroup.{CallGroup};
@@ -12,11 +12,12 @@ ghost use Rattle.wasi_records.specs.Stops.{host_outcome};
 ghost use Rattle.wasi_machine.specs.Machine.{without_code};
 
 use crate::settings::{set, udp_opt, udp_setting};
+use host_store::WasiSocketsCtxView;
 use std::alloc::{AllocError, Global};
 use wasi_addr::p2;
-use wasi_host::{SocketError, WasiSocketsCtxView};
 use wasi_machine::replies::{answer_reply, reply_of};
 use wasi_p2::{ip_name_lookup, tcp, udp};
+use wasi_records::SocketError;
 use wasi_steps::{GuestCall, NoCode, Reply};
 use wasi_world::{Ids, World};
 

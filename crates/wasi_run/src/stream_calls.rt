@@ -2,16 +2,17 @@
 
 ghost use Rattle.std.specs.Prelude.{◌≡◌, is_some, false};
 ghost use Rattle.wasi_world.specs.Asks.{AsksFor};
-ghost use Rattle.wasi_host.specs.KnownSides.{KnowsSides};
-ghost use Rattle.wasi_host.specs.Views.{SameView, state_of};
+ghost use Rattle.host_store.specs.KnownSides.{KnowsSides};
+ghost use Rattle.host_store.specs.Views.{SameView, state_of};
 ghost use Rattle.wasi_machine.specs.Machine.{first_ids, call_asks};
 ghost use Rattle.wasi_run.specs.Groups.{group_of};
 ghost use Rattle.wasi_run.specs.declared.groups.CallGroup.{CallGroup};
 ghost use Rattle.wasi_records.specs.Stops.{fault_outcome, host_outcome};
 
+use host_store::WasiSocketsCtxView;
 use std::alloc::{AllocError, Global};
-use wasi_host::{SocketError, WasiSocketsCtxView};
 use wasi_machine::replies::{answer_reply, blocked_reply, reply_of, stream_reply_of};
+use wasi_records::SocketError;
 use wasi_steps::{GuestCall, Reply};
 use wasi_streams::Fault;
 use wasi_world::{Ids, World};
@@ -36,59 +37,61 @@ pub(crate) fn stream_call<W: World>(
 {
     match call {
         GuestCall::Read { input, len } => {
-            let read = wasi_host::read(alloc, view, world, ids, input, len);
+            let read = host_streams::read(alloc, view, world, ids, input, len);
             stream_reply_of(alloc, read)
         }
         GuestCall::CheckWrite { output } => {
-            let permit = wasi_host::check_write(view, world, ids, output);
+            let permit = host_streams::check_write(view, world, ids, output);
             stream_reply_of(alloc, permit)
         }
         GuestCall::Write { output, bytes } => {
-            let written = wasi_host::write(view, world, ids, output, bytes);
+            let written = host_streams::write(view, world, ids, output, bytes);
             stream_reply_of(alloc, written)
         }
         GuestCall::Flush { output } => {
-            let flushed = wasi_host::flush(view, world, ids, output);
+            let flushed = host_streams::flush(view, world, ids, output);
             stream_reply_of(alloc, flushed)
         }
         GuestCall::Skip { input, len } => {
-            let skipped = wasi_host::skip(alloc, view, world, ids, input, len);
+            let skipped = host_streams::skip(alloc, view, world, ids, input, len);
             stream_reply_of(alloc, skipped)
         }
         GuestCall::WriteZeroes { output, len } => {
-            let written = wasi_host::write_zeroes(alloc, view, world, ids, output, len);
+            let written = host_streams::write_zeroes(alloc, view, world, ids, output, len);
             stream_reply_of(alloc, written)
         }
         GuestCall::Splice { output, input, len } => {
-            let spliced = wasi_host::splice(alloc, view, world, ids, output, input, len);
+            let spliced = host_streams::splice(alloc, view, world, ids, output, input, len);
             stream_reply_of(alloc, spliced)
         }
         GuestCall::BlockingRead { input, len } => {
-            let read = wasi_host::blocking_read(alloc, view, world, ids, input, len);
+            let read = host_streams::blocking_read(alloc, view, world, ids, input, len);
             blocked_reply(alloc, ids.line, read)
         }
         GuestCall::BlockingSkip { input, len } => {
-            let skipped = wasi_host::blocking_skip(alloc, view, world, ids, input, len);
+            let skipped = host_streams::blocking_skip(alloc, view, world, ids, input, len);
             blocked_reply(alloc, ids.line, skipped)
         }
         GuestCall::BlockingWrite { output, bytes } => {
-            let written = wasi_host::blocking_write_and_flush(
+            let written = host_streams::blocking_write_and_flush(
                 alloc, view, world, ids, output, bytes,
             );
             blocked_reply(alloc, ids.line, written)
         }
         GuestCall::BlockingZeroes { output, len } => {
-            let written = wasi_host::blocking_write_zeroes_and_flush(
+            let written = host_streams::blocking_write_zeroes_and_flush(
                 alloc, view, world, ids, output, len,
             );
             blocked_reply(alloc, ids.line, written)
         }
         GuestCall::BlockingFlush { output } => {
-            let flushed = wasi_host::blocking_flush(view, world, ids, output);
+            let flushed = host_streams::blocking_flush(view, world, ids, output);
             blocked_reply(alloc, ids.line, flushed)
         }
         GuestCall::BlockingSplice { output, input, len } => {
-            let spliced = wasi_host::blocking_splice(alloc, view, world, ids, output, input, len);
+            let spliced = host_streams::blocking_splice(
+                alloc, view, world, ids, output, input, len,
+            );
             blocked_reply(alloc, ids.line, spliced)
         }
         _ => unreachable!(),
@@ -115,27 +118,27 @@ pub(crate) fn pipe_call<W: World>(
 {
     match call {
         GuestCall::PipeIn { bytes } => {
-            let made = wasi_host::make_input_pipe(view, world, ids, bytes);
+            let made = host_streams::make_input_pipe(view, world, ids, bytes);
             reply_of(alloc, socket_result(made))
         }
         GuestCall::PipeOut { capacity } => {
-            let made = wasi_host::make_output_pipe(alloc, view, world, ids, capacity as usize);
+            let made = host_streams::make_output_pipe(alloc, view, world, ids, capacity as usize);
             reply_of(alloc, socket_result(made))
         }
         GuestCall::PipeContents { output } => {
-            let contents = wasi_host::pipe_contents(alloc, view, output);
+            let contents = host_streams::pipe_contents(alloc, view, output);
             reply_of(alloc, socket_result(contents))
         }
         GuestCall::Sink => {
-            let made = wasi_host::make_sink(view, world, ids);
+            let made = host_streams::make_sink(view, world, ids);
             reply_of(alloc, socket_result(made))
         }
         GuestCall::ClosedIn => {
-            let made = wasi_host::make_closed_input(view, world, ids);
+            let made = host_streams::make_closed_input(view, world, ids);
             reply_of(alloc, socket_result(made))
         }
         GuestCall::ClosedOut => {
-            let made = wasi_host::make_closed_output(view, world, ids);
+            let made = host_streams::make_closed_output(view, world, ids);
             reply_of(alloc, socket_result(made))
         }
         _ => unreachable!(),

@@ -4,7 +4,7 @@ ghost use Rattle.std.specs.Prelude.{◌≡◌, ◌+◌, ◌<◌, ◌^◌, IfOk, 
 ghost use Rattle.wasi_world.specs.Seen.{Seen};
 ghost use Rattle.wasi_records.specs.Closing.{AsksNothing, HasClosedAll, HasClosedEach};
 ghost use Rattle.wasi_records.specs.Closing.{IsFresh};
-ghost use Rattle.wasi_host.specs.Machine.{first_state};
+ghost use Rattle.host_store.specs.Machine.{first_state};
 ghost use Rattle.wasi_steps.specs.Reply.{is_trap};
 ghost use Rattle.wasi_steps.specs.declared.step.Step.{Step};
 ghost use Rattle.wasi_steps.specs.declared.reply.Reply.{Reply};

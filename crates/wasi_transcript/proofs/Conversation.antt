@@ -9,7 +9,7 @@ use Rattle.wasi_world.specs.declared.outcome.WasiSocketsCtx.{WasiSocketsCtx}
 use Rattle.world_text.specs.Lines.{lines_of, rest_of, lines_from, rest_from}
 use Rattle.wasi_world.specs.Seen.{Seen}
 use Rattle.world_text.proofs.LinesOf.{lines-append, rest-append}
-use Rattle.wasi_host.specs.declared.machine.Machine.{Machine}
+use Rattle.host_store.specs.declared.machine.Machine.{Machine}
 use Rattle.wasi_run.specs.Ran.{NoTrap}
 use Rattle.wasi_steps.specs.Reply.{is_trap}
 use Rattle.wasi_transcript.specs.Transcript.{Exchange, exchange_text, exchanges_text, lines_in, replies_in, calls_in, IsDone, AreDone, Logged}

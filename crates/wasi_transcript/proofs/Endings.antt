@@ -3,10 +3,10 @@ use Rattle.std.proofs.Common.{◌≡◌, ◌∙◌, ap, refl, ℕ, List, [], ◌
 use Rattle.wasi_world.specs.declared.outcome.WasiSocketsCtx.{WasiSocketsCtx}
 use Rattle.world_io.specs.Io.{Reading, Writing}
 use Rattle.wasi_world.specs.Seen.{Seen}
-use Rattle.wasi_host.specs.declared.machine.Machine.{Machine}
+use Rattle.host_store.specs.declared.machine.Machine.{Machine}
 use Rattle.wasi_records.specs.Closing.{AsksNothing, IsFresh, HasClosedAll}
-use Rattle.wasi_host.specs.Machine.{first_state}
-use Rattle.wasi_host.specs.KnownSides.{KnowsSides}
+use Rattle.host_store.specs.Machine.{first_state}
+use Rattle.host_store.specs.KnownSides.{KnowsSides}
 use Rattle.wasi_records.specs.Sides.{ClosesAll, no_socket}
 use Rattle.wasi_records.proofs.Closings.{empty_known}
 use Rattle.wasi_run.specs.declared.run.RunEnd.{RunEnd}

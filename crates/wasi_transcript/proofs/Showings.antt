@@ -9,9 +9,9 @@ use Rattle.world_io.specs.Io.{Reading, Writing, Gave, Took, SameCounts}
 use Rattle.world_text.specs.Lines.{lines_of, rest_of}
 use Rattle.wasi_world.specs.Seen.{Seen}
 use Rattle.world_text.proofs.LinesOf.{count_lines}
-use Rattle.wasi_host.specs.declared.machine.Machine.{Machine}
-use Rattle.wasi_host.specs.Machine.{first_state}
-use Rattle.wasi_host.specs.KnownSides.{KnowsSides}
+use Rattle.host_store.specs.declared.machine.Machine.{Machine}
+use Rattle.host_store.specs.Machine.{first_state}
+use Rattle.host_store.specs.KnownSides.{KnowsSides}
 use Rattle.wasi_run.specs.declared.run.RunEnd.TheVariants as end
 use Rattle.wasi_run.specs.declared.error.RunError.{RunError}
 use Rattle.wasi_run.specs.declared.error.RunError.TheVariants.{Memory, BadStep, TooLong, ReadFault, WriteFault}

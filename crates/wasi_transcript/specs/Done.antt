@@ -11,7 +11,7 @@ use Rattle.wasi_steps.specs.declared.step.Step.{Step}
 use Rattle.wasi_machine.specs.Machine.{machine_asks}
 use Rattle.wasi_steps.specs.Reply.{is_trap}
 use Rattle.wasi_steps.specs.Steps.{step_of}
-use Rattle.wasi_host.specs.declared.machine.Machine.{Machine}
+use Rattle.host_store.specs.declared.machine.Machine.{Machine}
 use Rattle.wasi_transcript.specs.declared.exchange.LineEnd.{LineEnd}
 use Rattle.wasi_transcript.specs.declared.exchange.LineEnd.TheVariants.{Answered, Trapped, NoStep}
 use Rattle.wasi_transcript.specs.Transcript.{Exchange, exchange_text, IsDone, Logged}

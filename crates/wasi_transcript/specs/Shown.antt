@@ -6,8 +6,8 @@ use Rattle.wasi_world.specs.Asks.{Asks, Left}
 use Rattle.world_io.specs.Io.{Reading, Writing, Gave, HasEnded, Took, SameCounts, CountRose}
 use Rattle.world_text.specs.Lines.{lines_of, rest_of}
 use Rattle.wasi_world.specs.Seen.{Seen, Rose}
-use Rattle.wasi_host.specs.declared.machine.Machine.{Machine}
-use Rattle.wasi_host.specs.Machine.{first_state}
+use Rattle.host_store.specs.declared.machine.Machine.{Machine}
+use Rattle.host_store.specs.Machine.{first_state}
 use Rattle.wasi_steps.specs.declared.reply.Reply.{Reply}
 use Rattle.wasi_run.specs.declared.run.RunEnd.{RunEnd}
 use Rattle.wasi_run.specs.declared.run.RunEnd.TheVariants as end

@@ -6,7 +6,7 @@ use Rattle.wasi_world.specs.declared.outcome.WasiSocketsCtx.{WasiSocketsCtx}
 use Rattle.wasi_world.specs.Asks.{Give, Left}
 use Rattle.world_text.specs.EntryText.{entry_text}
 use Rattle.wasi_world.specs.Seen.{Seen}
-use Rattle.wasi_host.specs.declared.machine.Machine.{Machine}
+use Rattle.host_store.specs.declared.machine.Machine.{Machine}
 use Rattle.wasi_steps.specs.declared.reply.Reply.{Reply}
 use Rattle.wasi_steps.specs.declared.step.Step.{Step}
 use Rattle.wasi_machine.specs.Machine.{machine_asks}

@@ -3,7 +3,7 @@
 ghost use Rattle.std.specs.Prelude.{◌≡◌, ◌++◌, ◌+◌, ◌<◌, ◌^◌, IfOk, OnOk, string_bytes, length};
 ghost use Rattle.std.specs.Prelude.{true, false};
 ghost use Rattle.world_scripted.specs.Scripted.{seen_by};
-ghost use Rattle.wasi_host.specs.KnownSides.{KnowsSides};
+ghost use Rattle.host_store.specs.KnownSides.{KnowsSides};
 ghost use Rattle.wasi_transcript.specs.Transcript.{line_text, calls_text, answered_text};
 ghost use Rattle.wasi_transcript.specs.Transcript.{no_step_text};
 ghost use Rattle.wasi_transcript.specs.Done.{LineDone};

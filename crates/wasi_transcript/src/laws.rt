@@ -4,7 +4,7 @@
 ghost use Rattle.std.specs.Prelude.{◌≡◌, ◌++◌, ℕ, List, Some};
 ghost use Rattle.wasi_world.specs.declared.outcome.WasiSocketsCtx.{WasiSocketsCtx};
 ghost use Rattle.wasi_world.specs.Asks.{Left, Give};
-ghost use Rattle.wasi_host.specs.declared.machine.Machine.{Machine};
+ghost use Rattle.host_store.specs.declared.machine.Machine.{Machine};
 ghost use Rattle.wasi_steps.specs.declared.reply.Reply.{Reply};
 ghost use Rattle.wasi_machine.specs.Machine.{run};
 ghost use Rattle.wasi_run.specs.Ran.{NoTrap, OneTrap};

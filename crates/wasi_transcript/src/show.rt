@@ -4,7 +4,7 @@ ghost use Rattle.std.specs.Prelude.{◌≡◌, ◌++◌, ◌<◌, ◌^◌, IfOk,
 ghost use Rattle.std.specs.Prelude.{false};
 ghost use Rattle.wasi_world.specs.Script.{GoesByPlan};
 ghost use Rattle.world_scripted.specs.Scripted.{seen_by};
-ghost use Rattle.wasi_host.specs.Machine.{first_state};
+ghost use Rattle.host_store.specs.Machine.{first_state};
 ghost use Rattle.wasi_records.specs.Closing.{IsFresh, HasClosedAll};
 ghost use Rattle.world_io.specs.Written.{TookAll, TookPart};
 ghost use Rattle.wasi_transcript.specs.Shown.{stop_text, ending_text, IsShown};

@@ -2,7 +2,7 @@
 use Rattle.wasi_walks.proofs.Words.{Bool, HandleTable, Kind, List, Option, Some, [], ap, eqb-true, false, if◌then◌else◌, inl, inr, refl, subst, sym, table_parent, true, with_handle, ℕ, ◌==◌, ◌∷◌, ◌∙◌, ◌≡◌, ◌⊎◌}
 use Rattle.std.proofs.lemmas.Bool.{eq-eqb}
 use Rattle.wasi_table.specs.Table.{Live, children_of, is_child, value_at, without}
-use Rattle.wasi_host.specs.Kinds.{none_in}
+use Rattle.host_store.specs.Kinds.{none_in}
 use Rattle.wasi_walks.specs.Licence.{Has}
 use Rattle.wasi_walks.proofs.Lists.{has_split}
 

@@ -20,7 +20,7 @@ use Rattle.wasi_tcp.specs.Listener.{Listener, with_accept, accepted_socket, acce
 use Rattle.wasi_records.specs.Records.{tcp2_pushed}
 use Rattle.wasi_records.specs.declared.tcp_listening.Listening.{Listening}
 use Rattle.wasi_records.specs.declared.tcp_listening.Listening.TheVariants as listening
-use Rattle.wasi_host.specs.declared.machine.Machine.{Machine}
+use Rattle.host_store.specs.declared.machine.Machine.{Machine}
 use Rattle.wasi_records.specs.declared.socket.TcpRecord.{TcpRecord}
 use Rattle.wasi_records.specs.Listening.{with_listening, accepted_record}
 use Rattle.wasi_records.specs.InProgress.{is_listen}

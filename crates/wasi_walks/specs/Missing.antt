@@ -2,27 +2,27 @@
 -- make handles and write.
 use Rattle.std.specs.Prelude.{◌≡◌, ◌⊎◌, ⊤, ℕ, false, List, [], ◌∷◌, Option, Some, None, IsSomeAnd}
 use Rattle.memory_streams.specs.Plain.{Contents}
-use Rattle.wasi_host.specs.declared.blocking.BlockingCall.{BlockingCall}
-use Rattle.wasi_host.specs.declared.blocking.BlockingCall.TheVariants as blocking
-use Rattle.wasi_host.specs.declared.kind.PlainInput.{PlainInput}
-use Rattle.wasi_host.specs.declared.kind.PlainInput.TheVariants as plain_input
-use Rattle.wasi_host.specs.declared.kind.PlainOutput.{PlainOutput}
-use Rattle.wasi_host.specs.declared.kind.PlainOutput.TheVariants as plain_output
-use Rattle.wasi_host.specs.declared.kind.Watched.{Watched}
-use Rattle.wasi_host.specs.declared.kind.Watched.TheVariants as watched
-use Rattle.wasi_host.specs.declared.machine.Machine.{Machine}
+use Rattle.host_store.specs.declared.store.BlockingCall.{BlockingCall}
+use Rattle.host_store.specs.declared.store.BlockingCall.TheVariants as blocking
+use Rattle.host_store.specs.declared.kind.PlainInput.{PlainInput}
+use Rattle.host_store.specs.declared.kind.PlainInput.TheVariants as plain_input
+use Rattle.host_store.specs.declared.kind.PlainOutput.{PlainOutput}
+use Rattle.host_store.specs.declared.kind.PlainOutput.TheVariants as plain_output
+use Rattle.host_store.specs.declared.kind.Watched.{Watched}
+use Rattle.host_store.specs.declared.kind.Watched.TheVariants as watched
+use Rattle.host_store.specs.declared.machine.Machine.{Machine}
 use Rattle.wasi_records.specs.declared.socket.TcpRecord.{TcpRecord}
-use Rattle.wasi_host.specs.declared.store.StandingCall.{StandingCall}
-use Rattle.wasi_host.specs.declared.store.StandingCall.TheVariants as standing
-use Rattle.wasi_host.specs.Kinds.{kind_at, is_network, is_error, udp_of, tcp3_of, watched_by, watch_of, place_in}
-use Rattle.wasi_host.specs.Lines.{tcp_in}
-use Rattle.wasi_host.specs.Machine.{listen3_at, lookup_number, receive3_at, send3_at, result3_at}
+use Rattle.host_store.specs.declared.store.StandingCall.{StandingCall}
+use Rattle.host_store.specs.declared.store.StandingCall.TheVariants as standing
+use Rattle.host_store.specs.Kinds.{kind_at, is_network, is_error, udp_of, tcp3_of, watched_by, watch_of, place_in}
+use Rattle.host_store.specs.Lines.{tcp_in}
+use Rattle.host_store.specs.Machine.{listen3_at, lookup_number, receive3_at, send3_at, result3_at}
 use Rattle.wasi_records.specs.Records.{tcp2_at, udp2_at, open_at, input_pipe_at, output_pipe_at}
-use Rattle.wasi_host.specs.Standing.{call_of, stands_as}
-use Rattle.wasi_host.specs.declared.beside.BesideCall.{BesideCall}
-use Rattle.wasi_host.specs.declared.beside.BesideCall.TheVariants.{Connect, Resolve, Send, Receive}
-use Rattle.wasi_host.specs.Beside.{beside_of}
-use Rattle.wasi_host.specs.StreamCalls.{plain_input_at, plain_output_at}
+use Rattle.host_store.specs.Standing.{call_of, stands_as}
+use Rattle.host_store.specs.declared.beside.BesideCall.{BesideCall}
+use Rattle.host_store.specs.declared.beside.BesideCall.TheVariants.{Connect, Resolve, Send, Receive}
+use Rattle.host_store.specs.Beside.{beside_of}
+use Rattle.host_streams.specs.StreamCalls.{plain_input_at, plain_output_at}
 use Rattle.wasi_p3.specs.Lines as p3
 use Rattle.wasi_steps.specs.Steps.{Kind, HandleOf, ALine, ANetwork, ASocket, ASocket3, ADatagramSocket, ADatagramSocket3, AnInput, AnOutput, AnIncoming, AnOutgoing, ALookup, AnError, Watchable, APollable, AListener3, Anything, SomePollables, Value, Values, written_of, AReadEnd3, AWriteEnd3, AResult3}
 use Rattle.wasi_p3.specs.Streams.{slot_in}

@@ -30,11 +30,11 @@ use Rattle.wasi_tcp.specs.Writer.{collected}
 use Rattle.wasi_records.specs.Records.{tcp2_at, udp2_at, open_at}
 use Rattle.wasi_records.specs.declared.tcp_binding.InProgress.{InProgress}
 use Rattle.wasi_records.specs.declared.tcp_binding.InProgress.TheVariants.{Binding}
-use Rattle.wasi_host.specs.declared.kind.Watched.{Watched}
-use Rattle.wasi_host.specs.declared.kind.Watched.TheVariants as watched
+use Rattle.host_store.specs.declared.kind.Watched.{Watched}
+use Rattle.host_store.specs.declared.kind.Watched.TheVariants as watched
 use Rattle.wasi_records.specs.declared.tcp_listening.Listening.{Listening}
 use Rattle.wasi_records.specs.declared.tcp_listening.Listening.TheVariants as listening
-use Rattle.wasi_host.specs.declared.machine.Machine.{Machine}
+use Rattle.host_store.specs.declared.machine.Machine.{Machine}
 use Rattle.wasi_records.specs.declared.socket.Streams.{Streams}
 use Rattle.wasi_records.specs.declared.socket.TcpRecord.{TcpRecord}
 use Rattle.wasi_records.specs.declared.udp.OpenUdp.{OpenUdp}
@@ -44,18 +44,19 @@ use Rattle.wasi_records.specs.declared.udp.UdpInProgress.{UdpInProgress}
 use Rattle.wasi_records.specs.declared.udp.UdpInProgress.TheVariants as udp_doing
 use Rattle.wasi_udp.specs.Bind.{IsBind as IsUdpBind}
 use Rattle.wasi_udp.specs.Create.{Create}
-use Rattle.wasi_host.specs.declared.kind.Interface.{Interface}
-use Rattle.wasi_host.specs.declared.kind.Interface.TheVariants.{P3}
-use Rattle.wasi_host.specs.declared.store.StandingCall.{StandingCall}
-use Rattle.wasi_host.specs.declared.store.StandingCall.TheVariants as standing
-use Rattle.wasi_host.specs.Kinds.{kind_at, watch_of, place_in}
+use Rattle.host_store.specs.declared.kind.Interface.{Interface}
+use Rattle.host_store.specs.declared.kind.Interface.TheVariants.{P3}
+use Rattle.host_store.specs.declared.store.StandingCall.{StandingCall}
+use Rattle.host_store.specs.declared.store.StandingCall.TheVariants as standing
+use Rattle.host_store.specs.Kinds.{kind_at, watch_of, place_in}
 use Rattle.wasi_records.specs.Datagrams.{sends}
-use Rattle.wasi_host.specs.Machine.{output_at, outgoing_at, watched_side}
+use Rattle.host_store.specs.Machine.{output_at, outgoing_at}
+use Rattle.wasi_host.specs.Pollables.{watched_side}
 use Rattle.wasi_records.specs.InProgress.{is_nothing, is_connect}
-use Rattle.wasi_host.specs.Beside.{beside_of, unbeside}
-use Rattle.wasi_host.specs.SocketDatagrams.{is_datagram_in}
-use Rattle.wasi_host.specs.Standing.{call_of, unstood}
-use Rattle.wasi_host.specs.declared.store.Standing.{Standing}
+use Rattle.host_store.specs.Beside.{beside_of, unbeside}
+use Rattle.host_udp.specs.SocketDatagrams.{is_datagram_in}
+use Rattle.host_store.specs.Standing.{call_of, unstood}
+use Rattle.host_store.specs.declared.store.Standing.{Standing}
 use Rattle.wasi_steps.specs.declared.reply.CodeWord.{CodeWord}
 use Rattle.wasi_steps.specs.declared.reply.Reply.{Reply}
 use Rattle.wasi_steps.specs.declared.reply.Reply.TheVariants as reply

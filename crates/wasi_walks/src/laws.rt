@@ -6,12 +6,12 @@ ghost use Rattle.wasi_world.specs.declared.call.Entry.{Entry};
 ghost use Rattle.wasi_world.specs.declared.ids.OpId.{OpId};
 ghost use Rattle.wasi_world.specs.declared.outcome.WasiSocketsCtx.{WasiSocketsCtx};
 ghost use Rattle.wasi_world.specs.Asks.{Asks, Left};
-ghost use Rattle.wasi_host.specs.declared.machine.Machine.{Machine};
+ghost use Rattle.host_store.specs.declared.machine.Machine.{Machine};
 ghost use Rattle.wasi_steps.specs.declared.reply.Reply.{Reply};
 ghost use Rattle.wasi_steps.specs.declared.step.Step.{Step};
 ghost use Rattle.wasi_walks.specs.Licence.{IsLicensed, IsSide, IsMaker};
 ghost use Rattle.wasi_walks.specs.Received.{HandsOutInOrder};
-ghost use Rattle.wasi_host.specs.Machine.{first_state};
+ghost use Rattle.host_store.specs.Machine.{first_state};
 ghost use Rattle.wasi_machine.specs.Machine.{run, HasRun};
 
 /// The log of every run is licensed for its contexts and steps, whatever the network answers.

@@ -3,8 +3,8 @@ use Rattle.wasi_causes.proofs.Beside.{exclusive_call, not_beside}
 use Rattle.wasi_causes.proofs.Words.{inl, inr}
 use Rattle.wasi_causes.proofs.Words.{◌≡◌, ◌≢◌, ◌∙◌, ℕ, Bool, true, false, List, [], Option, None, Some, Result, Ok, Err, Answered, Code, Entry, Give, IsSomeAnd, Left, ◌↔◌, Machine, NoSuchHandle, Reply, Standing, StandingCall, Stop, Trap, TrapKind, WasiSocketsCtx, ap, asks_while, bind, eq-eqb, first_ids, no_fields, nothing_stands, ready_asks, refl, standing_as, stands_as, subst, sym, truth_fields, truth_reply}
 use Rattle.wasi_world.specs.declared.ids.Ids.{Ids}
-use Rattle.wasi_host.specs.declared.blocking.BlockingCall.{BlockingCall}
-use Rattle.wasi_host.specs.declared.blocking.BlockingCall.TheVariants as blocking
+use Rattle.host_store.specs.declared.store.BlockingCall.{BlockingCall}
+use Rattle.host_store.specs.declared.store.BlockingCall.TheVariants as blocking
 use Rattle.wasi_host.specs.declared.polling.Look.{Look}
 use Rattle.wasi_host.specs.declared.polling.Look.TheVariants.{First}
 use Rattle.wasi_host.specs.Polling.{are_pollables, block_by, blocked_on}

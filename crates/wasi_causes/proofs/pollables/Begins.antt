@@ -36,11 +36,11 @@ use Rattle.wasi_records.specs.declared.udp.UdpRecord.{UdpRecord}
 use Rattle.wasi_records.specs.declared.udp.UdpRecord.TheVariants.{Open}
 use Rattle.wasi_jobs.specs.declared.job.HostJob.{HostJob}
 use Rattle.wasi_jobs.specs.declared.job.HostJob.TheVariants as job
-use Rattle.wasi_host.specs.DatagramCalls.{begins_receive, ready_incoming_at}
-use Rattle.wasi_host.specs.Jobs.{turn_datagram_at, turn_receive_at}
+use Rattle.host_udp.specs.DatagramCalls.{begins_receive, ready_incoming_at}
+use Rattle.host_store.specs.Jobs.{turn_datagram_at, turn_receive_at}
 use Rattle.wasi_host.specs.Polling.{Found, begins_at, begins_on, tcp_begins, udp_begins}
-use Rattle.wasi_host.specs.Readiness.{ready_at, ready_put, ready_record}
-use Rattle.wasi_host.specs.declared.kind.Watched.TheVariants as watched
+use Rattle.host_store.specs.Readiness.{ready_at, ready_put, ready_record}
+use Rattle.host_store.specs.declared.kind.Watched.TheVariants as watched
 use Rattle.wasi_host.specs.declared.polling.Look.{Look}
 use Rattle.wasi_host.specs.declared.polling.Look.TheVariants.{First, Later}
 use Rattle.wasi_walks.proofs.Places.{lookup_sort, other_put, put_finds, tcp_sort, udp_sort}
@@ -266,7 +266,7 @@ module _ (m : Machine) (fits : AcceptsFit m.store.records) where
     in_incoming place (Some o) at = onto _ (widen so (looks_in ids o o.incoming refl))
       where
         so : (es : List Entry) (now : OpenUdp) → udp_begins (Some now) ≡ false → LookRow (Some (watched.Incoming place))
-            es (with_store m (Rattle.wasi_host.specs.DatagramCalls.incoming_looked m.store place o now))
+            es (with_store m (Rattle.host_udp.specs.DatagramCalls.incoming_looked m.store place o now))
         so es now none =
             let stays = job_stays m.store place o now (begins_receive o now) in (
               record {

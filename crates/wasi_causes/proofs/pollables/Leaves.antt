@@ -20,9 +20,9 @@ use Rattle.wasi_records.specs.Records.{open_at, open_put, tcp2_at}
 use Rattle.wasi_records.specs.declared.datagrams.Incoming.{Incoming}
 use Rattle.wasi_records.specs.declared.datagrams.Receiving.{Receiving}
 use Rattle.wasi_records.specs.declared.udp.OpenUdp.{OpenUdp}
-use Rattle.wasi_host.specs.DatagramCalls.{begins_receive, incoming_looked, ready_incoming_at}
-use Rattle.wasi_host.specs.Readiness.{ready_at, ready_put}
-use Rattle.wasi_host.specs.declared.kind.Watched.TheVariants as watched
+use Rattle.host_udp.specs.DatagramCalls.{begins_receive, incoming_looked, ready_incoming_at}
+use Rattle.host_store.specs.Readiness.{ready_at, ready_put}
+use Rattle.host_store.specs.declared.kind.Watched.TheVariants as watched
 use Rattle.wasi_host.specs.declared.polling.Look.TheVariants.{First}
 use Rattle.wasi_causes.proofs.ReceivesGo.{ReceiveEnds, receive_ends, start_goes, wanted_goes}
 use Rattle.wasi_causes.proofs.operations.Accepts.{AcceptEnds, poll_accept_ends}

@@ -2,7 +2,7 @@
 use Rattle.wasi_causes.proofs.Words.{◌≡◌, ◌≢◌, ◌∙◌, ◌==◌, ℕ, Bool, true, false, if◌then◌else◌, List, [], ◌∷◌, Option, None, Result, Ok, Err, IfSome, eqb-true, refl, sym, subst, inl, inr, Answered, Entry, Give, Left, Machine, NoSuchHandle, Reply, Standing, Stop, Trap, WasiSocketsCtx, asks_while, first_ids, kind_at, truth_reply, watch_of}
 use Rattle.std.specs.Prelude.{◌⊎◌}
 use Rattle.wasi_world.specs.declared.ids.Ids.{Ids}
-use Rattle.wasi_host.specs.declared.blocking.BlockingCall.TheVariants as blocking
+use Rattle.host_store.specs.declared.store.BlockingCall.TheVariants as blocking
 use Rattle.wasi_host.specs.declared.polling.Look.{Look}
 use Rattle.wasi_host.specs.declared.polling.Look.TheVariants.{First}
 use Rattle.wasi_host.specs.Polling.{Found}

@@ -1,8 +1,8 @@
 -- A poll of a pending wait for pollables, and of any pending call that blocks.
 use Rattle.wasi_causes.proofs.Words.{◌≡◌, ◌∙◌, ℕ, Answer, List, [], Some, Ok, Err, Pending, Ready, Result, refl, sym, subst, ap, inl, inr, eq-eqb, IsSomeAnd, Entry, Machine, NoSuchHandle, StandingCall, Stop, Trap, WasiSocketsCtx, no_fields, nothing_stands, standing_as}
 use Rattle.wasi_world.specs.declared.ids.Ids.{Ids}
-use Rattle.wasi_host.specs.declared.blocking.BlockingCall.{BlockingCall}
-use Rattle.wasi_host.specs.declared.blocking.BlockingCall.TheVariants as blocking
+use Rattle.host_store.specs.declared.store.BlockingCall.{BlockingCall}
+use Rattle.host_store.specs.declared.store.BlockingCall.TheVariants as blocking
 use Rattle.wasi_host.specs.declared.polling.Look.TheVariants.{Later}
 use Rattle.wasi_records.specs.Names.{first_ids}
 use Rattle.wasi_host.specs.Pending.{gone_on, places_on, unblock_asks}

@@ -7,8 +7,8 @@ use Rattle.wasi_causes.proofs.Words.{inr, machine_asks, nothing_stands, own_of, 
 use Rattle.wasi_causes.proofs.Words.{stands_as, subst, sym, truth_fields, turn_asks}
 use Rattle.wasi_world.specs.declared.ids.Ids.{Ids}
 use Rattle.wasi_udp.specs.Create.{Create, after_create as udp_after_create}
-use Rattle.wasi_host.specs.declared.blocking.BlockingCall.{BlockingCall}
-use Rattle.wasi_host.specs.declared.blocking.BlockingCall.TheVariants as blocking
+use Rattle.host_store.specs.declared.store.BlockingCall.{BlockingCall}
+use Rattle.host_store.specs.declared.store.BlockingCall.TheVariants as blocking
 use Rattle.wasi_host.specs.declared.polling.Look.{Look}
 use Rattle.wasi_host.specs.declared.polling.Look.TheVariants.{First, Later}
 use Rattle.wasi_host.specs.Polling.{Found, begins_at}
@@ -22,10 +22,10 @@ use Rattle.wasi_causes.proofs.Fitted.{Fitted, beside_fits, first_fitted, line_fi
 use Rattle.wasi_walks.proofs.fits.Datagrams.{FitBeside}
 use Rattle.wasi_records.specs.Records.{open_of}
 use Rattle.wasi_records.specs.declared.udp.OpenUdp.{OpenUdp}
-use Rattle.wasi_host.specs.Beside.{beside_of}
-use Rattle.wasi_host.specs.declared.beside.Beside.{Beside}
-use Rattle.wasi_host.specs.declared.beside.BesideCall.{BesideCall}
-use Rattle.wasi_host.specs.declared.beside.BesideCall.TheVariants.{Connect, Receive, Resolve, Send}
+use Rattle.host_store.specs.Beside.{beside_of}
+use Rattle.host_store.specs.declared.beside.Beside.{Beside}
+use Rattle.host_store.specs.declared.beside.BesideCall.{BesideCall}
+use Rattle.host_store.specs.declared.beside.BesideCall.TheVariants.{Connect, Receive, Resolve, Send}
 use Rattle.wasi_causes.proofs.pollables.NoMore.{no_more_gone}
 use Rattle.wasi_causes.specs.GivenUp.{giving_back}
 use Rattle.wasi_causes.specs.P3Connects.{BesideCancelled, LeavesBeside}
@@ -55,7 +55,7 @@ use Rattle.wasi_causes.proofs.pollables.Places.{same_ones, takes_so}
 use Rattle.wasi_causes.proofs.tables.Meets.{Meets, both, met, onto, shifted, widen}
 use Rattle.wasi_causes.proofs.tables.Parts.{by_left}
 use Rattle.wasi_causes.proofs.Beside.{one_of_three, polled_beside}
-use Rattle.wasi_host.specs.Beside.{stands_under}
+use Rattle.host_store.specs.Beside.{stands_under}
 use Rattle.wasi_causes.proofs.tables.Steps.{Answers, IsBusy, IsHeldUp, IsItsOwn, answers}
 use Rattle.wasi_causes.specs.Blocking.{BlocksAs, IsShort}
 use Rattle.wasi_causes.specs.Outcomes.{Outcome}

@@ -7,20 +7,20 @@ use Rattle.wasi_tcp.specs.declared.listener.Accepting.TheVariants as accepting
 use Rattle.wasi_records.specs.declared.datagrams.Incoming.{Incoming}
 use Rattle.wasi_records.specs.declared.datagrams.Receiving.{Receiving}
 use Rattle.wasi_records.specs.declared.datagrams.Receiving.TheVariants as receiving
-use Rattle.wasi_host.specs.declared.kind.Watched.TheVariants as watched
+use Rattle.host_store.specs.declared.kind.Watched.TheVariants as watched
 use Rattle.wasi_records.specs.declared.tcp_listening.Listening.TheVariants as listening
 use Rattle.wasi_records.specs.declared.udp.OpenUdp.{OpenUdp}
 use Rattle.wasi_udp.specs.Shape.{Socket}
-use Rattle.wasi_host.specs.DatagramCalls.{incoming_looked, ready_incoming_at}
+use Rattle.host_udp.specs.DatagramCalls.{incoming_looked, ready_incoming_at}
 use Rattle.wasi_records.specs.Names.{next_name}
 use Rattle.wasi_records.specs.Looks.{begins_accept, socket_begins}
 use Rattle.wasi_records.specs.Receiving.{would_receive, has_none}
 use Rattle.wasi_host.specs.Polling.{begins_at, begins_on, tcp_begins, udp_begins}
 use Rattle.wasi_records.specs.Looks.{accept_looked, ready_idle, ready_listening, ready_socket_by}
-use Rattle.wasi_host.specs.Readiness.{ready_at, ready_put}
+use Rattle.host_store.specs.Readiness.{ready_at, ready_put}
 use Rattle.wasi_records.specs.Receiving.{fetch_asks, look_incoming, with_incoming}
 use Rattle.wasi_records.specs.Records.{open_at, tcp2_at}
-use Rattle.wasi_host.specs.Store.{Records}
+use Rattle.host_store.specs.Store.{Records}
 
 module _ (ids : Ids) (part : ℕ) where
   abbrev other : Ids

@@ -1,7 +1,7 @@
 -- How waits for pollables come out, as steps and as polls continue them: what they answer, and what they leave.
 use Rattle.wasi_causes.proofs.Words.{◌≡◌, ℕ, Bool, true, false, Answer, Answered, Pending, Ready, List, [], ◌∷◌, None, Result, Ok, Err, refl, sym, subst, Entry, Give, Left, Machine, NoSuchHandle, Reply, Stop, Trap, WasiSocketsCtx, first_ids, kind_at, ready_asks, truth_fields, truth_reply, watch_of, no_fields}
 use Rattle.wasi_world.specs.declared.ids.Ids.{Ids}
-use Rattle.wasi_host.specs.declared.blocking.BlockingCall.TheVariants as blocking
+use Rattle.host_store.specs.declared.store.BlockingCall.TheVariants as blocking
 use Rattle.wasi_host.specs.declared.polling.Look.{Look}
 use Rattle.wasi_host.specs.declared.polling.Look.TheVariants.{First, Later}
 use Rattle.wasi_host.specs.Polling.{Found, begins_at, block_by, blocked_on, look_later, places_given, poll_by, polled_each, ready_places}

@@ -5,25 +5,26 @@ use Rattle.wasi_tcp.specs.Writer.{drop_permit}
 use Rattle.wasi_causes.proofs.Words.{collected, drop_kind, drop_taken, false, go_on, kind_at, make_asks, own_of, refl, release_at, relisten_at}
 use Rattle.wasi_causes.proofs.Words.{resume_call, side_at, side_of, true, turn_at, turn_job, turn_jobs, turn_machine_asks, turned, unstood, wait_at}
 use Rattle.wasi_causes.proofs.Words.{with_listening, with_socket, ℕ, ⊤, ◌∷◌, ◌≡◌}
-use Rattle.wasi_host.specs.Block.{give as block_give, last as block_last}
-use Rattle.wasi_host.specs.Block as block
-use Rattle.wasi_host.specs.Beside.{unbeside}
-use Rattle.wasi_host.specs.Binds.{keeps}
-use Rattle.wasi_host.specs.Connects.{reconnects}
-use Rattle.wasi_host.specs.DatagramCalls.{second_made}
-use Rattle.wasi_host.specs.Lines.{storing, tabling}
-use Rattle.wasi_host.specs.Listens.{relistens}
-use Rattle.wasi_host.specs.SocketDatagrams.{drop_datagram, drop_udp, is_udp_held, polled as block_polled, without_udp_handle}
-use Rattle.wasi_host.specs.UdpCalls.{with_open_udp}
-use Rattle.wasi_host.specs.UdpCreates.{udp_side_at}
+use Rattle.host_store.specs.Block.{give as block_give, last as block_last}
+use Rattle.host_store.specs.Block as block
+use Rattle.host_store.specs.Beside.{unbeside}
+use Rattle.host_store.specs.Lines.{keeps}
+use Rattle.host_tcp.specs.Connects.{reconnects}
+use Rattle.host_udp.specs.DatagramCalls.{second_made}
+use Rattle.host_store.specs.Lines.{storing, tabling}
+use Rattle.host_tcp.specs.Listens.{relistens}
+use Rattle.host_udp.specs.SocketDatagrams.{drop_datagram, drop_udp, is_udp_held, polled as block_polled, without_udp_handle}
+use Rattle.host_store.specs.Store.{with_open_udp}
+use Rattle.host_udp.specs.UdpCreates.{udp_side_at}
 use Rattle.wasi_records.specs.Holding.{drop_listener_asks}
 use Rattle.wasi_records.specs.declared.tcp_listening.Listening.TheVariants.{Not}
-use Rattle.wasi_host.specs.Binds.{stands_of, udp_stands_of}
-use Rattle.wasi_host.specs.BaseStops.{trap_of}
-use Rattle.wasi_host.specs.DatagramCalls.{reconnect_udp_at}
-use Rattle.wasi_host.specs.Lines.{same_stop}
-use Rattle.wasi_host.specs.Machine.{tcp3_at}
-use Rattle.wasi_host.specs.SocketDatagrams.{goes_on_so as goes_on_as}
+use Rattle.host_tcp.specs.Binds.{stands_of}
+use Rattle.host_udp.specs.UdpBinds.{udp_stands_of}
+use Rattle.host_store.specs.BaseStops.{trap_of}
+use Rattle.host_udp.specs.DatagramCalls.{reconnect_udp_at}
+use Rattle.host_store.specs.Lines.{same_stop}
+use Rattle.host_store.specs.Machine.{tcp3_at}
+use Rattle.host_udp.specs.SocketDatagrams.{goes_on_so as goes_on_as}
 use Rattle.wasi_addr.specs.declared.address.ShutdownType.TheVariants.{Receive, Send}
 use Rattle.wasi_world.specs.declared.ids.Ids.{Ids}
 use Rattle.wasi_world.specs.declared.outcome.Answer.TheVariants.{Pending, Ready}
@@ -52,29 +53,29 @@ use Rattle.wasi_records.specs.declared.udp.UdpInProgress.TheVariants as udp_doin
 use Rattle.wasi_records.specs.declared.udp.UdpRecord.{UdpRecord}
 use Rattle.wasi_records.specs.declared.udp.UdpRecord.TheVariants as udp
 use Rattle.wasi_udp.specs.Shape.{Socket as UdpShape}
-use Rattle.wasi_host.specs.ConnectionEnds.{end_goes, open_in, shut_at}
-use Rattle.wasi_host.specs.DatagramCalls.{mark_streams_of, outgoing_made, streams_so}
-use Rattle.wasi_host.specs.Dropping.{let_go_at}
-use Rattle.wasi_host.specs.Jobs.{turn_datagram_at, turn_receive_at, is_going, jobs_with}
-use Rattle.wasi_host.specs.Listens.{listened}
-use Rattle.wasi_host.specs.SocketDatagrams.{polled_so, udp_goes}
-use Rattle.wasi_host.specs.UdpCalls.{release_udp_at}
-use Rattle.wasi_host.specs.UdpCreates.{create_so, mark_udp, poll_create_at}
-use Rattle.wasi_host.specs.BaseStops.{BaseStop}
-use Rattle.wasi_host.specs.Beside.{beside_of}
-use Rattle.wasi_host.specs.Kinds.{udp_of}
+use Rattle.host_tcp.specs.ConnectionEnds.{end_goes, open_in, shut_at}
+use Rattle.host_udp.specs.DatagramCalls.{mark_streams_of, outgoing_made, streams_so}
+use Rattle.host_tcp.specs.Dropping.{let_go_at}
+use Rattle.host_store.specs.Jobs.{turn_datagram_at, turn_receive_at, is_going, jobs_with}
+use Rattle.host_tcp.specs.Listens.{listened}
+use Rattle.host_udp.specs.SocketDatagrams.{polled_so, udp_goes}
+use Rattle.host_udp.specs.UdpCalls.{release_udp_at}
+use Rattle.host_udp.specs.UdpCreates.{create_so, mark_udp, poll_create_at}
+use Rattle.host_store.specs.BaseStops.{BaseStop}
+use Rattle.host_store.specs.Beside.{beside_of}
+use Rattle.host_store.specs.Kinds.{udp_of}
 use Rattle.wasi_host.specs.Pending.{go_on_beside, resume_beside}
-use Rattle.wasi_host.specs.declared.beside.Beside.{Beside}
-use Rattle.wasi_host.specs.declared.beside.BesideCall.{BesideCall}
-use Rattle.wasi_host.specs.declared.beside.BesideCall.TheVariants as beside
-use Rattle.wasi_host.specs.declared.kind.Interface.{Interface}
-use Rattle.wasi_host.specs.declared.kind.Kind.TheVariants as kind
-use Rattle.wasi_host.specs.declared.store.StandingCall.TheVariants as standing
+use Rattle.host_store.specs.declared.beside.Beside.{Beside}
+use Rattle.host_store.specs.declared.beside.BesideCall.{BesideCall}
+use Rattle.host_store.specs.declared.beside.BesideCall.TheVariants as beside
+use Rattle.host_store.specs.declared.kind.Interface.{Interface}
+use Rattle.host_store.specs.declared.kind.Kind.TheVariants as kind
+use Rattle.host_store.specs.declared.store.StandingCall.TheVariants as standing
 use Rattle.wasi_world.specs.Operation.{Done, End, Item, Refused, Waits}
 use Rattle.wasi_udp.specs.Receive.{wanting}
 use Rattle.wasi_udp.specs.Send.{at_remote}
-use Rattle.wasi_host.specs.SocketDatagrams.{receive_polls, send_polls}
-use Rattle.wasi_host.specs.SocketDatagrams.{received_answer}
+use Rattle.host_udp.specs.SocketDatagrams.{receive_polls, send_polls}
+use Rattle.host_udp.specs.SocketDatagrams.{received_answer}
 use Rattle.wasi_records.specs.Binding.{bind_answer}
 use Rattle.wasi_causes.proofs.reads.Unread.{Unread, and_gives, and_then, asks_one, calls, gives, looks_up, polled}
 use Rattle.wasi_causes.proofs.reads.Sockets.{binds_on, finishes_connect, gives_up, listens_closed, looks, marks, releases, shuts, turns}

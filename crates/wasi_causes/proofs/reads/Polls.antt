@@ -2,7 +2,7 @@
 use Rattle.wasi_causes.proofs.Words.{Machine, None, Option, Some, Standing, StandingCall, ap, ◌≡◌}
 use Rattle.std.proofs.Common.{subst, sym}
 use Rattle.std.specs.Prelude.{IsSomeAnd}
-use Rattle.wasi_host.specs.declared.store.StandingCall.TheVariants as standing
+use Rattle.host_store.specs.declared.store.StandingCall.TheVariants as standing
 use Rattle.wasi_causes.specs.Blocking.{BlockingCallStands, IsBlocking}
 use Rattle.wasi_causes.proofs.reads.Handles.{OfNoStream}
 

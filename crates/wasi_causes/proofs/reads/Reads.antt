@@ -15,10 +15,10 @@ use Rattle.wasi_world.specs.declared.outcome.Answer.TheVariants.{Pending, Ready}
 use Rattle.wasi_world.specs.Fits.{IsRead}
 use Rattle.wasi_world.specs.Typed.{ask_made, ask_read, ask_shutdown}
 use Rattle.wasi_addr.specs.declared.address.ShutdownType.TheVariants.{Receive}
-use Rattle.wasi_host.specs.Machine.{with_table}
-use Rattle.wasi_host.specs.Store.{with_record_put}
-use Rattle.wasi_host.specs.StreamCalls.{failed_made, stopped}
-use Rattle.wasi_host.specs.Kinds.{name_of}
+use Rattle.host_store.specs.Machine.{with_table}
+use Rattle.host_store.specs.Store.{with_record_put}
+use Rattle.host_streams.specs.StreamCalls.{failed_made, stopped}
+use Rattle.host_store.specs.Kinds.{name_of}
 use Rattle.wasi_tcp.specs.Halves.{polled_answer}
 use Rattle.wasi_tcp.specs.Reader.{reader_shutdown_asks}
 use Rattle.wasi_walks.proofs.licence.Meanings.{one_mark, one_side}
@@ -29,11 +29,11 @@ use Rattle.wasi_tcp.specs.Reader.{read_end_asks}
 use Rattle.wasi_tcp.specs.declared.reader.ReadState.TheVariants as reading
 use Rattle.wasi_records.specs.Records.{tcp2_at}
 use Rattle.wasi_records.specs.Stops.{Code}
-use Rattle.wasi_host.specs.CallStops.{Closed, Failed, Traps}
-use Rattle.wasi_host.specs.Kinds.{plain_input_of}
-use Rattle.wasi_host.specs.StreamCalls.{convert_asks, read_by}
-use Rattle.wasi_host.specs.declared.kind.Kind.TheVariants.{PlainInput}
-use Rattle.wasi_host.specs.declared.kind.PlainInput.{PlainInput as APlainInput}
+use Rattle.host_store.specs.CallStops.{Closed, Failed, Traps}
+use Rattle.host_store.specs.Kinds.{plain_input_of}
+use Rattle.host_streams.specs.StreamCalls.{convert_asks, read_by}
+use Rattle.host_store.specs.declared.kind.Kind.TheVariants.{PlainInput}
+use Rattle.host_store.specs.declared.kind.PlainInput.{PlainInput as APlainInput}
 use Rattle.wasi_steps.specs.declared.guest_call.GuestCall.TheVariants as guest
 use Rattle.wasi_steps.specs.declared.step.Step.TheVariants as step
 use Rattle.wasi_walks.proofs.licence.Runs.{Fine, begun_licensed, runs_fine}

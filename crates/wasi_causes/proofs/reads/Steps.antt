@@ -13,17 +13,18 @@ use Rattle.wasi_world.specs.declared.call.Call.TheVariants as call
 use Rattle.wasi_world.specs.declared.ids.Ids.{Ids}
 use Rattle.wasi_streams.specs.StreamStop as stop
 use Rattle.wasi_records.specs.Records.{tcp2_at}
-use Rattle.wasi_host.specs.Block as line
-use Rattle.wasi_host.specs.Block.{give as block_give, last as block_last}
-use Rattle.wasi_host.specs.Lines.{done_by, finish_connect_of, in_store, makes, same_stop, storing, tabling}
-use Rattle.wasi_host.specs.Limits.{most_of}
-use Rattle.wasi_host.specs.Machine.{with_room, with_table}
-use Rattle.wasi_host.specs.StreamCalls.{failed_made}
+use Rattle.host_store.specs.Block as line
+use Rattle.host_store.specs.Block.{give as block_give, last as block_last}
+use Rattle.host_store.specs.Lines.{done_by, finish_connect_of, in_store, makes, same_stop, storing, tabling}
+use Rattle.host_store.specs.Limits.{most_of}
+use Rattle.host_tcp.specs.Creates.{with_room}
+use Rattle.host_store.specs.Machine.{with_table}
+use Rattle.host_streams.specs.StreamCalls.{failed_made}
 use Rattle.wasi_records.specs.Sockets.{poll_connect_asks}
 use Rattle.wasi_addr.specs.declared.p2.ErrorCode.TheVariants.{NotInProgress}
-use Rattle.wasi_host.specs.Machine.{code_told, same_told}
-use Rattle.wasi_host.specs.StreamCalls.{check_by, convert_asks, plain_output_at, write_by}
-use Rattle.wasi_host.specs.declared.kind.PlainOutput.{PlainOutput}
+use Rattle.host_tcp.specs.Creates.{code_told, same_told}
+use Rattle.host_streams.specs.StreamCalls.{check_by, convert_asks, plain_output_at, write_by}
+use Rattle.host_store.specs.declared.kind.PlainOutput.{PlainOutput}
 use Rattle.wasi_p2.specs.Tcp.{accept_on, accepted_asks, finish_connect, make_streams}
 use Rattle.wasi_steps.specs.declared.guest_call.GuestCall.TheVariants as guest
 use Rattle.wasi_steps.specs.declared.step.Step.TheVariants as step

@@ -15,14 +15,14 @@ use Rattle.wasi_udp.specs.Receive.{receive_start}
 use Rattle.wasi_udp.specs.Send.{at_remote}
 use Rattle.wasi_world.specs.declared.datagram.IncomingDatagram.{IncomingDatagram}
 use Rattle.wasi_records.specs.Datagrams.{udp_connect_left, udp_reconnect_left, with_sending}
-use Rattle.wasi_host.specs.Kinds.{udp_kind, udp_of}
+use Rattle.host_store.specs.Kinds.{udp_kind, udp_of}
 use Rattle.wasi_records.specs.Receiving.{with_receiving}
 use Rattle.wasi_records.specs.Records.{tcp2_at, tcp2_put, udp2_at, udp2_put}
 use Rattle.wasi_records.specs.Udp.{udp_bind_progress, udp_create_left, udp_side, with_udp_progress}
-use Rattle.wasi_host.specs.UdpCreates.{udp_side_at}
+use Rattle.host_udp.specs.UdpCreates.{udp_side_at}
 use Rattle.wasi_records.specs.declared.datagrams.Incoming.{Incoming as IncomingStream}
 use Rattle.wasi_records.specs.declared.datagrams.Receiving.{Receiving}
-use Rattle.wasi_host.specs.declared.kind.Kind.TheVariants.{Incoming, Listen3, Result3, Tcp3, Udp3}
+use Rattle.host_store.specs.declared.kind.Kind.TheVariants.{Incoming, Listen3, Result3, Tcp3, Udp3}
 use Rattle.wasi_records.specs.declared.tcp_listening.Listening.TheVariants as listening
 use Rattle.wasi_records.specs.declared.udp.OpenUdp.{OpenUdp}
 use Rattle.wasi_records.specs.declared.udp.UdpRecord.{UdpRecord}
@@ -48,11 +48,11 @@ use Rattle.wasi_causes.proofs.receiving.Polled.{Exact, hand_of}
 use Rattle.wasi_causes.proofs.GivenBack.{open_stays}
 use Rattle.wasi_causes.proofs.receiving.Older.{polls_first, polls_side, question_else, starts_first, starts_side, udp_question_else}
 use Rattle.wasi_causes.proofs.Beside.{datagram_has, find_has}
-use Rattle.wasi_host.specs.SocketDatagrams.{has_datagram, is_datagram_of}
+use Rattle.host_store.specs.Beside.{has_datagram, is_datagram_of}
 use Rattle.wasi_causes.proofs.Words.{eq-eqb, false, is_some, true}
-use Rattle.wasi_host.specs.Beside.{beside_of}
-use Rattle.wasi_host.specs.declared.beside.Beside.{Beside}
-use Rattle.wasi_host.specs.declared.beside.BesideCall.{BesideCall}
+use Rattle.host_store.specs.Beside.{beside_of}
+use Rattle.host_store.specs.declared.beside.Beside.{Beside}
+use Rattle.host_store.specs.declared.beside.BesideCall.{BesideCall}
 use Rattle.wasi_causes.proofs.receiving.Polls.{Mine, Rest, apart_of, begun_none, connecting_none, no_stream, not_first, other_side, polled_tcp, polled_udp, quietly, receives, same_open}
 use Rattle.wasi_causes.proofs.receiving.Unmarked.{Unmarked, polls_unmarked, cancels_unmarked, creates_unmarked, releases_unmarked, turns_unmarked}
 use Rattle.wasi_causes.proofs.receiving.Streams.{Becomes, IsElse, IsFresh, Knows, StreamAt, StreamIs, at_more, fresh_with, mark_else, put_at, stays_so, stream_more, stream_push, stream_push_tcp, stream_put, stream_put_tcp, stream_same, stream_stays, stream_with, stream_without, tcp_at}

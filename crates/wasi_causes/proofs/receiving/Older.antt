@@ -6,7 +6,7 @@ unfoldable use Rattle.wasi_causes.proofs.Words.{bind}
 use Rattle.wasi_walks.proofs.walks.Asked.{BeginsDatagram, PollsBeside, MarksResult, WritesOnce}
 use Rattle.wasi_walks.proofs.walks.Asked.{Asked, Questions, SetsBacklog, Learns, Closes, MarksOne, AsksCreate, MarksAccepted, MarksListener, MarksPlain, Polls, Turns, GivesUp, UdpQuestions, UdpDisconnects, UdpLearns, UdpPeers, UdpCloses, UdpBegins, MarksUdp, MarksStream, MarksError, UdpGivesUp, Resolves, Looks}
 use Rattle.wasi_walks.proofs.walks.Asked.{ResolvesBeside, LooksBeside}
-use Rattle.wasi_host.specs.declared.kind.Kind.TheVariants.{Listen3, Result3, Tcp3}
+use Rattle.host_store.specs.declared.kind.Kind.TheVariants.{Listen3, Result3, Tcp3}
 use Rattle.wasi_causes.proofs.Words.{made_to, Stop, Allows, Ask, AskWrite, Asks, Give, Call, End, Entry, Err, ErrorCode, ErrorValue, HoldsAccept, HoldsConnect, IsAcceptOn, Item, Job, Kind, List, None, Ok, OpId, Operation, Option, Result, Socket, Some, Step, Streams, Tcp2, TcpRecord, Told, Waits, WasiSocketsCtx, WriteState, [], allows_keep, allows_then, ap, arith, bind, entry, give_up_asks, has_split, inl, inr, job_asks, job_in, length, make_asks, new_asks, own_of, poll_asks, refl, side_at, side_of, subst, sym, turn_asks, ℕ, ⊤, ◌+◌, ◌++◌, ◌∙◌, ◌∷◌, ◌≡◌}
 use Rattle.wasi_addr.specs.declared.address.SocketAddrUse.TheVariants.{UdpReceive}
 use Rattle.wasi_tcp.specs.Connect as connect
@@ -16,10 +16,10 @@ use Rattle.wasi_udp.specs.Receive.{wanting}
 use Rattle.wasi_udp.specs.Send.{at_remote}
 use Rattle.wasi_world.specs.Operation.{LastAsk, NothingLast, Who, last_ask}
 use Rattle.wasi_world.specs.Operation.{Given}
-use Rattle.wasi_host.specs.Kinds.{udp_kind}
+use Rattle.host_store.specs.Kinds.{udp_kind}
 use Rattle.wasi_records.specs.Records.{tcp2_at, udp2_at}
 use Rattle.wasi_records.specs.Udp.{udp_side}
-use Rattle.wasi_host.specs.UdpCreates.{udp_side_at}
+use Rattle.host_udp.specs.UdpCreates.{udp_side_at}
 use Rattle.wasi_records.specs.declared.udp.UdpRecord.{UdpRecord}
 use Rattle.wasi_records.specs.declared.datagrams.Incoming.{Incoming as IncomingStream}
 use Rattle.wasi_records.specs.declared.datagrams.Receiving.{Receiving}
@@ -37,7 +37,7 @@ use Rattle.wasi_walks.proofs.fits.Datagrams.{DatagramOn, FitBeside}
 use Rattle.wasi_records.specs.Records.{udp2_at}
 use Rattle.wasi_records.specs.declared.records.Record.{Record}
 use Rattle.wasi_records.specs.declared.udp.OpenUdp.{OpenUdp}
-use Rattle.wasi_host.specs.declared.beside.BesideCall.{BesideCall}
+use Rattle.host_store.specs.declared.beside.BesideCall.{BesideCall}
 use Rattle.wasi_causes.proofs.Beside.{find_has}
 use Rattle.wasi_causes.proofs.Words.{HandleTable}
 use Rattle.wasi_walks.proofs.walks.Moves.{Interface, tcp_kind, Held, Here, IsQuestionOf, IsUdpQuestionOf, Move, Names, Own, ToConnect, Unused, Used, receive_op, receiving_in, send_op, sending_in, udp_begun}

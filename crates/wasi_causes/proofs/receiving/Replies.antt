@@ -3,19 +3,19 @@ use Rattle.std.specs.Prelude.{flat_map}
 use Rattle.wasi_causes.proofs.Words.{Allows, Bool, Entry, Err, HandleTable, IpSocketAddress, List, Machine, None, Ok, OpId, Option, Reply, Result, Some, Standing, Step, Stop, Trap, WasiSocketsCtx, [], allows_keep, allows_then, ap, append-nil, append_assoc, arith, asks_while, entry, eq-eqb, false, first_ids, if◌then◌else◌, inl, inr, kind_at, machine_asks, refl, subst, sym, true, ℕ, ◌+◌, ◌++◌, ◌==◌, ◌∙◌, ◌∷◌, ◌≡◌, ◌⊎◌}
 use Rattle.std.proofs.lemmas.Bool.{eqb-true}
 use Rattle.wasi_world.specs.declared.datagram.IncomingDatagram.{IncomingDatagram}
-use Rattle.wasi_host.specs.DatagramCalls.{begins_receive, receive_datagrams_at, with_receive}
+use Rattle.host_udp.specs.DatagramCalls.{begins_receive, receive_datagrams_at, with_receive}
 use Rattle.wasi_world.specs.declared.outcome.TrapKind.TheVariants.{NoSuchHandle}
 use Rattle.wasi_records.specs.Stops.{Code}
-use Rattle.wasi_host.specs.Jobs.{with_job}
-use Rattle.wasi_host.specs.Machine.{incoming_at}
+use Rattle.host_store.specs.Jobs.{with_job}
+use Rattle.host_store.specs.Machine.{incoming_at}
 use Rattle.wasi_records.specs.Receiving.{receive_datagrams_asks}
 use Rattle.wasi_records.specs.Records.{open_at, udp2_at, udp2_put}
-use Rattle.wasi_host.specs.Store.{Records}
-use Rattle.wasi_host.specs.UdpCalls.{with_open_udp}
+use Rattle.host_store.specs.Store.{Records}
+use Rattle.host_store.specs.Store.{with_open_udp}
 use Rattle.wasi_records.specs.declared.datagrams.Incoming.{Incoming as IncomingStream}
 use Rattle.wasi_records.specs.declared.datagrams.Receiving.{Receiving}
 use Rattle.wasi_jobs.specs.declared.job.HostJob.TheVariants.{Receive}
-use Rattle.wasi_host.specs.declared.kind.Kind.TheVariants.{Incoming}
+use Rattle.host_store.specs.declared.kind.Kind.TheVariants.{Incoming}
 use Rattle.wasi_records.specs.declared.udp.OpenUdp.{OpenUdp}
 use Rattle.wasi_records.specs.declared.udp.UdpRecord.{UdpRecord}
 use Rattle.wasi_p2.specs.Udp.{receive_datagrams_on}

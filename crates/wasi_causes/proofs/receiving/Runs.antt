@@ -7,7 +7,7 @@ use Rattle.wasi_world.specs.declared.datagram.IncomingDatagram.{IncomingDatagram
 use Rattle.wasi_world.specs.declared.ids.OpId.{OpId}
 use Rattle.wasi_world.proofs.Allowed.{reached}
 use Rattle.wasi_records.specs.Records.{open_of}
-use Rattle.wasi_host.specs.declared.kind.Kind.TheVariants.{Incoming}
+use Rattle.host_store.specs.declared.kind.Kind.TheVariants.{Incoming}
 use Rattle.wasi_steps.specs.Reply.{received_values}
 use Rattle.wasi_steps.specs.declared.reply.Field.{Field}
 use Rattle.wasi_walks.proofs.Words.{length-append}

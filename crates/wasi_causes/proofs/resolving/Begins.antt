@@ -10,10 +10,10 @@ use Rattle.wasi_names.specs.declared.name.HostName.TheVariants.{Address, Domain}
 use Rattle.wasi_world.specs.Fits.{IsNames}
 use Rattle.wasi_world.specs.Typed.{told_names}
 use Rattle.wasi_world.specs.declared.call.Told.TheVariants as told
-use Rattle.wasi_host.specs.GivingBack.{given_back}
+use Rattle.host_store.specs.GivingBack.{given_back}
 use Rattle.wasi_records.specs.NameLookup.{lookup_told}
-use Rattle.wasi_host.specs.NameLookupCalls.{lookup_handle, resolve_host, resolved, with_lookup}
-use Rattle.wasi_host.specs.declared.kind.Kind.TheVariants as kind
+use Rattle.host_lookups.specs.NameLookupCalls.{lookup_handle, resolve_host, resolved, with_lookup}
+use Rattle.host_store.specs.declared.kind.Kind.TheVariants as kind
 use Rattle.wasi_records.specs.declared.name_lookup.Lookup.{Lookup}
 use Rattle.wasi_records.specs.declared.name_lookup.Lookup.TheVariants.{InProgress, Found}
 use Rattle.wasi_records.specs.declared.name_lookup.LookupOp.{LookupOp}

@@ -4,10 +4,10 @@ use Rattle.wasi_causes.proofs.Words.{[], ap, false, inl, inr, kind_at, refl, sub
 use Rattle.std.specs.Prelude.{if◌then◌else◌}
 use Rattle.wasi_addr.specs.declared.address.IpAddress.{IpAddress}
 use Rattle.wasi_addr.specs.declared.address.IpAddress.TheVariants as ip
-use Rattle.wasi_host.specs.Kinds.{is_error}
-use Rattle.wasi_host.specs.Machine.{lookup_number}
+use Rattle.host_store.specs.Kinds.{is_error}
+use Rattle.host_store.specs.Machine.{lookup_number}
 use Rattle.wasi_records.specs.NameLookup.{next_of}
-use Rattle.wasi_host.specs.NameLookupCalls.{next_at, next_told}
+use Rattle.host_lookups.specs.NameLookupCalls.{next_at, next_told}
 use Rattle.wasi_records.specs.Records.{lookup_at}
 use Rattle.wasi_records.specs.declared.name_lookup.Lookup.{Lookup}
 use Rattle.wasi_records.specs.declared.name_lookup.Lookup.TheVariants.{InProgress, Found, Failed}

@@ -6,12 +6,12 @@ use Rattle.wasi_addr.specs.Address.{canonical}
 use Rattle.wasi_world.specs.Fits.{IsNames}
 use Rattle.wasi_world.specs.Typed.{told_names}
 use Rattle.wasi_world.specs.declared.call.Told.TheVariants as told
-use Rattle.wasi_host.specs.declared.beside.Beside.{Beside}
-use Rattle.wasi_host.specs.declared.beside.BesideCall.TheVariants.{Resolve}
+use Rattle.host_store.specs.declared.beside.Beside.{Beside}
+use Rattle.host_store.specs.declared.beside.BesideCall.TheVariants.{Resolve}
 use Rattle.wasi_host.specs.declared.pending.Outcome.{Outcome as Given}
-use Rattle.wasi_host.specs.Beside.{beside_of, beside_polled, stands_under}
+use Rattle.host_store.specs.Beside.{beside_of, beside_polled, stands_under}
 use Rattle.wasi_host.specs.Pending.{go_on_beside, resolved_on}
-use Rattle.wasi_host.specs.Resolves.{names_told}
+use Rattle.host_lookups.specs.Resolves.{names_told}
 use Rattle.wasi_steps.specs.declared.reply.Reply.TheVariants as reply
 use Rattle.wasi_steps.specs.declared.step.Step.TheVariants as step
 use Rattle.wasi_walks.specs.Waiting.{call_over}

@@ -10,11 +10,11 @@ use Rattle.wasi_names.specs.declared.name.HostName.TheVariants.{Address, Domain}
 use Rattle.wasi_world.specs.Fits.{IsNames}
 use Rattle.wasi_world.specs.Typed.{told_names}
 use Rattle.wasi_world.specs.declared.call.Told.TheVariants as told
-use Rattle.wasi_host.specs.declared.beside.BesideCall.TheVariants.{Resolve}
-use Rattle.wasi_host.specs.Beside.{beside_as, besided}
-use Rattle.wasi_host.specs.Block.{after_call, give}
-use Rattle.wasi_host.specs.Lines.{same_stop, storing}
-use Rattle.wasi_host.specs.Resolves.{Resolved, names_told}
+use Rattle.host_store.specs.declared.beside.BesideCall.TheVariants.{Resolve}
+use Rattle.host_store.specs.Beside.{beside_as, besided}
+use Rattle.host_store.specs.Block.{after_call, give}
+use Rattle.host_store.specs.Lines.{same_stop, storing}
+use Rattle.host_lookups.specs.Resolves.{Resolved, names_told}
 use Rattle.wasi_machine.specs.Machine.{lookup_reply}
 use Rattle.wasi_p3.specs.Lookup as p3
 use Rattle.wasi_steps.specs.declared.reply.CodeWord.TheVariants as word

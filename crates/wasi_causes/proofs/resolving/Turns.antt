@@ -4,7 +4,7 @@ use Rattle.wasi_world.specs.Fits.{IsNames}
 use Rattle.wasi_world.specs.Typed.{told_names}
 use Rattle.wasi_world.specs.declared.call.Told.TheVariants as told
 use Rattle.wasi_records.specs.Datagrams.{turn_outgoing}
-use Rattle.wasi_host.specs.Jobs.{turn_datagram_at, turn_receive_at}
+use Rattle.host_store.specs.Jobs.{turn_datagram_at, turn_receive_at}
 use Rattle.wasi_records.specs.NameLookup.{lookup_told, turn_lookup, turn_lookup_at}
 use Rattle.wasi_records.specs.Receiving.{turn_incoming}
 use Rattle.wasi_records.specs.Records.{lookup_at, lookup_put, open_at, open_put, tcp2_at, tcp2_put, udp2_at}

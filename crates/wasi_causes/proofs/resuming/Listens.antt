@@ -14,22 +14,23 @@ use Rattle.wasi_causes.specs.Udp.{GivesBy}
 use Rattle.wasi_host.specs.Pending.{answered_on, handle_outcome}
 use Rattle.wasi_causes.proofs.operations.Marks.{poll_marks_none}
 use Rattle.wasi_causes.specs.Datagrams.{PendingHandleIsLive}
-use Rattle.wasi_host.specs.Machine.{side_at, tcp3_at}
-use Rattle.wasi_host.specs.Lines.{tabling}
-use Rattle.wasi_host.specs.Listens.{listened, make_listener, relisten_in, relisten_of, relistens as its_relistens}
-use Rattle.wasi_host.specs.declared.kind.Kind.TheVariants.{Listen3}
+use Rattle.host_store.specs.Machine.{side_at, tcp3_at}
+use Rattle.host_store.specs.Lines.{tabling}
+use Rattle.host_tcp.specs.Listens.{listened, make_listener, relisten_in, relisten_of, relistens as its_relistens}
+use Rattle.host_store.specs.declared.kind.Kind.TheVariants.{Listen3}
 use Rattle.wasi_causes.proofs.tables.Meets.{chain, both}
 use Rattle.wasi_causes.specs.Udp.{MakesOneHandle}
-use Rattle.wasi_host.specs.BaseStops.{BaseStop, trap_of}
-use Rattle.wasi_host.specs.Binds.{Answered, bind_told, keeps}
-use Rattle.wasi_host.specs.Block.{Call, Read, after_call, give, goes_on, ◌>>=◌}
-use Rattle.wasi_host.specs.Kinds.{make_asks}
-use Rattle.wasi_host.specs.declared.kind.Interface.TheVariants.{P3}
+use Rattle.host_store.specs.BaseStops.{BaseStop, trap_of}
+use Rattle.host_store.specs.Lines.{Answered, keeps}
+use Rattle.host_tcp.specs.Binds.{bind_told}
+use Rattle.host_store.specs.Block.{Call, Read, after_call, give, goes_on, ◌>>=◌}
+use Rattle.host_store.specs.Kinds.{make_asks}
+use Rattle.host_store.specs.declared.kind.Interface.TheVariants.{P3}
 use Rattle.wasi_records.specs.Stops.{Code}
 use Rattle.wasi_walks.specs.Waiting.{HoldsCall}
 use Rattle.wasi_records.specs.declared.tcp_listening.Listening.TheVariants as listening
 use Rattle.wasi_host.specs.declared.pending.Outcome.{Outcome as Given}
-use Rattle.wasi_host.specs.declared.store.StandingCall.TheVariants.{Listen}
+use Rattle.host_store.specs.declared.store.StandingCall.TheVariants.{Listen}
 use Rattle.wasi_steps.specs.declared.reply.Reply.TheVariants as reply
 use Rattle.wasi_tcp.specs.Listen.{is_over as listen_over}
 use Rattle.wasi_causes.proofs.resuming.Rows as rows

@@ -1,7 +1,7 @@
 -- What a poll of the pending call gives, whichever that is: it is over, fails, or is pending still.
 use Rattle.wasi_causes.specs.Blocking.{IsBlocking}
 use Rattle.wasi_causes.specs.Outcomes.{BlockedGoesOn}
-use Rattle.wasi_host.specs.Beside.{stands_under}
+use Rattle.host_store.specs.Beside.{stands_under}
 use Rattle.wasi_causes.proofs.Beside.{exclusive_call, not_beside, not_both}
 use Rattle.wasi_causes.specs.P3Connects.{BesidePolled, IsBeside}
 use Rattle.wasi_causes.proofs.Words.{◌⊎◌, Answer, CallFails, CallWaits, CodeWord, Entry, Err, ErrorCode, IsOnNothing}
@@ -17,11 +17,11 @@ use Rattle.wasi_causes.specs.Outcomes.{Outcome, Always}
 use Rattle.wasi_causes.specs.Failed.{left_failed}
 use Rattle.wasi_causes.specs.Udp.{GivesBy}
 use Rattle.wasi_host.specs.Pending.{gone_on}
-use Rattle.wasi_host.specs.declared.kind.Interface.TheVariants.{P2, P3}
+use Rattle.host_store.specs.declared.kind.Interface.TheVariants.{P2, P3}
 use Rattle.wasi_walks.specs.Waiting.{word_for}
 use Rattle.wasi_causes.specs.MayAnswer.{IsCodeWord, IsP3Word}
 use Rattle.wasi_host.specs.declared.pending.Outcome.{Outcome as Given}
-use Rattle.wasi_host.specs.declared.store.StandingCall.TheVariants.{Bind, Listen, DropOutput}
+use Rattle.host_store.specs.declared.store.StandingCall.TheVariants.{Bind, Listen, DropOutput}
 use Rattle.wasi_steps.specs.declared.reply.Reply.TheVariants as reply
 use Rattle.wasi_steps.specs.declared.step.Step.TheVariants as step
 

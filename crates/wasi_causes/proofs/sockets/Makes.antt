@@ -21,7 +21,7 @@ use Rattle.wasi_causes.proofs.operations.Polls.{EndsFor, connect_ends}
 use Rattle.wasi_causes.proofs.tables.Meets.{Rows, Meets, ends, asks, chain, onto, branch, widen, both, granted}
 use Rattle.wasi_causes.proofs.tables.Routes.{Says, makes, full_so, code_word, makes_streams, Names, its, here, finds, calls, through_record, apart, none_has, not_of_code, put_back}
 use Rattle.wasi_causes.proofs.Words.{CreateFails, Full, Kind, create_to, is_full, made_to}
-use Rattle.wasi_host.specs.Machine.{code_told, same_told, with_room}
+use Rattle.host_tcp.specs.Creates.{code_told, same_told, with_room}
 use Rattle.wasi_causes.specs.Outcomes.{FullAfter, LeavesSocket, OnlyWhere, Outcome}
 use Rattle.wasi_causes.specs.Reached.{Finishes, FinishesAt, MayFinish}
 use Rattle.wasi_records.specs.Records.{tcp2_at, tcp2_put, tcp2_pushed}
@@ -29,8 +29,8 @@ use Rattle.wasi_records.specs.declared.tcp_listening.Listening.TheVariants as li
 use Rattle.wasi_addr.specs.declared.p2.ErrorCode.TheVariants as word_p2
 use Rattle.wasi_causes.proofs.Words.{Code, record_in, socket_at, if◌then◌else◌}
 use Rattle.wasi_records.specs.Sockets.{poll_connect_asks}
-use Rattle.wasi_host.specs.Block.{Read, last, need, ◌>>=◌, ◌>>◌}
-use Rattle.wasi_host.specs.Lines.{in_store, done_by, finish_connect_of}
+use Rattle.host_store.specs.Block.{Read, last, need, ◌>>=◌, ◌>>◌}
+use Rattle.host_store.specs.Lines.{in_store, done_by, finish_connect_of}
 use Rattle.wasi_p2.specs.Tcp.{accept_asks, finish_connect, make_streams}
 use Rattle.wasi_walks.specs.Answered.{ConnectsOn, StillConnects, WasClosed}
 use Rattle.wasi_steps.specs.declared.reply.CodeWord.TheVariants as word

@@ -9,11 +9,12 @@ use Rattle.wasi_addr.specs.declared.address.SocketAddressFamily.{SocketAddressFa
 use Rattle.wasi_world.specs.declared.ids.Ids.{Ids}
 use Rattle.wasi_records.specs.Records.{tcp2_at}
 use Rattle.wasi_records.specs.Stops.{Code, StopOf, Trap}
-use Rattle.wasi_host.specs.Block as block
-use Rattle.wasi_host.specs.Block.{Does, after_call, or_stop, or_trap}
-use Rattle.wasi_host.specs.Lines.{finish_connect_of, in_store, makes, same_stop, storing, tabling}
+use Rattle.host_store.specs.Block as block
+use Rattle.host_store.specs.Block.{Does, after_call, or_stop, or_trap}
+use Rattle.host_store.specs.Lines.{finish_connect_of, in_store, makes, same_stop, storing, tabling}
 use Rattle.wasi_addr.specs.declared.p2.ErrorCode.{ErrorCode as P2Code}
-use Rattle.wasi_host.specs.Machine.{same_told, with_room, with_table}
+use Rattle.host_tcp.specs.Creates.{same_told, with_room}
+use Rattle.host_store.specs.Machine.{with_table}
 use Rattle.wasi_p2.specs.Tcp.{accept_on, accepted_asks, finish_connect, make_streams, socket_with_streams}
 use Rattle.wasi_steps.specs.declared.guest_call.GuestCall.TheVariants as guest
 use Rattle.wasi_steps.specs.declared.reply.Field.{Field}

@@ -11,14 +11,14 @@ use Rattle.wasi_causes.specs.MayAnswer.{AreLike, EachLike}
 use Rattle.wasi_causes.specs.P3Listens.{ByListener, KeepsConnection, KeepsFault, OfListener, StillAccepts}
 use Rattle.wasi_causes.specs.P3Listens.{Takes, TakesConnection, TakesFault, its_place, with_taken}
 use Rattle.wasi_addr.specs.Code.{p3_of_code}
-use Rattle.wasi_host.specs.BaseStops.{BaseStop, renamed, trap_of}
-use Rattle.wasi_host.specs.Block.{Call, after_call, give, goes_on, last, ◌>>=◌}
-use Rattle.wasi_host.specs.declared.kind.Kind.TheVariants.{Tcp3}
-use Rattle.wasi_host.specs.EndPolls.{not_yet}
-use Rattle.wasi_host.specs.Kinds.{make_asks}
-use Rattle.wasi_host.specs.Lines.{tabling, tcp_in}
-use Rattle.wasi_host.specs.Listens.{accept_in, keep_accepted, look_accept}
-use Rattle.wasi_host.specs.Machine.{listen3_at, side_at}
+use Rattle.host_store.specs.BaseStops.{BaseStop, renamed, trap_of}
+use Rattle.host_store.specs.Block.{Call, after_call, give, goes_on, last, ◌>>=◌}
+use Rattle.host_store.specs.declared.kind.Kind.TheVariants.{Tcp3}
+use Rattle.host_tcp.specs.EndPolls.{not_yet}
+use Rattle.host_store.specs.Kinds.{make_asks}
+use Rattle.host_store.specs.Lines.{tabling, tcp_in}
+use Rattle.host_tcp.specs.Listens.{accept_in, keep_accepted, look_accept}
+use Rattle.host_store.specs.Machine.{listen3_at, side_at}
 use Rattle.wasi_machine.specs.Machine.{stream_result_reply}
 use Rattle.wasi_p3.specs.Listening.{Polled, accept_by, hand_over, handed, looked}
 use Rattle.wasi_p3.specs.Listening as listening3

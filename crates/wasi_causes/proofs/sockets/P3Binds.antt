@@ -23,15 +23,17 @@ use Rattle.wasi_causes.specs.Polls.{BindToldCode, BindToldDone, CheckToldPending
 use Rattle.wasi_causes.specs.Polls.{ToldYes, UdpBindToldCode, UdpBindToldDone, WasOver}
 use Rattle.wasi_causes.specs.Refusals.{OfTcp3}
 use Rattle.wasi_causes.specs.Udp.{IsUdpUnbound, putting_udp, udp_bind_entry, udp_check_entry, udp_local_entry}
-use Rattle.wasi_host.specs.BaseStops.{told_as}
-use Rattle.wasi_host.specs.Binds.{Answered, bind_of, bind_told, binds, keeps, udp_bind_of, udp_bind_told, udp_binds}
-use Rattle.wasi_host.specs.Block.{Call, goes_on, last}
-use Rattle.wasi_host.specs.declared.kind.Interface.TheVariants.{P3}
-use Rattle.wasi_host.specs.declared.store.StandingCall.TheVariants.{Bind, UdpBind}
-use Rattle.wasi_host.specs.Lines.{tcp_in}
-use Rattle.wasi_host.specs.Machine.{tcp3_at, udp3_at}
-use Rattle.wasi_host.specs.Store.{with_socket}
-use Rattle.wasi_host.specs.UdpCalls.{with_open_udp}
+use Rattle.host_store.specs.BaseStops.{told_as}
+use Rattle.host_store.specs.Lines.{Answered, keeps}
+use Rattle.host_tcp.specs.Binds.{bind_of, bind_told, binds}
+use Rattle.host_udp.specs.UdpBinds.{udp_bind_of, udp_bind_told, udp_binds}
+use Rattle.host_store.specs.Block.{Call, goes_on, last}
+use Rattle.host_store.specs.declared.kind.Interface.TheVariants.{P3}
+use Rattle.host_store.specs.declared.store.StandingCall.TheVariants.{Bind, UdpBind}
+use Rattle.host_store.specs.Lines.{tcp_in}
+use Rattle.host_store.specs.Machine.{tcp3_at, udp3_at}
+use Rattle.host_store.specs.Store.{with_socket}
+use Rattle.host_store.specs.Store.{with_open_udp}
 use Rattle.wasi_machine.specs.Machine.{p3_answer_reply}
 use Rattle.wasi_p3.specs.Lines.{in_base, udp_in}
 use Rattle.wasi_p3.specs.Stops.{P3Stop}

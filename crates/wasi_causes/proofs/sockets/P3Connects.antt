@@ -17,17 +17,17 @@ use Rattle.wasi_causes.specs.P3Connects.{Begins, ConnectCloses, ConnectFails, Co
 use Rattle.wasi_causes.specs.P3Connects.{ItIsFree, NoAddress, NoAddressUnbound, NotInFirstState, OperationGoesOn}
 use Rattle.wasi_causes.specs.P3Connects.{begun_connect, connected_entries, passed_entries, with_connect}
 use Rattle.wasi_causes.specs.Refusals.{OfTcp3}
-use Rattle.wasi_host.specs.declared.beside.Beside.{Beside}
-use Rattle.wasi_host.specs.declared.beside.BesideCall.TheVariants.{Connect}
-use Rattle.wasi_host.specs.BaseStops.{BaseStop, told_as}
-use Rattle.wasi_host.specs.Beside.{beside_as, besided}
-use Rattle.wasi_host.specs.Binds.{Answered}
-use Rattle.wasi_host.specs.Block.{Call, last, need, ◌>>◌}
-use Rattle.wasi_host.specs.Connects.{connect_begun, connect_of, connects, reconnects}
-use Rattle.wasi_host.specs.Machine.{tcp3_at}
-use Rattle.wasi_host.specs.Store.{with_socket}
+use Rattle.host_store.specs.declared.beside.Beside.{Beside}
+use Rattle.host_store.specs.declared.beside.BesideCall.TheVariants.{Connect}
+use Rattle.host_store.specs.BaseStops.{BaseStop, told_as}
+use Rattle.host_store.specs.Beside.{beside_as, besided}
+use Rattle.host_store.specs.Lines.{Answered}
+use Rattle.host_store.specs.Block.{Call, last, need, ◌>>◌}
+use Rattle.host_tcp.specs.Connects.{connect_begun, connect_of, connects, reconnects}
+use Rattle.host_store.specs.Machine.{tcp3_at}
+use Rattle.host_store.specs.Store.{with_socket}
 use Rattle.wasi_machine.specs.Machine.{p3_answer_reply}
-use Rattle.wasi_host.specs.Lines.{tcp_in}
+use Rattle.host_store.specs.Lines.{tcp_in}
 use Rattle.wasi_p3.specs.Lines.{in_base}
 use Rattle.wasi_causes.proofs.Words.{if◌then◌else◌}
 use Rattle.wasi_p3.specs.Stops.{P3Stop}

@@ -10,16 +10,16 @@ use Rattle.wasi_records.specs.Binding.{bind_answer, left_of}
 use Rattle.wasi_records.specs.declared.udp.OpenUdp.{OpenUdp}
 use Rattle.wasi_records.specs.Records.{open_at}
 use Rattle.wasi_records.specs.Stops.{Code}
-use Rattle.wasi_host.specs.declared.beside.Beside.{Beside}
-use Rattle.wasi_host.specs.declared.beside.BesideCall.{BesideCall}
-use Rattle.wasi_host.specs.declared.beside.BesideCall.TheVariants.{Receive, Send}
-use Rattle.wasi_host.specs.declared.kind.Interface.TheVariants.{P3}
+use Rattle.host_store.specs.declared.beside.Beside.{Beside}
+use Rattle.host_store.specs.declared.beside.BesideCall.{BesideCall}
+use Rattle.host_store.specs.declared.beside.BesideCall.TheVariants.{Receive, Send}
+use Rattle.host_store.specs.declared.kind.Interface.TheVariants.{P3}
 use Rattle.wasi_host.specs.declared.pending.Outcome.{Outcome as Gives}
-use Rattle.wasi_host.specs.BaseStops.{BaseStop}
-use Rattle.wasi_host.specs.Beside.{beside_of, beside_without, stands_under}
-use Rattle.wasi_host.specs.Block.{after_call, goes_on}
+use Rattle.host_store.specs.BaseStops.{BaseStop}
+use Rattle.host_store.specs.Beside.{beside_of, beside_without, stands_under}
+use Rattle.host_store.specs.Block.{after_call, goes_on}
 use Rattle.wasi_host.specs.Pending.{answered_on, datagram_outcome, go_on_beside, outcome_of}
-use Rattle.wasi_host.specs.SocketDatagrams.{drop_datagram, is_datagram, polled, polled_so, received_answer, receive_polls, send_polls}
+use Rattle.host_udp.specs.SocketDatagrams.{drop_datagram, is_datagram, polled, polled_so, received_answer, receive_polls, send_polls}
 use Rattle.wasi_steps.specs.declared.reply.Field.{Field}
 use Rattle.wasi_steps.specs.declared.reply.Reply.TheVariants as reply
 use Rattle.wasi_steps.specs.Replies.{OfAPolledCall}

@@ -23,13 +23,13 @@ use Rattle.wasi_records.specs.Records.{open_at}
 use Rattle.wasi_records.specs.Stops.{Code}
 use Rattle.wasi_records.specs.Udp.{with_udp_inner}
 use Rattle.wasi_records.specs.Binding.{bind_answer, left_of}
-use Rattle.wasi_host.specs.BaseStops.{BaseStop, told_as}
-use Rattle.wasi_host.specs.Beside.{beside_as}
-use Rattle.wasi_host.specs.Block.{Call, after_call, goes_on, last}
-use Rattle.wasi_host.specs.declared.beside.BesideCall.TheVariants.{Receive, Send}
-use Rattle.wasi_host.specs.Machine.{udp3_at}
-use Rattle.wasi_host.specs.SocketDatagrams.{begun_so, polled, receive_begins, receive_of, receive_polls, received_answer, send_begins, send_of, send_polls}
-use Rattle.wasi_host.specs.UdpCalls.{with_open_udp}
+use Rattle.host_store.specs.BaseStops.{BaseStop, told_as}
+use Rattle.host_store.specs.Beside.{beside_as}
+use Rattle.host_store.specs.Block.{Call, after_call, goes_on, last}
+use Rattle.host_store.specs.declared.beside.BesideCall.TheVariants.{Receive, Send}
+use Rattle.host_store.specs.Machine.{udp3_at}
+use Rattle.host_udp.specs.SocketDatagrams.{begun_so, polled, receive_begins, receive_of, receive_polls, received_answer, send_begins, send_of, send_polls}
+use Rattle.host_store.specs.Store.{with_open_udp}
 use Rattle.wasi_machine.specs.Machine.{p3_answer_reply}
 use Rattle.wasi_p3.specs.Lines.{in_base, udp_in}
 use Rattle.wasi_p3.specs.Udp as udp3

@@ -15,15 +15,15 @@ use Rattle.wasi_tcp.specs.Connecting.{in_socket}
 use Rattle.wasi_tcp.specs.Halves.{take_receive, take_send, taken_receive, taken_send}
 use Rattle.wasi_tcp.specs.declared.halves.TcpReceiveStream.{TcpReceiveStream}
 use Rattle.wasi_tcp.specs.declared.halves.TcpSendStream.{TcpSendStream}
-use Rattle.wasi_host.specs.BaseStops.{renamed, trap_of}
-use Rattle.wasi_host.specs.Block.{Does, Read, after_call, give, goes_on}
-use Rattle.wasi_host.specs.ConnectionEnds.{take_end, take_end_in}
-use Rattle.wasi_host.specs.Kinds.{name_of}
-use Rattle.wasi_host.specs.Lines.{storing, tabling, tcp_in}
-use Rattle.wasi_host.specs.Machine.{tcp3_at}
-use Rattle.wasi_host.specs.declared.kind.ConnectionEnd.{ConnectionEnd}
-use Rattle.wasi_host.specs.declared.kind.Kind.{Kind}
-use Rattle.wasi_host.specs.declared.kind.Kind.TheVariants.{Receive3, Result3, Send3}
+use Rattle.host_store.specs.BaseStops.{renamed, trap_of}
+use Rattle.host_store.specs.Block.{Does, Read, after_call, give, goes_on}
+use Rattle.host_tcp.specs.ConnectionEnds.{take_end, take_end_in}
+use Rattle.host_store.specs.Kinds.{name_of}
+use Rattle.host_store.specs.Lines.{storing, tabling, tcp_in}
+use Rattle.host_store.specs.Machine.{tcp3_at}
+use Rattle.host_store.specs.declared.kind.ConnectionEnd.{ConnectionEnd}
+use Rattle.host_store.specs.declared.kind.Kind.{Kind}
+use Rattle.host_store.specs.declared.kind.Kind.TheVariants.{Receive3, Result3, Send3}
 use Rattle.wasi_machine.specs.Machine.{p3_reply}
 use Rattle.wasi_steps.specs.Reply.{pair_values}
 use Rattle.wasi_p3.specs.Lines.{in_base}

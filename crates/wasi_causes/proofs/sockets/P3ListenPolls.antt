@@ -11,16 +11,17 @@ use Rattle.wasi_causes.proofs.tables.Routes.{calls, makes}
 use Rattle.wasi_causes.specs.P3Listens.{HasNoRoom, IsDone, IsRefused, ListenPolled, WaitsStill, as_listener, left_polled, with_listener}
 use Rattle.wasi_causes.specs.Polls.{Polled}
 use Rattle.wasi_host.specs.declared.pending.Outcome.{Outcome}
-use Rattle.wasi_host.specs.declared.kind.Interface.TheVariants.{P3}
-use Rattle.wasi_host.specs.declared.kind.Kind.TheVariants.{Listen3}
-use Rattle.wasi_host.specs.declared.store.StandingCall.TheVariants.{Listen}
-use Rattle.wasi_host.specs.BaseStops.{BaseStop, trap_of}
-use Rattle.wasi_host.specs.Binds.{Answered, bind_told, keeps}
-use Rattle.wasi_host.specs.Block.{Call, Does, Read, after_call, give, goes_on, or_trap, ◌>>=◌}
-use Rattle.wasi_host.specs.Kinds.{make_asks}
-use Rattle.wasi_host.specs.Lines.{tabling}
-use Rattle.wasi_host.specs.Listens.{listened, make_listener, relisten_in, relisten_of, relistens}
-use Rattle.wasi_host.specs.Machine.{side_at, tcp3_at}
+use Rattle.host_store.specs.declared.kind.Interface.TheVariants.{P3}
+use Rattle.host_store.specs.declared.kind.Kind.TheVariants.{Listen3}
+use Rattle.host_store.specs.declared.store.StandingCall.TheVariants.{Listen}
+use Rattle.host_store.specs.BaseStops.{BaseStop, trap_of}
+use Rattle.host_store.specs.Lines.{Answered, keeps}
+use Rattle.host_tcp.specs.Binds.{bind_told}
+use Rattle.host_store.specs.Block.{Call, Does, Read, after_call, give, goes_on, or_trap, ◌>>=◌}
+use Rattle.host_store.specs.Kinds.{make_asks}
+use Rattle.host_store.specs.Lines.{tabling}
+use Rattle.host_tcp.specs.Listens.{listened, make_listener, relisten_in, relisten_of, relistens}
+use Rattle.host_store.specs.Machine.{side_at, tcp3_at}
 use Rattle.wasi_host.specs.Pending.{answered_on, handle_outcome}
 use Rattle.wasi_machine.specs.Machine.{asks_while, is_held_up}
 use Rattle.wasi_records.specs.declared.tcp_listening.Listening.TheVariants as listening

@@ -18,16 +18,17 @@ use Rattle.wasi_causes.specs.P3Listens.{NotInFirstState, OperationGoesOn, as_lis
 use Rattle.wasi_causes.specs.Polls.{Polled}
 use Rattle.wasi_causes.specs.Refusals.{OfTcp3}
 use Rattle.wasi_addr.specs.Code.{p3_of_code}
-use Rattle.wasi_host.specs.BaseStops.{BaseStop, told_as, trap_of}
-use Rattle.wasi_host.specs.Binds.{Answered, bind_told, keeps}
-use Rattle.wasi_host.specs.Block.{Call, Read, after_call, give, goes_on, last, need, or_trap, ◌>>=◌, ◌>>◌}
-use Rattle.wasi_host.specs.declared.kind.Interface.TheVariants.{P3}
-use Rattle.wasi_host.specs.declared.kind.Kind.TheVariants.{Listen3}
-use Rattle.wasi_host.specs.declared.store.StandingCall.TheVariants.{Listen}
-use Rattle.wasi_host.specs.Kinds.{make_asks}
-use Rattle.wasi_host.specs.Lines.{tabling, tcp_in}
-use Rattle.wasi_host.specs.Listens.{listen_in, listen_of, listened, listens, make_listener}
-use Rattle.wasi_host.specs.Machine.{side_at, tcp3_at}
+use Rattle.host_store.specs.BaseStops.{BaseStop, told_as, trap_of}
+use Rattle.host_store.specs.Lines.{Answered, keeps}
+use Rattle.host_tcp.specs.Binds.{bind_told}
+use Rattle.host_store.specs.Block.{Call, Read, after_call, give, goes_on, last, need, or_trap, ◌>>=◌, ◌>>◌}
+use Rattle.host_store.specs.declared.kind.Interface.TheVariants.{P3}
+use Rattle.host_store.specs.declared.kind.Kind.TheVariants.{Listen3}
+use Rattle.host_store.specs.declared.store.StandingCall.TheVariants.{Listen}
+use Rattle.host_store.specs.Kinds.{make_asks}
+use Rattle.host_store.specs.Lines.{tabling, tcp_in}
+use Rattle.host_tcp.specs.Listens.{listen_in, listen_of, listened, listens, make_listener}
+use Rattle.host_store.specs.Machine.{side_at, tcp3_at}
 use Rattle.wasi_machine.specs.Machine.{p3_answer_reply}
 use Rattle.wasi_p3.specs.Lines.{in_host}
 use Rattle.wasi_p3.specs.Listening as listening3

@@ -6,12 +6,12 @@ use Rattle.wasi_causes.proofs.tables.Meets.{Meets, Rows, ends}
 use Rattle.wasi_causes.proofs.tables.Routes.{Replied, Says, apart}
 use Rattle.wasi_causes.specs.GivenUp.{without}
 use Rattle.wasi_causes.specs.P3Streams.{IsLetGo, IsUnfilled, OfSlot}
-use Rattle.wasi_host.specs.Kinds.{none_in, result3_of}
-use Rattle.wasi_host.specs.Machine.{result3_at}
-use Rattle.wasi_host.specs.declared.kind.Kind.TheVariants.{Result3}
+use Rattle.host_store.specs.Kinds.{none_in, result3_of}
+use Rattle.host_store.specs.Machine.{result3_at}
+use Rattle.host_store.specs.declared.kind.Kind.TheVariants.{Result3}
 use Rattle.wasi_machine.specs.Machine.{slot_reply}
-use Rattle.wasi_host.specs.ConnectionEnds.{drop_slot_in}
-use Rattle.wasi_host.specs.GivingBack.{given_back}
+use Rattle.host_tcp.specs.ConnectionEnds.{drop_slot_in}
+use Rattle.host_store.specs.GivingBack.{given_back}
 use Rattle.wasi_p3.specs.Streams.{Taken, named_end, result_at, result_in, result_on, result_out, slot_in, take_result}
 use Rattle.wasi_records.specs.Slots.{StreamEnd, result_of, slot_at}
 use Rattle.wasi_records.specs.declared.slot.Slot.{Slot}

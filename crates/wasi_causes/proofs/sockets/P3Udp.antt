@@ -10,9 +10,9 @@ use Rattle.wasi_causes.proofs.tables.Routes.{Replied, Says, calls, finds}
 use Rattle.wasi_causes.specs.MayAnswer.{IsP3Word}
 use Rattle.wasi_causes.specs.P3Udp.{DisconnectFails, DisconnectTold, Disconnects, KeepsNone, OfUdp3, disconnect_entries}
 use Rattle.wasi_causes.specs.Udp.{TellsUdpRemote, putting_udp}
-use Rattle.wasi_host.specs.Block.{Call, last}
-use Rattle.wasi_host.specs.Machine.{udp3_at}
-use Rattle.wasi_host.specs.UdpCalls.{with_open_udp}
+use Rattle.host_store.specs.Block.{Call, last}
+use Rattle.host_store.specs.Machine.{udp3_at}
+use Rattle.host_store.specs.Store.{with_open_udp}
 use Rattle.wasi_machine.specs.Machine.{p3_reply}
 use Rattle.wasi_p3.specs.Lines.{in_store, of_udp, on_udp, told_of, udp_in, udp_of}
 use Rattle.wasi_p3.specs.Stops.{P3Stop, p3_stop, p3_told}

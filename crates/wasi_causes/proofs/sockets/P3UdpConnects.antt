@@ -14,13 +14,13 @@ use Rattle.wasi_causes.specs.P3Binds.{with_pending}
 use Rattle.wasi_causes.specs.P3Udp.{OfUdp3}
 use Rattle.wasi_causes.specs.P3UdpConnects.{ConnectBegins, ConnectFails, ConnectPolls, ConnectsUdp, Elsewhere, FindsBound, FoundBound, FoundFree, HasStreams, PollFails, UdpConnectStands}
 use Rattle.wasi_causes.specs.Udp.{putting_udp}
-use Rattle.wasi_host.specs.BaseStops.{told_as}
-use Rattle.wasi_host.specs.Binds.{Answered, keeps}
-use Rattle.wasi_host.specs.Block.{Call, goes_on, last, need, ◌>>=◌, ◌>>◌}
-use Rattle.wasi_host.specs.declared.store.StandingCall.TheVariants.{UdpConnect3}
-use Rattle.wasi_host.specs.Machine.{udp3_at}
-use Rattle.wasi_host.specs.UdpCalls.{with_open_udp}
-use Rattle.wasi_host.specs.UdpConnects.{udp_connect_of}
+use Rattle.host_store.specs.BaseStops.{told_as}
+use Rattle.host_store.specs.Lines.{Answered, keeps}
+use Rattle.host_store.specs.Block.{Call, goes_on, last, need, ◌>>=◌, ◌>>◌}
+use Rattle.host_store.specs.declared.store.StandingCall.TheVariants.{UdpConnect3}
+use Rattle.host_store.specs.Machine.{udp3_at}
+use Rattle.host_store.specs.Store.{with_open_udp}
+use Rattle.host_udp.specs.UdpConnects.{udp_connect_of}
 use Rattle.wasi_machine.specs.Machine.{p3_answer_reply}
 use Rattle.wasi_p3.specs.Lines.{in_base, udp_in}
 use Rattle.wasi_p3.specs.Stops.{P3Stop}

@@ -9,14 +9,14 @@ use Rattle.wasi_causes.proofs.tables.Meets.{Meets, Rows, branch, ends, met, onto
 use Rattle.wasi_causes.proofs.tables.Routes.{calls}
 use Rattle.wasi_causes.specs.P3UdpConnects.{ConnectPolled, ConnectPolls, IsConnected, IsRefused, WaitsStill}
 use Rattle.wasi_host.specs.declared.pending.Outcome.{Outcome}
-use Rattle.wasi_host.specs.declared.kind.Interface.TheVariants.{P3}
-use Rattle.wasi_host.specs.declared.store.StandingCall.TheVariants.{UdpConnect3}
-use Rattle.wasi_host.specs.BaseStops.{BaseStop}
-use Rattle.wasi_host.specs.Binds.{Answered, keeps}
-use Rattle.wasi_host.specs.Block.{Call, Does, goes_on, or_trap}
+use Rattle.host_store.specs.declared.kind.Interface.TheVariants.{P3}
+use Rattle.host_store.specs.declared.store.StandingCall.TheVariants.{UdpConnect3}
+use Rattle.host_store.specs.BaseStops.{BaseStop}
+use Rattle.host_store.specs.Lines.{Answered, keeps}
+use Rattle.host_store.specs.Block.{Call, Does, goes_on, or_trap}
 use Rattle.wasi_host.specs.Pending.{answered_on, outcome_of}
-use Rattle.wasi_host.specs.UdpCalls.{with_open_udp}
-use Rattle.wasi_host.specs.UdpConnects.{udp_reconnect_of}
+use Rattle.host_store.specs.Store.{with_open_udp}
+use Rattle.host_udp.specs.UdpConnects.{udp_reconnect_of}
 use Rattle.wasi_machine.specs.Machine.{asks_while, is_held_up}
 use Rattle.wasi_records.specs.Datagrams.{udp_reconnect_asks, udp_reconnect_ended, udp_reconnecting}
 use Rattle.wasi_records.specs.declared.udp.OpenUdp.{OpenUdp}

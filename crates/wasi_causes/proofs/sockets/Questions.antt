@@ -8,9 +8,10 @@ use Rattle.wasi_causes.proofs.tables.Routes.{Replied, on_number, on_handle, Says
 use Rattle.wasi_causes.specs.Options.{GetRefusal, GetConnects, GetClosed, GetTold, ToldTooLarge, SetRefusal, ZeroBefore, SetConnects, SetClosed, ZeroAfter, SetTold, BacklogRefusal, ZeroBacklog, StillConnects, IsConnected, WasClosed, BacklogTold, GetsOption, SetsOption, SetsBacklog, KeptForListen, ToldListener}
 use Rattle.wasi_causes.specs.Outcomes.{AreLike, Outcome}
 use Rattle.wasi_records.specs.Records.{tcp2_at}
-use Rattle.wasi_host.specs.Options.{code_told, get_option_at, set_option_at, set_backlog_at}
-use Rattle.wasi_host.specs.Lines.{tcp_in, told_of}
-use Rattle.wasi_host.specs.Store.{put_back as answer_put}
+use Rattle.host_store.specs.Store.{code_told}
+use Rattle.host_tcp.specs.Options.{get_option_at, set_option_at, set_backlog_at}
+use Rattle.host_store.specs.Lines.{tcp_in, told_of}
+use Rattle.host_store.specs.Store.{put_back as answer_put}
 use Rattle.wasi_records.specs.Sockets.{tell_local_asks, tell_remote_asks}
 use Rattle.wasi_p2.specs.Tcp.{local_address, remote_address, is_listening, address_family}
 use Rattle.wasi_p2.specs.Options.{get_option_on, set_option_on, set_backlog_on}

@@ -12,10 +12,10 @@ use Rattle.wasi_causes.proofs.sockets.Questions.{by_state, gets_where, keeps, lo
 use Rattle.wasi_causes.proofs.tables.Meets.{Rows, Meets, ends, onto, widen}
 use Rattle.wasi_causes.proofs.tables.Routes.{Replied, Says, calls, finds, put_back}
 use Rattle.wasi_causes.specs.MayAnswer.{IsP3Word}
-use Rattle.wasi_host.specs.Block.{last}
-use Rattle.wasi_host.specs.Lines.{tcp_in}
-use Rattle.wasi_host.specs.Machine.{tcp3_at}
-use Rattle.wasi_host.specs.declared.kind.Kind.TheVariants.{Tcp3}
+use Rattle.host_store.specs.Block.{last}
+use Rattle.host_store.specs.Lines.{tcp_in}
+use Rattle.host_store.specs.Machine.{tcp3_at}
+use Rattle.host_store.specs.declared.kind.Kind.TheVariants.{Tcp3}
 use Rattle.wasi_machine.specs.Machine.{p3_reply, set_p3}
 use Rattle.wasi_p3.specs.Lines.{asked_of, in_store, inner_call, of_tcp, on_tcp, tcp_of, told_of}
 use Rattle.wasi_p3.specs.Stops.{P3Stop, p3_stop, p3_told}

@@ -12,8 +12,8 @@ use Rattle.wasi_records.specs.Binding.{left_of}
 use Rattle.wasi_records.specs.Records.{open_at, open_put}
 use Rattle.wasi_records.specs.Udp.{is_udp_idle, with_udp_progress, udp_bind_ended, udp_bind_begun, begin_udp_bind_asks}
 use Rattle.wasi_records.specs.Datagrams.{has_streams}
-use Rattle.wasi_host.specs.declared.kind.Interface.TheVariants.{P2}
-use Rattle.wasi_host.specs.UdpCalls.{udp_call_answered, start_udp_bind_by, start_udp_bind_unless, start_udp_bind_at}
+use Rattle.host_store.specs.declared.kind.Interface.TheVariants.{P2}
+use Rattle.host_udp.specs.UdpCalls.{udp_call_answered, start_udp_bind_by, start_udp_bind_unless, start_udp_bind_at}
 use Rattle.wasi_records.specs.declared.udp.OpenUdp.{OpenUdp}
 use Rattle.wasi_records.specs.declared.udp.UdpInProgress.{UdpInProgress}
 use Rattle.wasi_records.specs.declared.udp.UdpInProgress.TheVariants as doing

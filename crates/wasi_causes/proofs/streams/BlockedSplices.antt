@@ -3,10 +3,10 @@ use Rattle.wasi_causes.proofs.Words.{◌≡◌, ◌≢◌, ◌∙◌, ℕ, arith
 use Rattle.std.specs.Prelude.{◌≤◌}
 use Rattle.std.proofs.Math.Nat.{min-le_left, min-le_right, sub-add-min_cancel}
 use Rattle.wasi_world.specs.declared.ids.Ids.{Ids}
-use Rattle.wasi_host.specs.declared.blocking.BlockingCall.TheVariants as blocking
-use Rattle.wasi_host.specs.Blocking.{Blocked, blocking_splice_asks, blocking_splice_when, splice_count, splice_given, splice_looked, splice_permitted, splice_written}
-use Rattle.wasi_host.specs.CallStops.{Closed, Failed, Traps as TrapsBy}
-use Rattle.wasi_host.specs.Kinds.{is_readable, is_writable}
+use Rattle.host_store.specs.declared.store.BlockingCall.TheVariants as blocking
+use Rattle.host_streams.specs.Blocking.{Blocked, blocking_splice_asks, blocking_splice_when, splice_count, splice_given, splice_looked, splice_permitted, splice_written}
+use Rattle.host_store.specs.CallStops.{Closed, Failed, Traps as TrapsBy}
+use Rattle.host_store.specs.Kinds.{is_readable, is_writable}
 use Rattle.wasi_machine.specs.Machine.{blocked_reply_of, call_stop_reply}
 use Rattle.wasi_steps.specs.declared.reply.Reply.TheVariants as reply
 use Rattle.wasi_steps.specs.declared.guest_call.GuestCall.TheVariants as guest

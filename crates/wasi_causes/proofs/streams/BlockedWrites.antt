@@ -4,10 +4,10 @@ use Rattle.std.specs.Prelude.{◌≤◌, ◌<◌, take, drop}
 use Rattle.std.proofs.Math.Nat.{min-le_left}
 use Rattle.std.proofs.lemmas.List.{length-take}
 use Rattle.wasi_world.specs.declared.ids.Ids.{Ids}
-use Rattle.wasi_host.specs.declared.blocking.BlockingCall.{BlockingCall}
-use Rattle.wasi_host.specs.declared.blocking.BlockingCall.TheVariants as blocking
-use Rattle.wasi_host.specs.Blocking.{Blocked, blocking_flush_asks, finish_flushed, finish_write_asks, flush_begun, flush_checked, last_check_asks, last_checked, round_checked, round_written, write_ended, write_rounds}
-use Rattle.wasi_host.specs.CallStops.{Closed, Failed, Traps as TrapsBy}
+use Rattle.host_store.specs.declared.store.BlockingCall.{BlockingCall}
+use Rattle.host_store.specs.declared.store.BlockingCall.TheVariants as blocking
+use Rattle.host_streams.specs.Blocking.{Blocked, blocking_flush_asks, finish_flushed, finish_write_asks, flush_begun, flush_checked, last_check_asks, last_checked, round_checked, round_written, write_ended, write_rounds}
+use Rattle.host_store.specs.CallStops.{Closed, Failed, Traps as TrapsBy}
 use Rattle.wasi_machine.specs.Machine.{blocked_reply_of, call_stop_reply}
 use Rattle.wasi_steps.specs.declared.reply.Reply.TheVariants as reply
 use Rattle.wasi_steps.specs.declared.guest_call.GuestCall.TheVariants as guest

@@ -4,9 +4,9 @@ use Rattle.std.specs.Prelude.{◌≤◌, min}
 use Rattle.std.proofs.Math.Nat.{min-le_left}
 use Rattle.std.proofs.lemmas.List.{length-replicate}
 use Rattle.wasi_streams.specs.Streams.{zeros}
-use Rattle.wasi_host.specs.declared.blocking.BlockingCall.TheVariants as blocking
-use Rattle.wasi_host.specs.Blocking.{Blocked, blocking_flush_asks, blocking_read_asks, blocking_skip_asks, blocking_splice_asks, blocking_write_asks, blocking_zeroes_asks, write_when, zeroes_when}
-use Rattle.wasi_host.specs.Kinds.{is_writable}
+use Rattle.host_store.specs.declared.store.BlockingCall.TheVariants as blocking
+use Rattle.host_streams.specs.Blocking.{Blocked, blocking_flush_asks, blocking_read_asks, blocking_skip_asks, blocking_splice_asks, blocking_write_asks, blocking_zeroes_asks, write_when, zeroes_when}
+use Rattle.host_store.specs.Kinds.{is_writable}
 use Rattle.wasi_machine.specs.Machine.{blocked_reply_of}
 use Rattle.wasi_steps.specs.Reply.{bytes_fields, no_values}
 use Rattle.wasi_steps.specs.declared.guest_call.GuestCall.TheVariants as guest

@@ -1,11 +1,11 @@
 -- The calls of streams that block, as steps and as polls continue them: reads, skips, flushes, and the end of a write.
 use Rattle.wasi_causes.proofs.Words.{◌≡◌, ◌==◌, ℕ, Bool, true, false, eqb-true, eqb-false, List, [], ◌∷◌, ◌++◌, None, refl, sym, subst, inl, inr, Answered, CallStop, Entry, Err, Give, Machine, MissesHandle, NoSuchHandle, Ok, Pending, Ready, Reply, Result, Step, WasiSocketsCtx, bind, bytes_reply, if◌then◌else◌, length, marks_in, number_fields, own_of, read_asks}
 use Rattle.wasi_world.specs.declared.ids.Ids.{Ids}
-use Rattle.wasi_host.specs.declared.blocking.BlockingCall.{BlockingCall}
-use Rattle.wasi_host.specs.declared.blocking.BlockingCall.TheVariants as blocking
-use Rattle.wasi_host.specs.Blocking.{Blocked, blocking_read_asks, blocking_skip_asks, read_answer, read_looked, skip_answer, skip_looked}
-use Rattle.wasi_host.specs.CallStops.{Closed, Failed, Traps as TrapsBy}
-use Rattle.wasi_host.specs.StreamCalls.{counted, skip_asks}
+use Rattle.host_store.specs.declared.store.BlockingCall.{BlockingCall}
+use Rattle.host_store.specs.declared.store.BlockingCall.TheVariants as blocking
+use Rattle.host_streams.specs.Blocking.{Blocked, blocking_read_asks, blocking_skip_asks, read_answer, read_looked, skip_answer, skip_looked}
+use Rattle.host_store.specs.CallStops.{Closed, Failed, Traps as TrapsBy}
+use Rattle.host_streams.specs.StreamCalls.{counted, skip_asks}
 use Rattle.wasi_machine.specs.Machine.{blocked_reply_of, call_stop_reply, stream_reply_of}
 use Rattle.wasi_steps.specs.declared.reply.Field.{Field}
 use Rattle.wasi_steps.specs.declared.reply.Reply.TheVariants as reply

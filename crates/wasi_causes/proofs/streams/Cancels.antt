@@ -1,5 +1,5 @@
 -- A cancel of the pending call.
-use Rattle.wasi_host.specs.declared.kind.Interface.{Interface}
+use Rattle.host_store.specs.declared.kind.Interface.{Interface}
 use Rattle.wasi_causes.proofs.operations.PendingListens.{it_listens}
 use Rattle.wasi_causes.proofs.Words.{nothing_stands, ◌≡◌, ◌==◌, ◌∙◌, ℕ, Bool, true, false, if◌then◌else◌, List, [], Option, Some, None, refl, sym, subst, ap, inl, inr, Entry, Give, IfSome, IsListening, IsSomeAnd, Listening, Machine, PendingCallsFit, Records, Standing, StandingCall, TcpRecord, WasiSocketsCtx, bind, call_of, eq-eqb, side_of, stands_as, standing_as, unstood}
 use Rattle.wasi_world.specs.declared.ids.Ids.{Ids}
@@ -9,7 +9,9 @@ use Rattle.wasi_causes.proofs.Words.{Item, entry}
 use Rattle.socket_common.specs.Rounds.{is_going}
 use Rattle.wasi_world.specs.declared.call.Told.TheVariants as told
 use Rattle.wasi_walks.specs.Waiting.{HoldsCall, IsCreating}
-use Rattle.wasi_host.specs.Cancel.{cancel_asks, cancel_call, cancel_on, cancel_bind_at, cancel_create_at, cancel_drop_outgoing_at, cancel_listen_at, cancel_udp_bind_at, cancel_udp_connect_at, is_datagram_on, listen_gone, other_than_datagram, beside_cancelled, beside_given_up}
+use Rattle.wasi_host.specs.Cancel.{cancel_asks, cancel_call, cancel_on, beside_cancelled, beside_given_up}
+use Rattle.host_tcp.specs.TcpCancels.{cancel_bind_at, cancel_listen_at, listen_gone}
+use Rattle.host_udp.specs.UdpCancels.{cancel_create_at, cancel_drop_outgoing_at, cancel_udp_bind_at, cancel_udp_connect_at, is_datagram_on, other_than_datagram}
 use Rattle.wasi_jobs.specs.declared.job.HostJob.{HostJob}
 use Rattle.wasi_jobs.specs.declared.job.HostJob.TheVariants.{Datagram}
 use Rattle.wasi_records.specs.declared.tcp_listening.Listening.TheVariants as listening
@@ -20,15 +22,15 @@ use Rattle.wasi_records.specs.Records.{tcp2_at, udp2_at, open_at}
 use Rattle.wasi_machine.specs.Machine.{cancelled_reply}
 use Rattle.wasi_steps.specs.declared.step.Step.TheVariants as step
 use Rattle.wasi_walks.proofs.walks.States.{stands_so as stands_under_it}
-use Rattle.wasi_host.specs.declared.beside.Beside.{Beside}
-use Rattle.wasi_host.specs.declared.beside.BesideCall.{BesideCall}
-use Rattle.wasi_host.specs.declared.beside.BesideCall.TheVariants as beside
-use Rattle.wasi_host.specs.Beside.{beside_of, stands_under}
+use Rattle.host_store.specs.declared.beside.Beside.{Beside}
+use Rattle.host_store.specs.declared.beside.BesideCall.{BesideCall}
+use Rattle.host_store.specs.declared.beside.BesideCall.TheVariants as beside
+use Rattle.host_store.specs.Beside.{beside_of, stands_under}
 use Rattle.wasi_causes.proofs.Beside.{beside_call, exclusive_call, is_beside, no_call, not_beside, not_both}
 use Rattle.wasi_causes.proofs.Words.{IsSome}
 use Rattle.wasi_walks.specs.Licence.{Has}
 use Rattle.wasi_causes.proofs.Releases.{listening_up}
-use Rattle.wasi_host.specs.SocketDatagrams.{drop_datagram}
+use Rattle.host_udp.specs.SocketDatagrams.{drop_datagram}
 use Rattle.wasi_causes.proofs.HeldUdp.{datagram_over}
 use Rattle.wasi_causes.proofs.Words.{with_store}
 use Rattle.wasi_causes.specs.P3Connects.{BesideCancelled, LeavesBeside}
@@ -36,10 +38,10 @@ use Rattle.wasi_causes.specs.P3Datagrams.{DatagramOver}
 use Rattle.wasi_causes.proofs.tables.Meets.{Meets, Rows, asks, branch, ends, onto, told_so, whatever, widen}
 use Rattle.wasi_causes.proofs.tables.Routes.{Says, apart}
 use Rattle.wasi_causes.specs.Cancelled.{CancelsBy, CreateGivenUp, ListenGivenUp}
-use Rattle.wasi_host.specs.GivingBack.{given_back}
+use Rattle.host_store.specs.GivingBack.{given_back}
 use Rattle.wasi_records.specs.declared.records.Record.{Record}
 use Rattle.wasi_causes.proofs.GivenBack.{put_gone}
-use Rattle.wasi_host.specs.UdpCalls.{with_udp}
+use Rattle.host_store.specs.Store.{with_udp}
 use Rattle.wasi_causes.proofs.Words.{◌∷◌}
 use Rattle.wasi_causes.specs.Outcomes.{Outcome}
 

@@ -5,9 +5,9 @@ use Rattle.wasi_causes.proofs.tables.Routes.{apart}
 use Rattle.wasi_causes.specs.Outcomes.{Outcome}
 use Rattle.wasi_causes.specs.P3Streams.{BeginsOver, BeginsPending, EndAnswers, EndIsOver, GivesBytes, IsOverNow, LookToReadWaits, LookToWriteWaits, LooksToRead, LooksToWrite, Opens}
 use Rattle.wasi_causes.specs.P3Streams.{ReadGives, ReadIsPending, ReadMeets, ReadMeetsEnd, ReadMeetsFault, ReadWaits, TakesBytes, WasOver, WriteGives, WriteIsPending, WriteMeets, WriteMeetsFault, WriteWaits, receive_side, send_side}
-use Rattle.wasi_host.specs.Lines.{tcp_in}
-use Rattle.wasi_host.specs.Machine.{receive3_at, send3_at}
-use Rattle.wasi_host.specs.declared.kind.ConnectionEnd.{ConnectionEnd}
+use Rattle.host_store.specs.Lines.{tcp_in}
+use Rattle.host_store.specs.Machine.{receive3_at, send3_at}
+use Rattle.host_store.specs.declared.kind.ConnectionEnd.{ConnectionEnd}
 use Rattle.wasi_records.specs.Ends.{half_of, receive_half, send_half}
 use Rattle.wasi_records.specs.Slots.{StreamEnd}
 use Rattle.wasi_steps.specs.declared.guest_call.GuestCall.TheVariants as guest

@@ -12,13 +12,13 @@ use Rattle.wasi_causes.specs.P3Streams.{WriteIsPending, WriteMeets, WriteMeetsFa
 use Rattle.std.specs.Prelude.{take}
 use Rattle.std.proofs.Math.Nat.{min-eq_left, min-le_right, sub-add-min_cancel}
 use Rattle.wasi_addr.specs.Code.{p3_of_code}
-use Rattle.wasi_host.specs.BaseStops.{BaseStop, renamed}
-use Rattle.wasi_host.specs.Block.{Does, after_call, goes_on, last}
-use Rattle.wasi_host.specs.EndPolls.{ends_by, looked, read_end, read_of, read_open, read_told, write_end, write_of, write_open, write_told}
-use Rattle.wasi_host.specs.EndPolls as polls
-use Rattle.wasi_host.specs.Lines.{same_stop, tcp_in}
-use Rattle.wasi_host.specs.Machine.{receive3_at, send3_at}
-use Rattle.wasi_host.specs.declared.kind.ConnectionEnd.{ConnectionEnd}
+use Rattle.host_store.specs.BaseStops.{BaseStop, renamed}
+use Rattle.host_store.specs.Block.{Does, after_call, goes_on, last}
+use Rattle.host_tcp.specs.EndPolls.{ends_by, looked, read_end, read_of, read_open, read_told, write_end, write_of, write_open, write_told}
+use Rattle.host_tcp.specs.EndPolls as polls
+use Rattle.host_store.specs.Lines.{same_stop, tcp_in}
+use Rattle.host_store.specs.Machine.{receive3_at, send3_at}
+use Rattle.host_store.specs.declared.kind.ConnectionEnd.{ConnectionEnd}
 use Rattle.wasi_machine.specs.Machine.{stream_result_reply}
 use Rattle.wasi_p3.specs.Lines.{in_base}
 use Rattle.wasi_p3.specs.Stops.{P3Stop}

@@ -12,16 +12,16 @@ use Rattle.wasi_world.specs.declared.call.Call.TheVariants as call
 use Rattle.wasi_world.specs.declared.call.HandleKind.TheVariants as name
 use Rattle.wasi_world.specs.declared.call.Told.TheVariants as told
 use Rattle.wasi_records.specs.Records.{tcp2_at}
-use Rattle.wasi_host.specs.declared.kind.Kind.TheVariants.{ErrorValue}
-use Rattle.wasi_host.specs.declared.kind.PlainInput.{PlainInput}
-use Rattle.wasi_host.specs.declared.kind.PlainOutput.{PlainOutput}
-use Rattle.wasi_host.specs.Jobs.{write_at}
-use Rattle.wasi_host.specs.Store.{Records}
-use Rattle.wasi_host.specs.StreamCalls.{check_by, flush_by, plain_answer, plain_input_at, plain_output_at, read_by, write_by}
+use Rattle.host_store.specs.declared.kind.Kind.TheVariants.{ErrorValue}
+use Rattle.host_store.specs.declared.kind.PlainInput.{PlainInput}
+use Rattle.host_store.specs.declared.kind.PlainOutput.{PlainOutput}
+use Rattle.host_store.specs.Jobs.{write_at}
+use Rattle.host_store.specs.Store.{Records}
+use Rattle.host_streams.specs.StreamCalls.{check_by, flush_by, plain_answer, plain_input_at, plain_output_at, read_by, write_by}
 use Rattle.wasi_jobs.specs.declared.job.HostJob.{HostJob}
 use Rattle.wasi_jobs.specs.declared.job.HostJob.TheVariants.{Write as WriteJob}
 use Rattle.wasi_streams.specs.StreamStop as stream
-use Rattle.wasi_host.specs.CallStops as calls
+use Rattle.host_store.specs.CallStops as calls
 use Rattle.wasi_steps.specs.declared.reply.CodeWord.{CodeWord}
 use Rattle.wasi_steps.specs.declared.reply.Field.{Field}
 use Rattle.wasi_steps.specs.declared.reply.Reply.TheVariants as reply

@@ -2,9 +2,9 @@
 -- that is dropped.
 use Rattle.wasi_causes.proofs.Words.{◌↔◌, ◌≢◌, Reply}
 use Rattle.wasi_causes.specs.Outcomes.{Always}
-use Rattle.wasi_host.specs.declared.kind.PlainInput.{PlainInput}
-use Rattle.wasi_host.specs.declared.kind.PlainOutput.{PlainOutput}
-use Rattle.wasi_host.specs.StreamCalls.{plain_input_at, plain_output_at, read_by, check_by, write_by, flush_by}
+use Rattle.host_store.specs.declared.kind.PlainInput.{PlainInput}
+use Rattle.host_store.specs.declared.kind.PlainOutput.{PlainOutput}
+use Rattle.host_streams.specs.StreamCalls.{plain_input_at, plain_output_at, read_by, check_by, write_by, flush_by}
 use Rattle.wasi_causes.proofs.streams.Plain.{plain_reads, plain_checks, plain_writes, plain_flushes}
 use Rattle.wasi_causes.specs.Plain.{PastCapacity, PlainCheck, PlainFlush, PlainRead, PlainWrite}
 use Rattle.wasi_world.specs.declared.outcome.TrapKind.TheVariants.{Capacity}
@@ -12,7 +12,7 @@ use Rattle.wasi_steps.specs.declared.reply.Reply.TheVariants as reply
 use Rattle.wasi_records.specs.Records.{tcp2_at}
 use Rattle.wasi_jobs.specs.declared.job.HostJob.TheVariants as HostJob
 use Rattle.wasi_records.specs.declared.records.Record.{Record}
-use Rattle.wasi_host.specs.declared.store.StandingCall.TheVariants.{DropOutput}
+use Rattle.host_store.specs.declared.store.StandingCall.TheVariants.{DropOutput}
 use Rattle.wasi_causes.proofs.Words.{Again, AlreadyClosed, Answer, Asks, Bool, CheckFails, CodeTold, Done, End, Ends, Entry, Err, ErrorCode}
 use Rattle.wasi_causes.proofs.Words.{ErrorKept, Front, Give, IsDone, IsRead, IsSomeAnd, IsUnpermitted, Item, LengthZero, List, Machine, None}
 use Rattle.wasi_causes.proofs.Words.{NotPermitted, NotReady, Ok, OpId, Option, OutputWaits, Pending, Permits, ReadFails, ReadState, ReadsEnd}
@@ -39,7 +39,7 @@ use Rattle.wasi_steps.specs.declared.step.Step.TheVariants as step
 use Rattle.wasi_streams.specs.StreamStop.{Failed, Closed, Trap}
 use Rattle.wasi_streams.specs.StreamStop as stop
 use Rattle.wasi_tcp.specs.Job.{writer, job_after}
-use Rattle.wasi_host.specs.Limits.{most_of}
+use Rattle.host_store.specs.Limits.{most_of}
 use Rattle.wasi_tcp.specs.Writer.{drop_permit, error_of_code, stop_of, write_half_asks}
 use Rattle.wasi_tcp.specs.declared.reader.ReadState.TheVariants as reading
 use Rattle.wasi_tcp.specs.declared.writer.WriteError.{WriteError}

@@ -3,19 +3,19 @@ use Rattle.wasi_causes.proofs.Words.{◌≡◌, ◌∙◌, ℕ, ⊤, Bool, true,
 use Rattle.memory_streams.specs.Plain.{Contents, left_in}
 use Rattle.wasi_streams.specs.StreamStop as stop
 use Rattle.wasi_jobs.specs.declared.job.HostJob.{HostJob}
-use Rattle.wasi_host.specs.Limits.{most_of}
-use Rattle.wasi_host.specs.declared.kind.PlainInput.{PlainInput}
-use Rattle.wasi_host.specs.declared.kind.PlainInput.TheVariants as input
-use Rattle.wasi_host.specs.declared.kind.PlainOutput.{PlainOutput}
-use Rattle.wasi_host.specs.declared.kind.PlainOutput.TheVariants as output
+use Rattle.host_store.specs.Limits.{most_of}
+use Rattle.host_store.specs.declared.kind.PlainInput.{PlainInput}
+use Rattle.host_store.specs.declared.kind.PlainInput.TheVariants as input
+use Rattle.host_store.specs.declared.kind.PlainOutput.{PlainOutput}
+use Rattle.host_store.specs.declared.kind.PlainOutput.TheVariants as output
 use Rattle.wasi_records.specs.declared.records.Record.{Record}
-use Rattle.wasi_host.specs.CallStops.{Closed}
-use Rattle.wasi_host.specs.PlainStreams.{flush_plain, read_pipe_at, check_plain, write_pipe_at, contents_put}
+use Rattle.host_store.specs.CallStops.{Closed}
+use Rattle.host_streams.specs.PlainStreams.{flush_plain, read_pipe_at, check_plain, write_pipe_at, contents_put}
 use Rattle.wasi_records.specs.Records.{input_pipe_at, input_pipe_put, output_pipe_at, output_pipe_put, tcp2_at, tcp2_put}
 use Rattle.std.specs.Prelude.{drop}
 use Rattle.wasi_causes.proofs.Words.{ReadsNone, begins_job, with_socket}
 use Rattle.wasi_world.specs.declared.outcome.TrapKind.TheVariants.{Capacity}
-use Rattle.wasi_host.specs.StreamCalls.{check_by, flush_by, plain_answer, plain_done, plain_input_at, plain_output_at, read_by, write_by}
+use Rattle.host_streams.specs.StreamCalls.{check_by, flush_by, plain_answer, plain_done, plain_input_at, plain_output_at, read_by, write_by}
 use Rattle.wasi_walks.proofs.Places.{input_sort, other_put, output_sort, put_some}
 use Rattle.wasi_walks.specs.Answered.{LengthZero, ToldToWait, IsReady, NotReady, GoesOn}
 use Rattle.wasi_causes.proofs.streams.Halves.{CheckRow, FlushRow, ReadRow, WriteRow, checks, flushes, reads, writes}

@@ -2,10 +2,10 @@
 use Rattle.wasi_causes.proofs.Words.{◌≡◌, ◌∙◌, ℕ, ⊤, arith, List, [], ◌∷◌, Option, Some, None, Result, Ok, Err, false, sym, subst, ap, inl, inr, Answered, CallStop, Entry, Give, IfSome, Left, Machine, OfStreams, OpId, Reply, Standing, Step, Streams, TcpRecord, WasiSocketsCtx, asks_while, bytes_fields, input_at, length, no_fields, number_fields, own_of, record_in, step_asks, streams_in}
 use Rattle.std.specs.Prelude.{◌≤◌, drop, suc, take, zero}
 use Rattle.wasi_world.specs.declared.ids.Ids.{Ids}
-use Rattle.wasi_host.specs.declared.blocking.BlockingCall.{BlockingCall}
-use Rattle.wasi_host.specs.declared.blocking.BlockingCall.TheVariants as blocking
-use Rattle.wasi_host.specs.declared.kind.PlainInput.TheVariants as input
-use Rattle.wasi_host.specs.CallStops.{Closed, Failed, Traps as TrapsBy}
+use Rattle.host_store.specs.declared.store.BlockingCall.{BlockingCall}
+use Rattle.host_store.specs.declared.store.BlockingCall.TheVariants as blocking
+use Rattle.host_store.specs.declared.kind.PlainInput.TheVariants as input
+use Rattle.host_store.specs.CallStops.{Closed, Failed, Traps as TrapsBy}
 use Rattle.wasi_machine.specs.Machine.{stream_reply_of}
 use Rattle.wasi_steps.specs.declared.reply.Field.{Field}
 use Rattle.wasi_steps.specs.declared.reply.Field.TheVariants as field

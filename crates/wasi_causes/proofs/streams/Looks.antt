@@ -1,13 +1,13 @@
 -- A look at an input, before a call that blocks reads it.
 use Rattle.wasi_causes.proofs.Words.{◌≡◌, ◌∙◌, ℕ, Bool, true, List, [], ◌∷◌, Option, Some, None, Result, Ok, Err, refl, sym, subst, ap, CallStop, Entry, Machine, NoSuchHandle, OpId, ReadState, Records, Streams, TcpRecord, TcpReceiveStream, Told, bind, entry, input_at, marks_in, reader_ready_asks, record_in, streams_in, told_ready, with_reader}
 use Rattle.wasi_tcp.specs.declared.reader.ReadState.TheVariants as reading
-use Rattle.wasi_host.specs.Blocking.{look_asks, look_at, look_by, look_on, looked}
-use Rattle.wasi_host.specs.declared.kind.PlainInput.{PlainInput}
-use Rattle.wasi_host.specs.CallStops.{Traps}
+use Rattle.host_streams.specs.Blocking.{look_asks, look_at, look_by, look_on, looked}
+use Rattle.host_store.specs.declared.kind.PlainInput.{PlainInput}
+use Rattle.host_store.specs.CallStops.{Traps}
 use Rattle.wasi_records.specs.Looks.{is_done, ready_reader}
-use Rattle.wasi_host.specs.Readiness.{ready_put}
+use Rattle.host_store.specs.Readiness.{ready_put}
 use Rattle.wasi_records.specs.Records.{tcp2_at}
-use Rattle.wasi_host.specs.StreamCalls.{plain_input_at}
+use Rattle.host_streams.specs.StreamCalls.{plain_input_at}
 use Rattle.wasi_walks.specs.Missing.{MissesInput}
 use Rattle.wasi_world.specs.Fits.{IsReady as FitsReady}
 use Rattle.wasi_world.specs.declared.call.Call.TheVariants as call

@@ -1,13 +1,13 @@
 -- Pipes, sinks and closed streams: how they are made, and what a pipe holds.
 use Rattle.wasi_causes.proofs.Words.{◌≡◌, ℕ, List, [], Option, Some, None, refl, Give, Machine, Result, Stop, WasiSocketsCtx, bind, own_of, length}
 use Rattle.memory_streams.specs.Plain.{Contents}
-use Rattle.wasi_host.specs.declared.kind.Kind.TheVariants as kind
-use Rattle.wasi_host.specs.declared.kind.PlainInput.TheVariants as input
-use Rattle.wasi_host.specs.declared.kind.PlainOutput.{PlainOutput}
-use Rattle.wasi_host.specs.declared.kind.PlainOutput.TheVariants as output
-use Rattle.wasi_host.specs.PlainStreams.{contents_asks, contents_at, contents_on, input_pipe_asks, output_pipe_asks, plain_asks}
+use Rattle.host_store.specs.declared.kind.Kind.TheVariants as kind
+use Rattle.host_store.specs.declared.kind.PlainInput.TheVariants as input
+use Rattle.host_store.specs.declared.kind.PlainOutput.{PlainOutput}
+use Rattle.host_store.specs.declared.kind.PlainOutput.TheVariants as output
+use Rattle.host_streams.specs.PlainStreams.{contents_asks, contents_at, contents_on, input_pipe_asks, output_pipe_asks, plain_asks}
 use Rattle.wasi_records.specs.Records.{output_pipe_at}
-use Rattle.wasi_host.specs.StreamCalls.{plain_output_at}
+use Rattle.host_streams.specs.StreamCalls.{plain_output_at}
 use Rattle.wasi_machine.specs.Machine.{reply_of}
 use Rattle.wasi_steps.specs.declared.guest_call.GuestCall.TheVariants as guest
 use Rattle.wasi_steps.specs.declared.step.Step.TheVariants as step

@@ -18,7 +18,7 @@ use Rattle.wasi_walks.specs.Answered.{FailsWith, OfStreams, ReadFails, read_entr
 use Rattle.wasi_walks.specs.Licence.{marks_in}
 use Rattle.wasi_walks.specs.Listens.{AcceptsAt, accepted_marks}
 use Rattle.wasi_world.specs.declared.ids.Ids.{Ids}
-use Rattle.wasi_host.specs.declared.blocking.BlockingCall.TheVariants as blocking
+use Rattle.host_store.specs.declared.store.BlockingCall.TheVariants as blocking
 use Rattle.wasi_causes.proofs.tables.Steps.{busy_exactly, its_own, while_free}
 use Rattle.wasi_causes.proofs.streams.ErrorMarks.{failed_read}
 use Rattle.wasi_causes.proofs.streams.ReadsInRuns.{input_kind, side_of_half}

@@ -1,13 +1,13 @@
 -- What isn't there after a call of a stream wasn't there before.
 use Rattle.wasi_causes.proofs.Words.{◌≡◌, ℕ, Option, Some, None, true, refl, subst, ap, HandleTable, IsSome, List, Machine, is_some, kind_at, record_in, streams_in}
-use Rattle.wasi_host.specs.declared.kind.PlainInput.{PlainInput}
-use Rattle.wasi_host.specs.declared.kind.PlainInput.TheVariants as input
-use Rattle.wasi_host.specs.declared.kind.PlainOutput.{PlainOutput}
-use Rattle.wasi_host.specs.declared.kind.PlainOutput.TheVariants as output
-use Rattle.wasi_host.specs.Kinds.{input_of, output_of, plain_input_of, plain_output_of}
-use Rattle.wasi_host.specs.Machine.{input_at, output_at}
+use Rattle.host_store.specs.declared.kind.PlainInput.{PlainInput}
+use Rattle.host_store.specs.declared.kind.PlainInput.TheVariants as input
+use Rattle.host_store.specs.declared.kind.PlainOutput.{PlainOutput}
+use Rattle.host_store.specs.declared.kind.PlainOutput.TheVariants as output
+use Rattle.host_store.specs.Kinds.{input_of, output_of, plain_input_of, plain_output_of}
+use Rattle.host_store.specs.Machine.{input_at, output_at}
 use Rattle.wasi_records.specs.Records.{input_pipe_at, output_pipe_at, tcp2_at}
-use Rattle.wasi_host.specs.StreamCalls.{plain_input_at, plain_output_at}
+use Rattle.host_streams.specs.StreamCalls.{plain_input_at, plain_output_at}
 use Rattle.wasi_walks.specs.Missing.{MissesInput, MissesInputPipe, MissesOutput, MissesOutputPipe}
 use Rattle.wasi_causes.proofs.streams.Kept.{PartsThere}
 use Rattle.wasi_causes.proofs.tables.Routes.{none_has}

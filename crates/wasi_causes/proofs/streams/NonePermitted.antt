@@ -1,12 +1,12 @@
 -- Why nothing may be written.
 use Rattle.wasi_causes.proofs.Words.{◌≡◌, ◌<◌, ◌⊎◌, inl, inr, ℕ, List, Option, Some, None, IsSomeAnd, refl, arith, min, Entry, Machine, OpId, OfStreams, Permits, Records, output_at, TcpRecord, WriteState}
 use Rattle.wasi_records.specs.Used.{held_in}
-use Rattle.wasi_host.specs.declared.kind.PlainOutput.{PlainOutput}
-use Rattle.wasi_host.specs.declared.kind.PlainOutput.TheVariants as output
+use Rattle.host_store.specs.declared.kind.PlainOutput.{PlainOutput}
+use Rattle.host_store.specs.declared.kind.PlainOutput.TheVariants as output
 use Rattle.memory_streams.specs.Plain.{Contents, left_in}
 use Rattle.wasi_records.specs.Records.{output_pipe_at}
-use Rattle.wasi_host.specs.Limits.{left, most_of}
-use Rattle.wasi_host.specs.StreamCalls.{plain_output_at}
+use Rattle.host_store.specs.Limits.{left, most_of}
+use Rattle.host_streams.specs.StreamCalls.{plain_output_at}
 use Rattle.wasi_walks.specs.Answered as look
 use Rattle.wasi_causes.specs.Plain.{PermitsPlain}
 use Rattle.wasi_causes.specs.WholeLimit.{GoesOn, NoneLeft, NotReady, PermitsNone}

@@ -8,17 +8,17 @@ use Rattle.memory_streams.specs.Plain.{Contents, left_in, room_told}
 use Rattle.wasi_streams.specs.StreamStop as stop
 use Rattle.wasi_tcp.specs.declared.reader.ReadState.TheVariants as reading
 use Rattle.wasi_tcp.specs.declared.writer.WriteState.TheVariants as writing
-use Rattle.wasi_host.specs.declared.kind.PlainInput.{PlainInput}
-use Rattle.wasi_host.specs.declared.kind.PlainInput.TheVariants as input
-use Rattle.wasi_host.specs.declared.kind.PlainOutput.{PlainOutput}
-use Rattle.wasi_host.specs.declared.kind.PlainOutput.TheVariants as output
+use Rattle.host_store.specs.declared.kind.PlainInput.{PlainInput}
+use Rattle.host_store.specs.declared.kind.PlainInput.TheVariants as input
+use Rattle.host_store.specs.declared.kind.PlainOutput.{PlainOutput}
+use Rattle.host_store.specs.declared.kind.PlainOutput.TheVariants as output
 use Rattle.wasi_records.specs.declared.records.Record.{Record}
-use Rattle.wasi_host.specs.Limits.{most_of}
-use Rattle.wasi_host.specs.PlainStreams.{check_pipe_at, read_pipe_at}
+use Rattle.host_store.specs.Limits.{most_of}
+use Rattle.host_streams.specs.PlainStreams.{check_pipe_at, read_pipe_at}
 use Rattle.wasi_records.specs.Records.{input_pipe_at, output_pipe_at, tcp2_at, tcp2_put}
-use Rattle.wasi_host.specs.StreamCalls.{check_by, plain_answer, plain_done, plain_input_at, plain_output_at, read_by}
+use Rattle.host_streams.specs.StreamCalls.{check_by, plain_answer, plain_done, plain_input_at, plain_output_at, read_by}
 use Rattle.wasi_walks.specs.Missing.{pipe_of}
-use Rattle.wasi_host.specs.Kinds.{HandleTable, kind_at, output_of, plain_output_of}
+use Rattle.host_store.specs.Kinds.{HandleTable, kind_at, output_of, plain_output_of}
 use Rattle.wasi_world.specs.Fits.{IsReady as FitsReady}
 use Rattle.wasi_world.specs.declared.call.Told.TheVariants as told
 use Rattle.wasi_walks.proofs.Places.{input_sort, other_put, output_sort, put_either, tcp_sort}

@@ -1,10 +1,10 @@
 -- What handles of inputs and outputs of no connection aren't.
 use Rattle.std.proofs.Common.{◌≡◌, ℕ, zero, suc, List, [], ◌∷◌, Option, Some, None, false, refl, take}
-use Rattle.wasi_host.specs.declared.kind.Kind.{Kind}
-use Rattle.wasi_host.specs.declared.kind.Kind.TheVariants as kind
-use Rattle.wasi_host.specs.declared.kind.PlainInput.{PlainInput}
-use Rattle.wasi_host.specs.declared.kind.PlainOutput.{PlainOutput}
-use Rattle.wasi_host.specs.Kinds.{input_of, is_readable, is_writable, output_of, plain_input_of, plain_output_of}
+use Rattle.host_store.specs.declared.kind.Kind.{Kind}
+use Rattle.host_store.specs.declared.kind.Kind.TheVariants as kind
+use Rattle.host_store.specs.declared.kind.PlainInput.{PlainInput}
+use Rattle.host_store.specs.declared.kind.PlainOutput.{PlainOutput}
+use Rattle.host_store.specs.Kinds.{input_of, is_readable, is_writable, output_of, plain_input_of, plain_output_of}
 
 -- == its handle is no connection's
 pub plain_no_input : (k : Option Kind) (i : PlainInput) → plain_input_of k ≡ Some i → input_of k ≡ None

@@ -4,14 +4,14 @@ use Rattle.wasi_causes.proofs.Words.{◌≡◌, ◌∙◌, ℕ, Bool, true, fals
 use Rattle.std.specs.Prelude.{zero, suc, take, drop, ◌<◌}
 use Rattle.memory_streams.specs.Plain.{Contents, left_in, room_told}
 use Rattle.wasi_streams.specs.StreamStop as stop
-use Rattle.wasi_host.specs.declared.kind.PlainInput.{PlainInput}
-use Rattle.wasi_host.specs.declared.kind.PlainInput.TheVariants as input
-use Rattle.wasi_host.specs.declared.kind.PlainOutput.{PlainOutput}
-use Rattle.wasi_host.specs.declared.kind.PlainOutput.TheVariants as output
-use Rattle.wasi_host.specs.Kinds.{kind_at}
-use Rattle.wasi_host.specs.PlainStreams.{check_pipe_at, check_plain, contents_put, flush_plain, read_pipe_at, read_plain, write_pipe_at, write_plain}
+use Rattle.host_store.specs.declared.kind.PlainInput.{PlainInput}
+use Rattle.host_store.specs.declared.kind.PlainInput.TheVariants as input
+use Rattle.host_store.specs.declared.kind.PlainOutput.{PlainOutput}
+use Rattle.host_store.specs.declared.kind.PlainOutput.TheVariants as output
+use Rattle.host_store.specs.Kinds.{kind_at}
+use Rattle.host_streams.specs.PlainStreams.{check_pipe_at, check_plain, contents_put, flush_plain, read_pipe_at, read_plain, write_pipe_at, write_plain}
 use Rattle.wasi_records.specs.Records.{input_pipe_at, output_pipe_at}
-use Rattle.wasi_host.specs.StreamCalls.{plain_answer, plain_done, plain_input_at, plain_output_at}
+use Rattle.host_streams.specs.StreamCalls.{plain_answer, plain_done, plain_input_at, plain_output_at}
 use Rattle.wasi_steps.specs.declared.guest_call.GuestCall.TheVariants as guest
 use Rattle.wasi_steps.specs.declared.step.Step.TheVariants as step
 use Rattle.wasi_walks.specs.Answered.{input_streams}

@@ -1,15 +1,15 @@
 -- A poll of a pending call that blocks, and of one of a stream.
 use Rattle.wasi_causes.proofs.Words.{◌≡◌, ◌≢◌, ◌∙◌, ℕ, Answer, List, [], Option, Some, None, Ok, Err, Pending, Ready, refl, sym, subst, ap, inl, inr, IsSomeAnd, Entry, Machine, CallStop, Reply, true, false, Result, Standing, StandingCall, Stop, WasiSocketsCtx, eq-eqb, no_fields, nothing_stands, number_fields, own_of, CallWaits, stands_as, standing_as}
 use Rattle.std.specs.Prelude.{◌⊎◌}
-use Rattle.wasi_host.specs.Beside.{stands_under}
+use Rattle.host_store.specs.Beside.{stands_under}
 use Rattle.wasi_causes.proofs.Beside.{exclusive_call, not_beside, not_both}
 use Rattle.wasi_world.specs.declared.ids.Ids.{Ids}
-use Rattle.wasi_host.specs.declared.blocking.BlockingCall.{BlockingCall}
-use Rattle.wasi_host.specs.declared.blocking.BlockingCall.TheVariants as blocking
+use Rattle.host_store.specs.declared.store.BlockingCall.{BlockingCall}
+use Rattle.host_store.specs.declared.store.BlockingCall.TheVariants as blocking
 use Rattle.wasi_host.specs.declared.pending.Outcome.{Outcome as Given}
 use Rattle.wasi_host.specs.declared.pending.Outcome.TheVariants as given
-use Rattle.wasi_host.specs.Blocking.{Blocked}
-use Rattle.wasi_host.specs.CallStops.{Closed, Failed, Traps as TrapsBy}
+use Rattle.host_streams.specs.Blocking.{Blocked}
+use Rattle.host_store.specs.CallStops.{Closed, Failed, Traps as TrapsBy}
 use Rattle.wasi_host.specs.Pending.{blocked_outcome, nothing_given, resumed, unblock_asks}
 use Rattle.wasi_machine.specs.Machine.{blocked_reply_of, outcome_reply, resumed_reply}
 use Rattle.wasi_steps.specs.Reply.{bytes_fields, no_values}

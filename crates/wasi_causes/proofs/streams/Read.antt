@@ -3,10 +3,10 @@ use Rattle.wasi_causes.proofs.Words.{◌≡◌, ◌∙◌, ◌↔◌, ℕ, true,
 use Rattle.wasi_world.specs.declared.ids.Ids.{Ids}
 use Rattle.wasi_world.specs.declared.outcome.TrapKind.{TrapKind}
 use Rattle.wasi_world.specs.declared.outcome.TrapKind.TheVariants as trap
-use Rattle.wasi_host.specs.declared.blocking.BlockingCall.{BlockingCall}
-use Rattle.wasi_host.specs.declared.kind.PlainOutput.{PlainOutput}
+use Rattle.host_store.specs.declared.store.BlockingCall.{BlockingCall}
+use Rattle.host_store.specs.declared.kind.PlainOutput.{PlainOutput}
 use Rattle.wasi_records.specs.Records.{output_pipe_at}
-use Rattle.wasi_host.specs.StreamCalls.{plain_output_at}
+use Rattle.host_streams.specs.StreamCalls.{plain_output_at}
 use Rattle.wasi_steps.specs.declared.reply.Reply.TheVariants as reply
 use Rattle.wasi_steps.specs.declared.guest_call.GuestCall.TheVariants as guest
 use Rattle.wasi_steps.specs.declared.step.Step.TheVariants as step

@@ -6,11 +6,11 @@ use Rattle.wasi_causes.proofs.Words.{WasiSocketsCtx, ap, bytes_fields, eqb-true,
 use Rattle.wasi_causes.proofs.Words.{inr, input_at, kind_at, nothing_stands, own_of, refl}
 use Rattle.wasi_causes.proofs.Words.{run, standing_as, stands_as, subst, sym}
 use Rattle.std.specs.Prelude.{IsSomeAnd}
-use Rattle.wasi_host.specs.Kinds.{input_of, plain_input_of}
-use Rattle.wasi_host.specs.declared.blocking.BlockingCall.{BlockingCall}
-use Rattle.wasi_host.specs.declared.blocking.BlockingCall.TheVariants as blocking
-use Rattle.wasi_host.specs.declared.kind.Kind.TheVariants.{PlainInput}
-use Rattle.wasi_host.specs.declared.kind.PlainInput.TheVariants as plain_input
+use Rattle.host_store.specs.Kinds.{input_of, plain_input_of}
+use Rattle.host_store.specs.declared.store.BlockingCall.{BlockingCall}
+use Rattle.host_store.specs.declared.store.BlockingCall.TheVariants as blocking
+use Rattle.host_store.specs.declared.kind.Kind.TheVariants.{PlainInput}
+use Rattle.host_store.specs.declared.kind.PlainInput.TheVariants as plain_input
 use Rattle.wasi_records.specs.Records.{tcp2_at}
 use Rattle.wasi_steps.specs.declared.reply.Reply.TheVariants as reply
 use Rattle.wasi_steps.specs.declared.guest_call.GuestCall.TheVariants as guest
@@ -30,9 +30,9 @@ use Rattle.wasi_addr.specs.declared.address.IpSocketAddress.{IpSocketAddress}
 use Rattle.wasi_addr.specs.declared.address.IpSocketAddress.TheVariants as address
 use Rattle.wasi_steps.specs.Reply.{address_values}
 use Rattle.wasi_steps.specs.declared.reply.Field.TheVariants as field
-use Rattle.wasi_host.specs.Beside.{beside_of}
-use Rattle.wasi_host.specs.declared.beside.Beside.{Beside}
-use Rattle.wasi_host.specs.declared.beside.BesideCall.{BesideCall}
+use Rattle.host_store.specs.Beside.{beside_of}
+use Rattle.host_store.specs.declared.beside.Beside.{Beside}
+use Rattle.host_store.specs.declared.beside.BesideCall.{BesideCall}
 use Rattle.wasi_causes.specs.P3Connects.{BesideEnds, EndsOver, IsLost, StaysPending, IsOver, OverDone, OverFound, OverGone, OverRefused, OverReceived, OverUnresolved}
 use Rattle.wasi_causes.specs.Blocking.{EndsByRead, GivesOf}
 use Rattle.wasi_causes.specs.HandedBytes.{HandsOutBytes, LastReadTold}

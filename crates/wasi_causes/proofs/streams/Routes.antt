@@ -6,7 +6,7 @@ use Rattle.wasi_world.specs.declared.call.Told.TheVariants as told
 use Rattle.wasi_streams.specs.StreamStop as stop
 use Rattle.wasi_records.specs.Records.{tcp2_at}
 use Rattle.wasi_jobs.specs.declared.job.HostJob.TheVariants.{Write}
-use Rattle.wasi_host.specs.CallStops.{Failed, Closed, Traps}
+use Rattle.host_store.specs.CallStops.{Failed, Closed, Traps}
 use Rattle.wasi_causes.proofs.tables.Meets.{Rows, Meets, ends, chain, onto, widen}
 use Rattle.wasi_causes.proofs.tables.Routes.{put_store_same, put_same, makes}
 

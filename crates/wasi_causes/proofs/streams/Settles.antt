@@ -2,11 +2,11 @@
 use Rattle.wasi_causes.proofs.Words.{◌≡◌, ◌∙◌, ◌==◌, ℕ, zero, suc, Bool, true, false, if◌then◌else◌, List, [], ◌∷◌, Result, Ok, Err, Pending, Ready, refl, ap, ⊤, CallStop, Entry, Machine, length, own_of}
 use Rattle.std.specs.Prelude.{drop, min, take}
 use Rattle.wasi_world.specs.declared.ids.Ids.{Ids}
-use Rattle.wasi_host.specs.declared.blocking.BlockingCall.TheVariants as blocking
-use Rattle.wasi_host.specs.Blocking.{Again, Blocked, waits_as, blocking_flush_asks, blocking_read_asks, blocking_skip_asks, blocking_splice_asks, blocking_splice_when, finish_flushed, finish_write_asks, flush_begun, flush_checked, last_check_asks, last_checked, read_answer, read_looked, round_checked, round_written, skip_answer, skip_looked, splice_count, splice_given, splice_looked, splice_permitted, splice_written, write_ended, write_rounds}
-use Rattle.wasi_host.specs.CallStops.{Closed, Failed, Traps as TrapsBy}
-use Rattle.wasi_host.specs.Kinds.{is_readable, is_writable}
-use Rattle.wasi_host.specs.StreamCalls.{counted}
+use Rattle.host_store.specs.declared.store.BlockingCall.TheVariants as blocking
+use Rattle.host_streams.specs.Blocking.{Again, Blocked, waits_as, blocking_flush_asks, blocking_read_asks, blocking_skip_asks, blocking_splice_asks, blocking_splice_when, finish_flushed, finish_write_asks, flush_begun, flush_checked, last_check_asks, last_checked, read_answer, read_looked, round_checked, round_written, skip_answer, skip_looked, splice_count, splice_given, splice_looked, splice_permitted, splice_written, write_ended, write_rounds}
+use Rattle.host_store.specs.CallStops.{Closed, Failed, Traps as TrapsBy}
+use Rattle.host_store.specs.Kinds.{is_readable, is_writable}
+use Rattle.host_streams.specs.StreamCalls.{counted}
 use Rattle.wasi_causes.proofs.Words.{kind_at, NoSuchHandle}
 use Rattle.wasi_causes.proofs.streams.Kept.{Kept, checks_keep, flushes_keep, reads_keep, writes_keep}
 use Rattle.wasi_causes.proofs.streams.Looks.{LookFacts, look_facts}

@@ -3,9 +3,9 @@ use Rattle.wasi_causes.proofs.Words.{◌≡◌, ◌∙◌, ℕ, arith, zero, suc
 use Rattle.std.specs.Prelude.{◌≤◌}
 use Rattle.std.proofs.Math.Nat.{min-le_left}
 use Rattle.wasi_streams.specs.Streams.{zeros}
-use Rattle.wasi_host.specs.CallStops.{Closed, Failed, Traps as TrapsBy}
-use Rattle.wasi_host.specs.Kinds.{is_readable, is_writable}
-use Rattle.wasi_host.specs.StreamCalls.{counted, skip_asks, splice_asks, splice_checked, splice_read, splice_some, splice_when, spliced, write_zeroes_asks}
+use Rattle.host_store.specs.CallStops.{Closed, Failed, Traps as TrapsBy}
+use Rattle.host_store.specs.Kinds.{is_readable, is_writable}
+use Rattle.host_streams.specs.StreamCalls.{counted, skip_asks, splice_asks, splice_checked, splice_read, splice_some, splice_when, spliced, write_zeroes_asks}
 use Rattle.wasi_machine.specs.Machine.{call_stop_reply, stream_reply_of}
 use Rattle.wasi_steps.specs.declared.reply.Reply.TheVariants as reply
 use Rattle.wasi_steps.specs.declared.guest_call.GuestCall.TheVariants as guest

@@ -1,7 +1,7 @@
 -- What a turn leaves of sockets, of the streams of connections, and of pipes.
 use Rattle.wasi_causes.proofs.Words.{◌≡◌, ◌∙◌, ℕ, List, [], ◌∷◌, Option, Some, None, IsSome, inl, inr, refl, sym, subst, ap, Machine, Streams, TcpRecord, streams_in, turn_asks, turn_at, turn_job, turn_jobs, turn_machine_asks, turned}
 use Rattle.wasi_records.specs.Datagrams.{turn_outgoing}
-use Rattle.wasi_host.specs.Jobs.{turn_datagram_at, turn_receive_at}
+use Rattle.host_store.specs.Jobs.{turn_datagram_at, turn_receive_at}
 use Rattle.wasi_records.specs.NameLookup.{turn_lookup, turn_lookup_at}
 use Rattle.wasi_records.specs.Receiving.{turn_incoming}
 use Rattle.wasi_records.specs.Records.{input_pipe_at, lookup_at, lookup_put, open_at, open_of, open_put, output_pipe_at, tcp2_at, tcp2_put, udp2_at}

@@ -25,7 +25,7 @@ use Rattle.wasi_records.specs.declared.udp.OpenUdp.{OpenUdp}
 use Rattle.wasi_records.specs.declared.udp.UdpRecord.TheVariants.{Open}
 use Rattle.wasi_jobs.specs.declared.job.HostJob.{HostJob}
 use Rattle.wasi_jobs.specs.declared.job.HostJob.TheVariants as job
-use Rattle.wasi_host.specs.Jobs.{is_going, jobs_with, turn_datagram_at, turn_receive_at}
+use Rattle.host_store.specs.Jobs.{is_going, jobs_with, turn_datagram_at, turn_receive_at}
 use Rattle.wasi_steps.specs.declared.step.Step.TheVariants as step
 use Rattle.wasi_walks.proofs.Places.{lookup_sort, put_again, tcp_sort, udp_sort}
 use Rattle.wasi_walks.proofs.walks.Moves.{receiving_in}

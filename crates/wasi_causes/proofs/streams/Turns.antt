@@ -6,7 +6,7 @@ use Rattle.wasi_world.specs.Operation.{Datagram as Received}
 use Rattle.wasi_udp.specs.Receive.{wanting}
 use Rattle.wasi_udp.specs.Send.{at_remote}
 use Rattle.wasi_records.specs.Datagrams.{turn_outgoing, turn_sending, turned_left}
-use Rattle.wasi_host.specs.Jobs.{turn_datagram_at, turn_receive_at}
+use Rattle.host_store.specs.Jobs.{turn_datagram_at, turn_receive_at}
 use Rattle.wasi_records.specs.Receiving.{receive_left, turn_incoming, turn_receiving}
 use Rattle.wasi_records.specs.NameLookup.{lookup_told, turn_lookup, turn_lookup_at}
 use Rattle.wasi_records.specs.Records.{lookup_at, lookup_put, open_at, open_of, open_put, tcp2_at, tcp2_put, udp2_at}

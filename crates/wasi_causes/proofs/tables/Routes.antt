@@ -18,9 +18,9 @@ use Rattle.wasi_causes.proofs.tables.Meets.{Rows, Meets, ends, asks, chain, wide
 use Rattle.wasi_records.specs.Records.{tcp2_at}
 use Rattle.wasi_records.specs.declared.records.Record.{Record}
 use Rattle.wasi_walks.proofs.Places.{put_again, tcp_sort}
-use Rattle.wasi_host.specs.Block.{Does, give, last, goes_on, or_trap, after_call, ◌>>=◌}
-use Rattle.wasi_host.specs.Lines.{same_stop, tabling, tcp_named, in_store, asked_of, on_tcp, makes as makes_line}
-use Rattle.wasi_host.specs.Options.{code_told}
+use Rattle.host_store.specs.Block.{Does, give, last, goes_on, or_trap, after_call, ◌>>=◌}
+use Rattle.host_store.specs.Lines.{same_stop, tabling, tcp_named, in_store, asked_of, on_tcp, makes as makes_line}
+use Rattle.host_store.specs.Store.{code_told}
 use Rattle.wasi_p2.specs.Tcp.{make_streams}
 
 -- the step's replies, where what it gives is reported so

@@ -39,12 +39,12 @@ use Rattle.wasi_causes.specs.Outcomes.{LaterPartIsThere, Outcome, PendsUnder, Qu
 use Rattle.wasi_causes.specs.Datagrams.{PendingHandleIsLive}
 use Rattle.wasi_walks.specs.Waiting.{IsPoll, left_missing}
 use Rattle.std.specs.Prelude.{◌||◌, ◌&&◌, not, IsSomeAnd}
-use Rattle.wasi_host.specs.Beside.{beside_of, stands_under}
-use Rattle.wasi_host.specs.Standing.{standing_as, stands_as}
-use Rattle.wasi_host.specs.declared.store.StandingCall.{StandingCall}
+use Rattle.host_store.specs.Beside.{beside_of, stands_under}
+use Rattle.host_store.specs.Standing.{standing_as, stands_as}
+use Rattle.host_store.specs.declared.store.StandingCall.{StandingCall}
 use Rattle.wasi_world.specs.declared.ids.Ids.{Ids}
 use Rattle.wasi_causes.proofs.Beside.{polls_itself}
-use Rattle.wasi_host.specs.Store.{Records}
+use Rattle.host_store.specs.Store.{Records}
 use Rattle.wasi_machine.specs.Machine.{is_held_up, polls_beside}
 use Rattle.wasi_steps.specs.Steps.{context_of}
 use Rattle.wasi_steps.specs.declared.reply.Field.TheVariants as field

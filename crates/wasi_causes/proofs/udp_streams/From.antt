@@ -10,9 +10,9 @@ use Rattle.wasi_world.proofs.Allowed.{reached}
 use Rattle.wasi_udp.specs.Receive.{IsReceive, receive_asks, wanting}
 use Rattle.wasi_udp.specs.Shape.{Socket}
 use Rattle.wasi_udp.specs.Socket.{bound_asks}
-use Rattle.wasi_host.specs.DatagramCalls.{receive_datagrams_at}
+use Rattle.host_udp.specs.DatagramCalls.{receive_datagrams_at}
 use Rattle.wasi_records.specs.Stops.{code_stop}
-use Rattle.wasi_host.specs.Machine.{incoming_at}
+use Rattle.host_store.specs.Machine.{incoming_at}
 use Rattle.wasi_records.specs.Names.{next_name}
 use Rattle.wasi_records.specs.Receiving.{all_received, fetch_asks, fetch_names, poll_receive_asks, receive_after, receive_all, receive_datagrams_asks, receive_left, receive_next_asks, received_told, taken}
 use Rattle.wasi_records.specs.Records.{open_at, udp2_at}

@@ -11,7 +11,7 @@ use Rattle.wasi_records.specs.declared.datagrams.Receiving.TheVariants as receiv
 use Rattle.wasi_records.specs.declared.datagrams.Sending.TheVariants as sending
 use Rattle.wasi_records.specs.declared.udp.OpenUdp.{OpenUdp}
 use Rattle.wasi_records.specs.declared.udp.UdpRecord.TheVariants as udp
-use Rattle.wasi_host.specs.UdpCalls.{with_open_udp}
+use Rattle.host_store.specs.Store.{with_open_udp}
 use Rattle.wasi_steps.specs.declared.reply.Field.{Field}
 use Rattle.wasi_steps.specs.declared.reply.Reply.TheVariants as reply
 use Rattle.wasi_steps.specs.declared.guest_call.GuestCall.TheVariants as guest

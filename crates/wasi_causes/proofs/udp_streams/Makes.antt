@@ -4,11 +4,11 @@ use Rattle.wasi_causes.proofs.Words.{inl, inr, kind_at, marks_in, marks_in-push,
 use Rattle.wasi_world.specs.declared.call.Call.TheVariants as call
 use Rattle.wasi_world.specs.declared.call.HandleKind.TheVariants as name
 use Rattle.wasi_world.specs.declared.call.Told.TheVariants as told
-use Rattle.wasi_host.specs.DatagramCalls.{mark_streams, mark_streams_of, outgoing_made}
-use Rattle.wasi_host.specs.Kinds.{udp_of}
+use Rattle.host_udp.specs.DatagramCalls.{mark_streams, mark_streams_of, outgoing_made}
+use Rattle.host_store.specs.Kinds.{udp_of}
 use Rattle.wasi_records.specs.Records.{udp2_at}
-use Rattle.wasi_host.specs.UdpCreates.{udp_side_at}
-use Rattle.wasi_host.specs.declared.kind.Kind.TheVariants.{Incoming, Outgoing}
+use Rattle.host_udp.specs.UdpCreates.{udp_side_at}
+use Rattle.host_store.specs.declared.kind.Kind.TheVariants.{Incoming, Outgoing}
 use Rattle.wasi_causes.proofs.tables.Meets.{Meets, Rows, chain, ends, onto}
 use Rattle.wasi_causes.proofs.tables.Routes.{makes}
 use Rattle.wasi_causes.specs.Datagrams.{LacksRoomForBoth, with_both, with_incoming}

@@ -10,9 +10,9 @@ use Rattle.wasi_world.specs.declared.datagram.IncomingDatagram.{IncomingDatagram
 use Rattle.wasi_world.specs.declared.ids.Ids.{Ids}
 use Rattle.wasi_udp.specs.Receive.{receive_start}
 use Rattle.wasi_udp.specs.Shape.{Socket}
-use Rattle.wasi_host.specs.DatagramCalls.{receive_datagrams_at, with_receive}
+use Rattle.host_udp.specs.DatagramCalls.{receive_datagrams_at, with_receive}
 use Rattle.wasi_records.specs.Stops.{code_stop}
-use Rattle.wasi_host.specs.Machine.{incoming_at}
+use Rattle.host_store.specs.Machine.{incoming_at}
 use Rattle.wasi_records.specs.Names.{next_name}
 use Rattle.wasi_records.specs.Receiving.{all_received, fetch_asks, fetch_names, is_receiving, poll_receive_asks, receive_after, receive_all, receive_datagrams_asks, receive_left, receive_next_asks, receives, taken_from, with_receiving}
 use Rattle.wasi_records.specs.Records.{open_at}

@@ -2,7 +2,7 @@
 use Rattle.wasi_causes.proofs.Words.{Asks, Bool, Entry, Err, Give, List, Machine, NoSuchHandle, None, Option, Records, Result, Some, Stop, Trap, [], ap, bind, gives_any}
 use Rattle.wasi_causes.proofs.Words.{⊤, false, no_such_handle, not, refl, subst, sym, true, with_job, with_store, ℕ, ◌&&◌, ◌∙◌, ◌≡◌}
 use Rattle.wasi_records.specs.Records.{open_at, open_of, udp2_at}
-use Rattle.wasi_host.specs.UdpCalls.{with_open_udp}
+use Rattle.host_store.specs.Store.{with_open_udp}
 use Rattle.wasi_jobs.specs.declared.job.HostJob.{HostJob}
 use Rattle.wasi_records.specs.declared.records.Record.{Record}
 use Rattle.wasi_records.specs.declared.udp.OpenUdp.{OpenUdp}

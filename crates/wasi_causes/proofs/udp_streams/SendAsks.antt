@@ -17,12 +17,12 @@ use Rattle.wasi_udp.specs.Send.{at_remote, is_sendable, send_asks, send_first, s
 use Rattle.wasi_udp.specs.Shape.{Socket}
 use Rattle.wasi_udp.specs.declared.send.Destination.{Destination}
 use Rattle.wasi_records.specs.Datagrams.{all_sent, count_told, is_sending, one_sent, poll_send_asks, send_after, send_all, send_datagrams_asks, send_ended, send_next_asks, send_one_asks, send_permitted, send_some}
-use Rattle.wasi_host.specs.DatagramCalls.{begins_send, datagrams_sent, send_datagrams_at}
+use Rattle.host_udp.specs.DatagramCalls.{begins_send, datagrams_sent, send_datagrams_at}
 use Rattle.wasi_records.specs.Stops.{Code}
 use Rattle.wasi_jobs.specs.declared.job.HostJob.TheVariants.{Datagram}
 use Rattle.wasi_causes.proofs.udp_streams.Routes.{job_there}
 use Rattle.wasi_causes.specs.Turns.{datagram_of, outgoing_asks_by, sends_by}
-use Rattle.wasi_host.specs.Machine.{outgoing_at}
+use Rattle.host_store.specs.Machine.{outgoing_at}
 use Rattle.wasi_records.specs.Names.{names_after, next_name}
 use Rattle.wasi_records.specs.Records.{open_at}
 use Rattle.wasi_records.specs.declared.udp.OpenUdp.{OpenUdp}

@@ -21,8 +21,8 @@ use Rattle.wasi_records.specs.Names.{names_after, next_name}
 use Rattle.wasi_records.specs.declared.datagrams.Outgoing.{Outgoing}
 use Rattle.wasi_records.specs.declared.datagrams.Sending.{Sending}
 use Rattle.wasi_records.specs.declared.udp.OpenUdp.{OpenUdp}
-use Rattle.wasi_host.specs.DatagramCalls.{send_datagrams_at}
-use Rattle.wasi_host.specs.Machine.{outgoing_at}
+use Rattle.host_udp.specs.DatagramCalls.{send_datagrams_at}
+use Rattle.host_store.specs.Machine.{outgoing_at}
 use Rattle.wasi_p2.specs.Udp.{send_datagrams_on}
 use Rattle.wasi_machine.specs.Machine.{reply_of}
 use Rattle.wasi_steps.specs.Reply.{number_fields}

@@ -5,7 +5,7 @@ use Rattle.wasi_world.specs.declared.call.Told.TheVariants as told
 use Rattle.wasi_tcp.specs.declared.listener.Accepting.TheVariants as accepting
 use Rattle.wasi_tcp.specs.declared.socket.TcpState.TheVariants as state
 use Rattle.socket_common.specs.Rounds.{is_going, some_left}
-use Rattle.wasi_host.specs.declared.kind.Kind.TheVariants.{Listen3, Result3, Tcp3}
+use Rattle.host_store.specs.declared.kind.Kind.TheVariants.{Listen3, Result3, Tcp3}
 use Rattle.std.specs.Prelude.{take}
 use Rattle.wasi_steps.specs.declared.guest_call.GuestCall.{GuestCall}
 use Rattle.wasi_tcp.specs.Halves.{write_asks}
@@ -29,18 +29,18 @@ use Rattle.wasi_laws.proofs.asks.Trees.{GoesOn, Undoes, Then, makes_by, turns_by
 use Rattle.wasi_laws.proofs.shapes.Shape.{ListenerShape, on_socket, Same, SocketsStay, sockets_stay, UdpLives}
 use Rattle.wasi_laws.proofs.shapes.Law.{Shaped, shapes}
 use Rattle.wasi_records.specs.Records.{tcp2_at, udp2_at}
-use Rattle.wasi_host.specs.Beside.{beside_as, beside_of}
-use Rattle.wasi_host.specs.Resolves.{begun_lookup}
-use Rattle.wasi_host.specs.declared.beside.Beside.{Beside}
-use Rattle.wasi_host.specs.declared.beside.BesideCall.{BesideCall}
-use Rattle.wasi_host.specs.declared.beside.BesideCall.TheVariants.{Resolve}
+use Rattle.host_store.specs.Beside.{beside_as, beside_of}
+use Rattle.host_lookups.specs.Resolves.{begun_lookup}
+use Rattle.host_store.specs.declared.beside.Beside.{Beside}
+use Rattle.host_store.specs.declared.beside.BesideCall.{BesideCall}
+use Rattle.host_store.specs.declared.beside.BesideCall.TheVariants.{Resolve}
 use Rattle.wasi_world.specs.Typed.{told_names}
-use Rattle.wasi_host.specs.Kinds.{udp_kind}
+use Rattle.host_store.specs.Kinds.{udp_kind}
 use Rattle.wasi_records.specs.declared.records.Record.{Record}
 use Rattle.wasi_records.specs.declared.udp.OpenUdp.{OpenUdp}
 use Rattle.wasi_records.specs.declared.udp.UdpRecord.{UdpRecord}
 use Rattle.wasi_records.specs.Udp.{udp_side, with_udp_inner}
-use Rattle.wasi_host.specs.UdpCreates.{udp_side_at}
+use Rattle.host_udp.specs.UdpCreates.{udp_side_at}
 use Rattle.wasi_udp.specs.Create.{Create, create_cancel_asks, new_create, after_create as udp_after_create}
 use Rattle.wasi_udp.specs.Shape.{Socket as UdpShape}
 use Rattle.wasi_udp.specs.Socket.{after_local as udp_after_local, after_peer}

@@ -2,11 +2,11 @@
 use Rattle.std.proofs.Common.{cond}
 use Rattle.std.proofs.lemmas.Bool.{eqb-true}
 use Rattle.wasi_udp.specs.Create.{Create}
-use Rattle.wasi_host.specs.Kinds.{make_asks}
-use Rattle.wasi_host.specs.Limits.{limit_in, limit_or, with_limit, with_limit_by}
-use Rattle.wasi_host.specs.Machine.{code_told, same_told, with_room}
-use Rattle.wasi_host.specs.Store.{Records}
-use Rattle.wasi_host.specs.declared.limits.Limit.{Limit}
+use Rattle.host_store.specs.Kinds.{make_asks}
+use Rattle.host_store.specs.Limits.{limit_in, limit_or, with_limit, with_limit_by}
+use Rattle.host_tcp.specs.Creates.{code_told, same_told, with_room}
+use Rattle.host_store.specs.Store.{Records}
+use Rattle.host_store.specs.declared.limits.Limit.{Limit}
 use Rattle.wasi_machine.specs.Machine.{asks_while, context_at, context_in}
 use Rattle.wasi_records.specs.Used.{used}
 use Rattle.wasi_steps.specs.Steps.{context_of}

@@ -9,7 +9,7 @@ use Rattle.wasi_records.specs.Used.{held_in}
 use Rattle.wasi_records.specs.declared.udp.UdpRecord.{UdpRecord}
 use Rattle.wasi_records.specs.Udp.{udp_create_left}
 use Rattle.wasi_udp.specs.Create.{Create}
-use Rattle.wasi_host.specs.Limits.{left}
+use Rattle.host_store.specs.Limits.{left}
 use Rattle.wasi_walks.proofs.fits.Law.{whatever}
 use Rattle.wasi_walks.proofs.fits.Polls.{Anything}
 use Rattle.wasi_walks.proofs.PipeLists.{slot_push_same}

@@ -7,9 +7,9 @@ use Rattle.wasi_records.specs.Records.{tcp2_at, tcp2_of, tcp2_put, tcp2_pushed}
 use Rattle.wasi_records.specs.Used.{held_in, used, used_by, used_in}
 use Rattle.wasi_records.specs.declared.records.Record.{Record}
 use Rattle.wasi_records.specs.declared.records.Record.TheVariants.{Tcp}
-use Rattle.wasi_host.specs.Limits.{left, limit_in, limit_or, with_limit, with_limit_by}
-use Rattle.wasi_host.specs.Store.{Records, with_socket}
-use Rattle.wasi_host.specs.declared.limits.Limit.{Limit}
+use Rattle.host_store.specs.Limits.{left, limit_in, limit_or, with_limit, with_limit_by}
+use Rattle.host_store.specs.Store.{Records, with_socket}
+use Rattle.host_store.specs.declared.limits.Limit.{Limit}
 use Rattle.wasi_walks.proofs.walks.Limits.{in_list}
 use Rattle.wasi_laws.proofs.Words.{Bool, List, None, Option, Some, TcpRecord, WasiSocketsCtx, [], ap, arith, false, refl, slice_set, subst, suc, sym, true, zero, ℕ, ◌++◌, ◌+◌, ◌==◌, ◌∙◌, ◌∷◌, ◌≡◌, ◌≤◌}
 use Rattle.wasi_laws.specs.Limits.{IsWithin}

@@ -14,10 +14,10 @@ use Rattle.wasi_records.specs.declared.tcp_binding.InProgress.{InProgress}
 use Rattle.wasi_records.specs.declared.tcp_binding.InProgress.TheVariants as progress
 use Rattle.wasi_addr.specs.declared.address.SocketAddressFamily.{SocketAddressFamily}
 use Rattle.wasi_addr.specs.declared.code.ErrorCode.{ErrorCode}
-use Rattle.wasi_host.specs.declared.beside.Beside.{Beside as BesideOthers}
-use Rattle.wasi_host.specs.declared.beside.BesideCall.{BesideCall}
-use Rattle.wasi_host.specs.declared.beside.BesideCall.TheVariants as beside_call
-use Rattle.wasi_host.specs.Beside.{beside_in, beside_with, beside_without}
+use Rattle.host_store.specs.declared.beside.Beside.{Beside as BesideOthers}
+use Rattle.host_store.specs.declared.beside.BesideCall.{BesideCall}
+use Rattle.host_store.specs.declared.beside.BesideCall.TheVariants as beside_call
+use Rattle.host_store.specs.Beside.{beside_in, beside_with, beside_without}
 use Rattle.wasi_walks.proofs.BesideLists.{replaced, with_replaced}
 use Rattle.std.specs.Prelude.{not, ◌==◌}
 use Rattle.wasi_udp.specs.Connect.{connect_first, connect_left}

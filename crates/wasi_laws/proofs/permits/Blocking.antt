@@ -5,12 +5,12 @@ use Rattle.wasi_world.specs.declared.ids.Ids.{Ids}
 use Rattle.wasi_world.specs.declared.outcome.Answer.TheVariants.{Ready}
 use Rattle.wasi_world.specs.declared.outcome.TrapKind.TheVariants.{NoSuchHandle, TooLong}
 use Rattle.wasi_streams.specs.Streams.{zeros}
-use Rattle.wasi_host.specs.Blocking.{Again, Blocked, blocking_splice_asks, blocking_splice_when, blocking_write_asks, blocking_zeroes_asks, look_asks, round_checked, round_written, splice_count, splice_given, splice_looked, splice_permitted, splice_written, stops, waits_as, write_rest_asks, write_rounds, write_when, zeroes_when}
-use Rattle.wasi_host.specs.CallStops.{CallStop, Traps}
-use Rattle.wasi_host.specs.Kinds.{is_readable, is_writable, kind_at}
-use Rattle.wasi_host.specs.Machine.{input_at, output_at}
-use Rattle.wasi_host.specs.StreamCalls.{check_asks, read_asks, write_asks}
-use Rattle.wasi_host.specs.declared.blocking.BlockingCall.TheVariants.{Splice, Write}
+use Rattle.host_streams.specs.Blocking.{Again, Blocked, blocking_splice_asks, blocking_splice_when, blocking_write_asks, blocking_zeroes_asks, look_asks, round_checked, round_written, splice_count, splice_given, splice_looked, splice_permitted, splice_written, stops, waits_as, write_rest_asks, write_rounds, write_when, zeroes_when}
+use Rattle.host_store.specs.CallStops.{CallStop, Traps}
+use Rattle.host_store.specs.Kinds.{is_readable, is_writable, kind_at}
+use Rattle.host_store.specs.Machine.{input_at, output_at}
+use Rattle.host_streams.specs.StreamCalls.{check_asks, read_asks, write_asks}
+use Rattle.host_store.specs.declared.store.BlockingCall.TheVariants.{Splice, Write}
 use Rattle.wasi_walks.proofs.walks.Blocking.{finish_walks, waits_walks}
 use Rattle.wasi_walks.proofs.walks.Calls.{check_asks_walks, look_asks_walks, read_asks_walks, reaching}
 use Rattle.wasi_laws.proofs.Words.{Asks, Bool, Entry, Err, Give, List, Machine, Ok, OpId, Option, Result, Step, WasiSocketsCtx, [], ap, arith, drop, false, if◌then◌else◌, inl, inr, length, nat_lt, not, own_of, refl, suc, sym, take, true, zero, ℕ, ◌&&◌, ◌++◌, ◌∷◌, ◌≡◌}

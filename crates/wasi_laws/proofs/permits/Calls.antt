@@ -2,9 +2,9 @@
 -- and a write with that of its own bytes too.
 use Rattle.wasi_laws.proofs.Words.{◌≡◌, ⊤, ℕ, Bool, true, false, List, [], ◌∷◌, ◌++◌, Option, Some, None, Result, refl, sym, ap, subst, append-nil, if◌then◌else◌, is_same, length, OpId, Entry, WasiSocketsCtx, Asks, Give, bind, Allows, allows_then, Has, Base, Machine, Streams, TcpRecord, WriteState, nat_lt, taken_in, Own, Used, Unused, ToConnect, ToWrite, Here, Over, Step, Walks, own_of, output_at, record_in, let_begin, writer_in, writer_of_record}
 use Rattle.wasi_tcp.specs.declared.writer.WriteState.TheVariants as writing
-use Rattle.wasi_host.specs.CallStops.{CallStop}
+use Rattle.host_store.specs.CallStops.{CallStop}
 use Rattle.wasi_records.specs.Records.{tcp2_at}
-use Rattle.wasi_host.specs.StreamCalls.{write_asks}
+use Rattle.host_streams.specs.StreamCalls.{write_asks}
 use Rattle.wasi_walks.proofs.walks.Moves.{Names, Leaves}
 use Rattle.wasi_walks.proofs.walks.Law.{gives}
 use Rattle.wasi_walks.proofs.walks.States.{OverWith}

@@ -1,12 +1,12 @@
 -- Where a check-write answers a permit, all that was permitted was taken.
 use Rattle.wasi_streams.specs.StreamStop as stop
 use Rattle.wasi_records.specs.Records.{tcp2_at}
-use Rattle.wasi_host.specs.CallStops.{CallStop, Failed, Closed, Traps}
-use Rattle.wasi_host.specs.Kinds.{kind_at, output_of, plain_output_of}
-use Rattle.wasi_host.specs.Limits.{check_record, most_of}
-use Rattle.wasi_host.specs.StreamCalls.{check_asks, check_by, convert_asks, converted, plain_output_at, stream_on}
-use Rattle.wasi_host.specs.declared.kind.Kind.TheVariants as kind
-use Rattle.wasi_host.specs.declared.kind.PlainOutput.{PlainOutput}
+use Rattle.host_store.specs.CallStops.{CallStop, Failed, Closed, Traps}
+use Rattle.host_store.specs.Kinds.{kind_at, output_of, plain_output_of}
+use Rattle.host_store.specs.Limits.{check_record, most_of}
+use Rattle.host_streams.specs.StreamCalls.{check_asks, check_by, convert_asks, converted, plain_output_at, stream_on}
+use Rattle.host_store.specs.declared.kind.Kind.TheVariants as kind
+use Rattle.host_store.specs.declared.kind.PlainOutput.{PlainOutput}
 use Rattle.wasi_steps.specs.declared.reply.Reply.TheVariants as reply
 use Rattle.wasi_steps.specs.declared.guest_call.GuestCall.TheVariants as guest
 use Rattle.wasi_steps.specs.declared.step.Step.TheVariants as step

@@ -30,17 +30,17 @@ use Rattle.wasi_records.specs.Ends.{ends_of, half_of, look_to_write, send_half, 
 use Rattle.wasi_records.specs.Names.{own_of}
 use Rattle.wasi_records.specs.Records.{tcp2_at, tcp2_put}
 use Rattle.wasi_records.specs.Slots.{StreamEnd}
-use Rattle.wasi_host.specs.declared.kind.ConnectionEnd.{ConnectionEnd}
-use Rattle.wasi_host.specs.declared.machine.Machine.{Machine}
-use Rattle.wasi_host.specs.Block.{after_call, give as ends_with, last, or_trap}
-use Rattle.wasi_host.specs.EndPolls.{ends_by, looked, write_end, write_of, write_open, write_told}
-use Rattle.wasi_host.specs.BaseStops.{BaseStop, renamed}
+use Rattle.host_store.specs.declared.kind.ConnectionEnd.{ConnectionEnd}
+use Rattle.host_store.specs.declared.machine.Machine.{Machine}
+use Rattle.host_store.specs.Block.{after_call, give as ends_with, last, or_trap}
+use Rattle.host_tcp.specs.EndPolls.{ends_by, looked, write_end, write_of, write_open, write_told}
+use Rattle.host_store.specs.BaseStops.{BaseStop, renamed}
 use Rattle.wasi_walks.proofs.fits.Datagrams.{at_kept}
 use Rattle.wasi_walks.proofs.fits.DatagramFacts.{tcp_held}
-use Rattle.wasi_host.specs.Lines.{same_stop, storing}
+use Rattle.host_store.specs.Lines.{same_stop, storing}
 use Rattle.wasi_addr.specs.Code.{p3_of_code}
-use Rattle.wasi_host.specs.Machine.{send3_at}
-use Rattle.wasi_host.specs.Store.{Records}
+use Rattle.host_store.specs.Machine.{send3_at}
+use Rattle.host_store.specs.Store.{Records}
 use Rattle.wasi_p3.specs.Lines.{in_base}
 use Rattle.wasi_p3.specs.Stops.{P3Stop}
 use Rattle.wasi_p3.specs.Streams.{write}

@@ -5,17 +5,17 @@ use Rattle.wasi_machine.specs.Machine.{stream_result_reply}
 use Rattle.wasi_laws.proofs.permits.Law.{NotOffer}
 use Rattle.wasi_world.specs.declared.ids.Ids.{Ids}
 use Rattle.wasi_streams.specs.Streams.{zeros}
-use Rattle.wasi_host.specs.Beside.{beside_of}
-use Rattle.wasi_host.specs.Blocking.{Blocked}
-use Rattle.wasi_host.specs.CallStops.{Closed, Failed, Traps}
+use Rattle.host_store.specs.Beside.{beside_of}
+use Rattle.host_streams.specs.Blocking.{Blocked}
+use Rattle.host_store.specs.CallStops.{Closed, Failed, Traps}
 use Rattle.wasi_host.specs.Pending.{blocked_outcome, nothing_given, resume_call, resumed}
-use Rattle.wasi_host.specs.Standing.{call_of, standing_as, unstood}
-use Rattle.wasi_host.specs.declared.blocking.BlockingCall.{BlockingCall}
-use Rattle.wasi_host.specs.declared.blocking.BlockingCall.TheVariants as blocking
+use Rattle.host_store.specs.Standing.{call_of, standing_as, unstood}
+use Rattle.host_store.specs.declared.store.BlockingCall.{BlockingCall}
+use Rattle.host_store.specs.declared.store.BlockingCall.TheVariants as blocking
 use Rattle.wasi_host.specs.declared.pending.Outcome.{Outcome}
 use Rattle.wasi_host.specs.declared.pending.Outcome.TheVariants as outcome
-use Rattle.wasi_host.specs.declared.store.StandingCall.{StandingCall}
-use Rattle.wasi_host.specs.declared.store.StandingCall.TheVariants.{Blocking}
+use Rattle.host_store.specs.declared.store.StandingCall.{StandingCall}
+use Rattle.host_store.specs.declared.store.StandingCall.TheVariants.{Blocking}
 use Rattle.wasi_world.specs.declared.outcome.Answer.TheVariants.{Pending, Ready}
 use Rattle.wasi_steps.specs.declared.guest_call.GuestCall.TheVariants as guest
 use Rattle.wasi_steps.specs.declared.step.Step.TheVariants as step

@@ -3,13 +3,13 @@ use Rattle.wasi_tcp.specs.Writer.{permitted}
 use Rattle.wasi_tcp.specs.declared.writer.WriteState.TheVariants as writing
 use Rattle.wasi_world.specs.Operation.{Done, Refused, Waits}
 use Rattle.wasi_records.specs.Records.{tcp2_at}
-use Rattle.wasi_host.specs.CallStops.{CallStop, Closed, Failed, Traps}
-use Rattle.wasi_host.specs.Kinds.{kind_at, plain_output_of}
-use Rattle.wasi_host.specs.Limits.{check_record, most_of}
-use Rattle.wasi_host.specs.Store.{with_record_put}
-use Rattle.wasi_host.specs.StreamCalls.{check_asks, check_by, convert_asks, converted, stopped, stream_on}
-use Rattle.wasi_host.specs.declared.kind.Kind.TheVariants.{Output}
-use Rattle.wasi_host.specs.declared.kind.PlainOutput.{PlainOutput}
+use Rattle.host_store.specs.CallStops.{CallStop, Closed, Failed, Traps}
+use Rattle.host_store.specs.Kinds.{kind_at, plain_output_of}
+use Rattle.host_store.specs.Limits.{check_record, most_of}
+use Rattle.host_store.specs.Store.{with_record_put}
+use Rattle.host_streams.specs.StreamCalls.{check_asks, check_by, convert_asks, converted, stopped, stream_on}
+use Rattle.host_store.specs.declared.kind.Kind.TheVariants.{Output}
+use Rattle.host_store.specs.declared.kind.PlainOutput.{PlainOutput}
 use Rattle.wasi_steps.specs.declared.guest_call.GuestCall.TheVariants as guest
 use Rattle.wasi_steps.specs.declared.reply.Reply.TheVariants as reply
 use Rattle.wasi_steps.specs.declared.step.Step.TheVariants as step

@@ -4,19 +4,19 @@ use Rattle.wasi_tcp.specs.Writer.{write_half_asks, write_on_asks, write_state_as
 use Rattle.wasi_tcp.specs.declared.halves.TcpSendStream.{TcpSendStream}
 use Rattle.wasi_tcp.specs.declared.writer.WriteState.TheVariants as writing
 use Rattle.wasi_records.specs.Records.{tcp2_at}
-use Rattle.wasi_host.specs.CallStops.{CallStop, Closed, Failed, Traps}
-use Rattle.wasi_host.specs.Jobs.{noted, write_at}
-use Rattle.wasi_host.specs.Kinds.{kind_at, output_of, plain_output_of}
-use Rattle.wasi_host.specs.StreamCalls.{convert_asks, converted, stopped, write_asks, write_by, write_on}
-use Rattle.wasi_host.specs.declared.kind.Kind.TheVariants.{Output, PlainOutput}
-use Rattle.wasi_host.specs.declared.kind.PlainOutput.{PlainOutput as APlainOutput}
+use Rattle.host_store.specs.CallStops.{CallStop, Closed, Failed, Traps}
+use Rattle.host_store.specs.Jobs.{noted, write_at}
+use Rattle.host_store.specs.Kinds.{kind_at, output_of, plain_output_of}
+use Rattle.host_streams.specs.StreamCalls.{convert_asks, converted, stopped, write_asks, write_by, write_on}
+use Rattle.host_store.specs.declared.kind.Kind.TheVariants.{Output, PlainOutput}
+use Rattle.host_store.specs.declared.kind.PlainOutput.{PlainOutput as APlainOutput}
 use Rattle.wasi_steps.specs.declared.guest_call.GuestCall.TheVariants as guest
 use Rattle.wasi_steps.specs.declared.reply.Field.{Field}
 use Rattle.wasi_steps.specs.declared.reply.Reply.TheVariants as reply
 use Rattle.wasi_steps.specs.declared.step.Step.TheVariants as step
 use Rattle.wasi_steps.specs.Reply.{no_values}
 use Rattle.wasi_machine.specs.Machine.{stream_reply_of}
-use Rattle.wasi_host.specs.Store.{with_record_put}
+use Rattle.host_store.specs.Store.{with_record_put}
 use Rattle.wasi_world.specs.declared.outcome.TrapKind.TheVariants.{NotPermitted}
 use Rattle.wasi_walks.proofs.Gives.{Gives, given, gives_any, gives_then}
 use Rattle.wasi_walks.proofs.licence.Meanings.{one_mark, one_side}

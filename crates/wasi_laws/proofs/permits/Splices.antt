@@ -2,10 +2,10 @@
 use Rattle.wasi_laws.proofs.permits.Law.{NotOffer}
 use Rattle.std.specs.Prelude.{min}
 use Rattle.wasi_world.specs.declared.outcome.TrapKind.TheVariants.{NoSuchHandle}
-use Rattle.wasi_host.specs.CallStops.{CallStop, Traps}
-use Rattle.wasi_host.specs.Kinds.{is_readable, is_writable, kind_at}
-use Rattle.wasi_host.specs.Machine.{input_at, output_at}
-use Rattle.wasi_host.specs.StreamCalls.{check_asks, read_asks, splice_asks, splice_checked, splice_read, splice_some, splice_when, spliced}
+use Rattle.host_store.specs.CallStops.{CallStop, Traps}
+use Rattle.host_store.specs.Kinds.{is_readable, is_writable, kind_at}
+use Rattle.host_store.specs.Machine.{input_at, output_at}
+use Rattle.host_streams.specs.StreamCalls.{check_asks, read_asks, splice_asks, splice_checked, splice_read, splice_some, splice_when, spliced}
 use Rattle.wasi_walks.proofs.walks.Calls.{check_asks_walks, read_asks_walks, reaching}
 use Rattle.wasi_laws.proofs.Words.{Asks, Bool, Entry, Err, Give, Has, List, Machine, Ok, OpId, Option, Result, Step, WasiSocketsCtx, [], false, if◌then◌else◌, length, own_of, refl, suc, true, zero, ℕ, ◌&&◌, ◌∷◌, ◌≡◌}
 use Rattle.wasi_laws.proofs.permits.Calls.{Ends, Gives, So, along, gone, none_lets, writes_last}

@@ -2,10 +2,10 @@
 use Rattle.wasi_world.specs.declared.call.Call.TheVariants as call
 use Rattle.std.specs.Prelude.{◌==◌, if◌then◌else◌, Bool, true, false}
 use Rattle.std.proofs.Common.{eqb-true}
-use Rattle.wasi_host.specs.Beside.{beside_in, beside_with, beside_without}
-use Rattle.wasi_host.specs.declared.beside.Beside.{Beside}
-use Rattle.wasi_host.specs.declared.beside.BesideCall.{BesideCall}
-use Rattle.wasi_host.specs.declared.beside.BesideCall.TheVariants as beside_call
+use Rattle.host_store.specs.Beside.{beside_in, beside_with, beside_without}
+use Rattle.host_store.specs.declared.beside.Beside.{Beside}
+use Rattle.host_store.specs.declared.beside.BesideCall.{BesideCall}
+use Rattle.host_store.specs.declared.beside.BesideCall.TheVariants as beside_call
 use Rattle.wasi_walks.proofs.BesideLists.{with_at, with_other, without_at, without_other}
 use Rattle.wasi_records.specs.Numbered.{record_gone}
 use Rattle.wasi_records.specs.Records.{tcp2_put, tcp2_pushed, udp2_at, udp2_of, udp2_put, udp2_pushed}

@@ -1,7 +1,7 @@
 use Rattle.std.proofs.Common.{refl}
 use Rattle.wasi_world.proofs.Walks.{asks_gives}
-use Rattle.wasi_host.specs.Machine.{with_table}
-use Rattle.wasi_host.specs.Views.{state_of}
+use Rattle.host_store.specs.Machine.{with_table}
+use Rattle.host_store.specs.Views.{state_of}
 use Rattle.wasi_records.proofs.Hosts.{host_fault}
 use Rattle.wasi_p2.proofs.instance_network.Goals as goal
 

@@ -1,8 +1,8 @@
 -- The base law between the lines.
 use Rattle.std.proofs.Common.{ℕ, ◌+◌, List, arith}
 use Rattle.wasi_world.specs.declared.outcome.WasiSocketsCtx.{WasiSocketsCtx}
-use Rattle.wasi_host.specs.declared.machine.Machine.{Machine}
-use Rattle.wasi_host.specs.Machine.{first_state}
+use Rattle.host_store.specs.declared.machine.Machine.{Machine}
+use Rattle.host_store.specs.Machine.{first_state}
 use Rattle.wasi_steps.specs.declared.step.Step.{Step}
 use Rattle.wasi_records.specs.Udp.{udp_side}
 use Rattle.wasi_walks.proofs.walks.Here.{older_unused}

@@ -3,10 +3,10 @@ use Rattle.std.specs.Prelude.{◌≡◌, ◌⊎◌, ℕ, zero, suc, ◌==◌, �
 use Rattle.std.proofs.Common.{ap, eqb-true, inl, inr, subst, sym, ◌∙◌}
 use Rattle.wasi_world.specs.Operation.{End, Item, Operation, Waits, Done, Refused}
 use Rattle.wasi_records.specs.Binding.{left_of}
-use Rattle.wasi_host.specs.declared.beside.Beside.{Beside}
-use Rattle.wasi_host.specs.declared.beside.BesideCall.{BesideCall}
-use Rattle.wasi_host.specs.Beside.{beside_as, beside_in, beside_put, beside_with, beside_without}
-use Rattle.wasi_host.specs.SocketDatagrams.{has_datagram, is_datagram_of}
+use Rattle.host_store.specs.declared.beside.Beside.{Beside}
+use Rattle.host_store.specs.declared.beside.BesideCall.{BesideCall}
+use Rattle.host_store.specs.Beside.{beside_as, beside_in, beside_put, beside_with, beside_without}
+use Rattle.host_store.specs.Beside.{has_datagram, is_datagram_of}
 use Rattle.wasi_walks.specs.Licence.{Has}
 use Rattle.wasi_walks.proofs.Lists.{has_split}
 use Rattle.wasi_walks.proofs.walks.Moves.{datagram_begun, datagram_polled}

@@ -7,8 +7,8 @@ use Rattle.wasi_records.specs.declared.udp.OpenUdp.{OpenUdp}
 use Rattle.wasi_records.specs.declared.udp.UdpRecord.{UdpRecord}
 use Rattle.wasi_records.specs.Numbered.{record_gone}
 use Rattle.wasi_records.specs.Records.{tcp2_at, tcp2_of, udp2_at, udp2_of, udp2_put}
-use Rattle.wasi_host.specs.declared.store.StandingCall.{StandingCall}
-use Rattle.wasi_host.specs.SocketDatagrams.{is_udp_held}
+use Rattle.host_store.specs.declared.store.StandingCall.{StandingCall}
+use Rattle.host_udp.specs.SocketDatagrams.{is_udp_held}
 use Rattle.wasi_world.specs.declared.ids.OpId.{OpId}
 use Rattle.wasi_walks.proofs.GoneLists.{stays_there}
 use Rattle.wasi_walks.proofs.Places.{put_stays, put_still, tcp_sort, udp_sort}

@@ -8,19 +8,20 @@ use Rattle.wasi_records.specs.declared.socket.TcpRecord.{TcpRecord}
 use Rattle.wasi_records.specs.declared.udp.OpenUdp.{OpenUdp}
 use Rattle.wasi_records.specs.declared.udp.UdpRecord.{UdpRecord}
 use Rattle.wasi_records.specs.Records.{open_of, tcp2_at, udp2_at, udp2_of}
-use Rattle.wasi_host.specs.declared.beside.Beside.{Beside}
-use Rattle.wasi_host.specs.declared.beside.BesideCall.{BesideCall}
-use Rattle.wasi_host.specs.declared.beside.BesideCall.TheVariants.{Connect, Resolve, Send, Receive}
-use Rattle.wasi_host.specs.declared.kind.ConnectionEnd.{ConnectionEnd}
-use Rattle.wasi_host.specs.declared.kind.Kind.{Kind}
-use Rattle.wasi_host.specs.declared.kind.Kind.TheVariants.{Incoming, Input, Listen3, Lookup, Outgoing, Output, PlainInput, PlainOutput, Result3, Tcp2, Tcp3, Udp2, Udp3}
-use Rattle.wasi_host.specs.declared.kind.PlainInput.TheVariants as plain_input
-use Rattle.wasi_host.specs.declared.kind.PlainOutput.TheVariants as plain_output
-use Rattle.wasi_host.specs.declared.store.StandingCall.{StandingCall}
-use Rattle.wasi_host.specs.Beside.{beside_of}
-use Rattle.wasi_host.specs.Kinds.{HandleTable, kind_at}
-use Rattle.wasi_host.specs.SocketDatagrams.{has_datagram, held_by, is_datagram_of, is_udp_held}
-use Rattle.wasi_host.specs.Standing.{call_place}
+use Rattle.host_store.specs.declared.beside.Beside.{Beside}
+use Rattle.host_store.specs.declared.beside.BesideCall.{BesideCall}
+use Rattle.host_store.specs.declared.beside.BesideCall.TheVariants.{Connect, Resolve, Send, Receive}
+use Rattle.host_store.specs.declared.kind.ConnectionEnd.{ConnectionEnd}
+use Rattle.host_store.specs.declared.kind.Kind.{Kind}
+use Rattle.host_store.specs.declared.kind.Kind.TheVariants.{Incoming, Input, Listen3, Lookup, Outgoing, Output, PlainInput, PlainOutput, Result3, Tcp2, Tcp3, Udp2, Udp3}
+use Rattle.host_store.specs.declared.kind.PlainInput.TheVariants as plain_input
+use Rattle.host_store.specs.declared.kind.PlainOutput.TheVariants as plain_output
+use Rattle.host_store.specs.declared.store.StandingCall.{StandingCall}
+use Rattle.host_store.specs.Beside.{beside_of}
+use Rattle.host_store.specs.Kinds.{HandleTable, kind_at}
+use Rattle.host_store.specs.Beside.{has_datagram, is_datagram_of}
+use Rattle.host_udp.specs.SocketDatagrams.{held_by, is_udp_held}
+use Rattle.host_store.specs.Standing.{call_place}
 use Rattle.wasi_walks.specs.Licence.{Has}
 use Rattle.wasi_walks.proofs.Places.{input_sort, lookup_sort, output_sort, slot_sort, tcp_sort, udp_sort}
 use Rattle.wasi_walks.proofs.Slots.{slot_of}

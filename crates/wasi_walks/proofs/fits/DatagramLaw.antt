@@ -22,17 +22,17 @@ use Rattle.wasi_records.specs.Names.{own_of}
 use Rattle.wasi_records.specs.Records.{open_of, udp2_at}
 use Rattle.wasi_records.specs.Slots.{slot_pushed}
 use Rattle.wasi_records.specs.Udp.{udp_create_left, without_udp_socket}
-use Rattle.wasi_host.specs.declared.beside.Beside.{Beside}
-use Rattle.wasi_host.specs.declared.beside.BesideCall.{BesideCall}
-use Rattle.wasi_host.specs.declared.beside.BesideCall.TheVariants.{Connect, Resolve, Send, Receive}
-use Rattle.wasi_host.specs.declared.kind.Kind.{Kind}
-use Rattle.wasi_host.specs.declared.kind.Kind.TheVariants.{Incoming, Input, Outgoing, Output, Udp2, Udp3}
-use Rattle.wasi_host.specs.declared.store.StandingCall.{StandingCall}
-use Rattle.wasi_host.specs.Beside.{beside_as, beside_of}
-use Rattle.wasi_host.specs.Kinds.{kind_at}
-use Rattle.wasi_host.specs.Resolves.{begun_lookup}
-use Rattle.wasi_host.specs.SocketDatagrams.{has_datagram, is_datagram_of}
-use Rattle.wasi_host.specs.Standing.{call_place}
+use Rattle.host_store.specs.declared.beside.Beside.{Beside}
+use Rattle.host_store.specs.declared.beside.BesideCall.{BesideCall}
+use Rattle.host_store.specs.declared.beside.BesideCall.TheVariants.{Connect, Resolve, Send, Receive}
+use Rattle.host_store.specs.declared.kind.Kind.{Kind}
+use Rattle.host_store.specs.declared.kind.Kind.TheVariants.{Incoming, Input, Outgoing, Output, Udp2, Udp3}
+use Rattle.host_store.specs.declared.store.StandingCall.{StandingCall}
+use Rattle.host_store.specs.Beside.{beside_as, beside_of}
+use Rattle.host_store.specs.Kinds.{kind_at}
+use Rattle.host_lookups.specs.Resolves.{begun_lookup}
+use Rattle.host_store.specs.Beside.{has_datagram, is_datagram_of}
+use Rattle.host_store.specs.Standing.{call_place}
 use Rattle.wasi_steps.specs.declared.step.Step.{Step}
 use Rattle.wasi_walks.specs.Licence.{Has}
 use Rattle.wasi_walks.proofs.Words.{with_handle, with_writer}

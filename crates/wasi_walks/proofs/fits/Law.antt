@@ -27,7 +27,7 @@ use Rattle.wasi_tcp.specs.Accept as accept
 use Rattle.wasi_tcp.specs.Listen as listen
 use Rattle.wasi_walks.specs.Waiting as binding
 use Rattle.wasi_records.specs.Records.{tcp2_at, tcp2_of, tcp2_put, tcp2_pushed, udp2_at, udp2_of, udp2_put, udp2_pushed}
-use Rattle.wasi_host.specs.SocketDatagrams.{is_udp_held}
+use Rattle.host_udp.specs.SocketDatagrams.{is_udp_held}
 use Rattle.wasi_walks.proofs.GoneLists.{was_there}
 use Rattle.wasi_records.specs.declared.name_lookup.LookupOp.{LookupOp}
 use Rattle.wasi_records.specs.declared.udp.OpenUdp.{OpenUdp}

@@ -1,6 +1,6 @@
 -- Between the lines each record fits.
-use Rattle.wasi_host.specs.declared.machine.Machine.{Machine}
-use Rattle.wasi_host.specs.Machine.{first_state}
+use Rattle.host_store.specs.declared.machine.Machine.{Machine}
+use Rattle.host_store.specs.Machine.{first_state}
 use Rattle.wasi_walks.proofs.walks.Moves.{Own}
 use Rattle.wasi_walks.proofs.walks.States.{Starts, Over}
 use Rattle.wasi_walks.proofs.fits.Law.{Fit}

@@ -16,7 +16,7 @@ use Rattle.wasi_records.specs.declared.records.Record.{Record}
 use Rattle.wasi_records.specs.declared.tcp_binding.InProgress.{InProgress}
 use Rattle.wasi_records.specs.declared.tcp_listening.Listening.{Listening}
 use Rattle.wasi_records.specs.declared.socket.TcpRecord.{TcpRecord}
-use Rattle.wasi_host.specs.declared.store.StandingCall.{StandingCall}
+use Rattle.host_store.specs.declared.store.StandingCall.{StandingCall}
 use Rattle.wasi_udp.specs.Receive.{IsReceive}
 use Rattle.wasi_udp.specs.Send.{IsSend}
 use Rattle.wasi_walks.specs.Waiting.{IsRestOfBind, IsRestOfUdpConnect}

@@ -8,11 +8,11 @@ use Rattle.wasi_world.specs.declared.asks.Polled.TheVariants as polled
 use Rattle.wasi_world.specs.declared.call.Entry.{Entry}
 use Rattle.wasi_world.specs.declared.outcome.WasiSocketsCtx.{WasiSocketsCtx}
 use Rattle.wasi_records.specs.Names.{own_of}
-use Rattle.wasi_host.specs.declared.beside.Beside.{Beside}
-use Rattle.wasi_host.specs.declared.beside.BesideCall.{BesideCall}
-use Rattle.wasi_host.specs.declared.beside.BesideCall.TheVariants.{Connect, Resolve, Send, Receive}
-use Rattle.wasi_host.specs.Beside.{beside_in, beside_with, beside_without}
-use Rattle.wasi_host.specs.Resolves.{begun_lookup}
+use Rattle.host_store.specs.declared.beside.Beside.{Beside}
+use Rattle.host_store.specs.declared.beside.BesideCall.{BesideCall}
+use Rattle.host_store.specs.declared.beside.BesideCall.TheVariants.{Connect, Resolve, Send, Receive}
+use Rattle.host_store.specs.Beside.{beside_in, beside_with, beside_without}
+use Rattle.host_lookups.specs.Resolves.{begun_lookup}
 use Rattle.wasi_steps.specs.declared.step.Step.{Step}
 use Rattle.wasi_walks.proofs.BesideLists.{replaced, with_replaced}
 use Rattle.wasi_walks.proofs.licence.DatagramFrames.{receive_more, send_more}

@@ -5,10 +5,10 @@ use Rattle.wasi_udp.specs.Send.{at_remote, send_start, send_to}
 use Rattle.wasi_records.specs.Binding.{left_of}
 use Rattle.wasi_records.specs.declared.udp.OpenUdp.{OpenUdp}
 use Rattle.wasi_records.specs.declared.udp.UdpRecord.{UdpRecord}
-use Rattle.wasi_host.specs.declared.beside.Beside.{Beside}
-use Rattle.wasi_host.specs.declared.beside.BesideCall.{BesideCall}
-use Rattle.wasi_host.specs.declared.beside.BesideCall.TheVariants.{Send, Receive}
-use Rattle.wasi_host.specs.Beside.{beside_as, beside_of}
+use Rattle.host_store.specs.declared.beside.Beside.{Beside}
+use Rattle.host_store.specs.declared.beside.BesideCall.{BesideCall}
+use Rattle.host_store.specs.declared.beside.BesideCall.TheVariants.{Send, Receive}
+use Rattle.host_store.specs.Beside.{beside_as, beside_of}
 use Rattle.wasi_walks.specs.Licence.{IsReceive, IsSendOf, Receives, UdpCreated}
 use Rattle.wasi_walks.proofs.BesideLists.{found_has}
 use Rattle.wasi_walks.proofs.fits.Datagrams.{Datagrams, DatagramOn, FitBeside}

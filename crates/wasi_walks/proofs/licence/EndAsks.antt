@@ -3,7 +3,7 @@ use Rattle.wasi_walks.proofs.Words.{Allows, Entry, IsMarkedWith, List, Some, Ste
 use Rattle.wasi_walks.proofs.Words.{inl, kind_at, make_asks, own_of, side_at, step_at, subst, sym, writer_side, ℕ, ◌≡◌}
 use Rattle.wasi_tcp.specs.Halves.{write_asks}
 use Rattle.wasi_records.specs.Records.{tcp2_at}
-use Rattle.wasi_host.specs.declared.kind.Kind.TheVariants.{Result3, Tcp3}
+use Rattle.host_store.specs.declared.kind.Kind.TheVariants.{Result3, Tcp3}
 use Rattle.wasi_walks.proofs.walks.Here.{MakesEnds}
 use Rattle.wasi_walks.proofs.walks.Moves.{Found, Here, OfWriter, Past, Used, record_of}
 use Rattle.wasi_walks.proofs.licence.Line.{Licensed, names_record, remade, spent}

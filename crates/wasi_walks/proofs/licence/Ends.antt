@@ -8,8 +8,8 @@ use Rattle.wasi_records.specs.Records.{tcp2_at, udp2_at}
 use Rattle.wasi_records.specs.Slots.{slot_pushed}
 use Rattle.wasi_records.specs.declared.records.Record.{Record}
 use Rattle.wasi_records.specs.declared.slot.Slot.{Slot}
-use Rattle.wasi_host.specs.declared.kind.ConnectionEnd.{ConnectionEnd}
-use Rattle.wasi_host.specs.declared.kind.Kind.TheVariants.{Receive3, Send3}
+use Rattle.host_store.specs.declared.kind.ConnectionEnd.{ConnectionEnd}
+use Rattle.host_store.specs.declared.kind.Kind.TheVariants.{Receive3, Send3}
 use Rattle.wasi_world.specs.declared.call.HandleKind.TheVariants as name
 use Rattle.wasi_walks.proofs.PipeLists.{slot_push_same}
 use Rattle.wasi_walks.proofs.walks.Here.{IsEndAt, MakesEnd, MakesEnds, end_in, end_of}

@@ -11,7 +11,7 @@ use Rattle.wasi_world.specs.declared.outcome.TrapKind.TheVariants.{NotPermitted}
 use Rattle.wasi_world.specs.declared.outcome.WasiSocketsCtx.{WasiSocketsCtx}
 use Rattle.wasi_world.specs.Asks.{Asks, Give, Ask, AskWrite, bind}
 use Rattle.wasi_world.specs.Operation.{polls}
-use Rattle.wasi_host.specs.Machine.{first_state}
+use Rattle.host_store.specs.Machine.{first_state}
 use Rattle.wasi_steps.specs.declared.guest_call.GuestCall.{GuestCall}
 use Rattle.wasi_steps.specs.declared.guest_call.GuestCall.TheVariants as guest
 use Rattle.wasi_steps.specs.declared.reply.Reply.{Reply}

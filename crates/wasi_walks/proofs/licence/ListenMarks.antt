@@ -13,8 +13,8 @@ use Rattle.wasi_walks.proofs.licence.Line.{AcceptsFor, IsAccept, Licensed, Makin
 use Rattle.wasi_walks.proofs.licence.Marks.{made_fine, new_names}
 use Rattle.wasi_walks.proofs.licence.UdpMarks.{mark_fine}
 use Rattle.wasi_walks.proofs.licence.Unbound.{MayAskSo}
-use Rattle.wasi_host.specs.Kinds.{tcp3_of}
-use Rattle.wasi_host.specs.declared.kind.Kind.TheVariants.{Listen3, Tcp3}
+use Rattle.host_store.specs.Kinds.{tcp3_of}
+use Rattle.host_store.specs.declared.kind.Kind.TheVariants.{Listen3, Tcp3}
 use Rattle.wasi_records.specs.Records.{tcp2_at}
 use Rattle.wasi_world.specs.declared.call.HandleKind.TheVariants as name
 

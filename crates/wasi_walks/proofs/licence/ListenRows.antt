@@ -9,7 +9,7 @@ use Rattle.wasi_walks.proofs.licence.Runs.{whole_licensed}
 use Rattle.wasi_walks.proofs.licence.Rows.{bind_log, bind_script, allowed, local_80}
 use Rattle.wasi_walks.proofs.licence.Refused.{local_81, of_each, at_line}
 use Rattle.wasi_world.specs.declared.call.HandleKind.TheVariants as kind
-use Rattle.wasi_host.specs.declared.kind.Kind.TheVariants as slot
+use Rattle.host_store.specs.declared.kind.Kind.TheVariants as slot
 use Rattle.wasi_records.specs.declared.records.Record.TheVariants as rec
 
 abbrev peer : ℕ → IpSocketAddress

@@ -11,10 +11,10 @@ use Rattle.wasi_walks.proofs.licence.Asked.{asked_fine, spares}
 use Rattle.wasi_walks.proofs.licence.States.{state_beside}
 use Rattle.std.specs.Prelude.{Ok}
 use Rattle.wasi_world.specs.Typed.{told_names}
-use Rattle.wasi_host.specs.declared.beside.Beside.{Beside}
-use Rattle.wasi_host.specs.declared.beside.BesideCall.TheVariants.{Resolve}
-use Rattle.wasi_host.specs.Beside.{beside_as, beside_of}
-use Rattle.wasi_host.specs.Resolves.{begun_lookup}
+use Rattle.host_store.specs.declared.beside.Beside.{Beside}
+use Rattle.host_store.specs.declared.beside.BesideCall.TheVariants.{Resolve}
+use Rattle.host_store.specs.Beside.{beside_as, beside_of}
+use Rattle.host_lookups.specs.Resolves.{begun_lookup}
 use Rattle.wasi_records.specs.Records.{lookup_at}
 use Rattle.wasi_records.specs.declared.name_lookup.Lookup.{Lookup}
 use Rattle.wasi_records.specs.declared.name_lookup.LookupOp.{LookupOp}

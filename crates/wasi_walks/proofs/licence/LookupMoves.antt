@@ -4,7 +4,7 @@ use Rattle.wasi_walks.proofs.Words.{Entry, HandleTable, Kind, List, Machine, Non
 use Rattle.std.specs.Prelude.{IsSome, is_some}
 use Rattle.wasi_walks.proofs.GoneLists.{stays_there, was_there}
 use Rattle.wasi_walks.proofs.owners.Owned.{NoneOf, Owned, named_by, none_named, tcp_names, udp_names}
-use Rattle.wasi_host.specs.GivingBack.{given_back}
+use Rattle.host_store.specs.GivingBack.{given_back}
 use Rattle.wasi_records.specs.Numbered.{record_gone}
 use Rattle.wasi_records.specs.Records.{lookup_of, tcp2_at, tcp2_of, udp2_at, udp2_of}
 use Rattle.wasi_records.specs.declared.udp.UdpRecord.{UdpRecord}

@@ -8,7 +8,7 @@ use Rattle.wasi_steps.specs.Reply.{bytes_fields, pair_fields}
 use Rattle.wasi_records.specs.Ends.{take_receive_end}
 use Rattle.wasi_records.specs.declared.slot.Slot.TheVariants.{Unfilled}
 use Rattle.wasi_records.specs.declared.records.Record.TheVariants as rec
-use Rattle.wasi_host.specs.declared.kind.Kind.TheVariants as slot
+use Rattle.host_store.specs.declared.kind.Kind.TheVariants as slot
 use Rattle.wasi_world.specs.declared.call.HandleKind.TheVariants as kind
 use Rattle.wasi_walks.specs.Licence.{UdpCreated}
 use Rattle.wasi_walks.proofs.licence.Runs.{whole_licensed}

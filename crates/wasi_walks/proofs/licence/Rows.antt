@@ -7,10 +7,10 @@ use Rattle.wasi_machine.specs.Machine.{first_ids}
 use Rattle.wasi_tcp.specs.declared.bind.BindStage.TheVariants.{Check}
 use Rattle.wasi_walks.proofs.licence.Longer.{licensed}
 use Rattle.wasi_walks.proofs.licence.Runs.{whole_licensed}
-use Rattle.wasi_host.specs.declared.kind.Interface.TheVariants.{P2}
+use Rattle.host_store.specs.declared.kind.Interface.TheVariants.{P2}
 use Rattle.wasi_world.specs.declared.call.HandleKind.TheVariants as kind
 use Rattle.wasi_steps.specs.declared.reply.CodeWord.TheVariants as word
-use Rattle.wasi_host.specs.declared.kind.Kind.TheVariants as slot
+use Rattle.host_store.specs.declared.kind.Kind.TheVariants as slot
 use Rattle.wasi_records.specs.declared.records.Record.TheVariants as rec
 
 -- contexts that may use all

@@ -13,8 +13,8 @@ use Rattle.wasi_walks.proofs.licence.Fresh.{IsNew, next_is_new}
 use Rattle.wasi_walks.proofs.licence.Replies.{AskNoMore, Replied, allows_both, allows_each, each_may, none_no_more, replied_by, replied_longer, replied_more, replied_push, serves_keeps}
 use Rattle.std.specs.Prelude.{Bool, IsSome, true, false, if◌then◌else◌}
 use Rattle.wasi_walks.proofs.Words.{None, Option, Standing, GuestCall, Streams, WriteState, inr, nat_lt, step_at}
-use Rattle.wasi_host.specs.declared.beside.Beside.{Beside}
-use Rattle.wasi_host.specs.Machine.{output_at}
+use Rattle.host_store.specs.declared.beside.Beside.{Beside}
+use Rattle.host_store.specs.Machine.{output_at}
 use Rattle.wasi_streams.specs.Streams.{zeros}
 use Rattle.wasi_walks.proofs.walks.Writes.{may as may_write, may_at, may_begin, may_in, may_of}
 use Rattle.wasi_walks.proofs.walks.States.{Starts}

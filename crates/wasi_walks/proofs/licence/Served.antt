@@ -3,7 +3,7 @@ use Rattle.std.specs.Prelude.{Bool, IsSome, true, false}
 use Rattle.std.proofs.lemmas.Bool.{eqb-true, eqb-false}
 use Rattle.wasi_walks.proofs.Words.{Fits, allows_if, allows_then, asks_while, ◌==◌}
 use Rattle.wasi_host.specs.Pending.{resume_beside, resume_call}
-use Rattle.wasi_host.specs.Standing.{call_of}
+use Rattle.host_store.specs.Standing.{call_of}
 use Rattle.wasi_machine.specs.Machine.{is_held_up, resumed_reply, step_asks}
 use Rattle.wasi_steps.specs.declared.reply.Field.{Field}
 use Rattle.wasi_walks.specs.Licence.{HandsAs, IsNone, IsSendOf}
@@ -13,10 +13,10 @@ use Rattle.wasi_walks.proofs.received.Parted.{IsCounted}
 use Rattle.wasi_walks.proofs.received.OneDone.{call_is_other}
 use Rattle.wasi_walks.proofs.received.Replies.{IsQuietAt, Lates, step_replies}
 use Rattle.wasi_walks.proofs.Words.{Allows, BeganBy, Call, Entry, Has, List, Machine, None, OpId, Option, Reply, Some, Standing, GuestCall, Step, Told, WasiSocketsCtx, [], allows_keep, allows_weaker, ap, arith, entry, inl, inr, machine_asks, own_of, refl, step_at, subst, sym, ℕ, ⊤, ◌+◌, ◌++◌, ◌<◌, ◌∙◌, ◌∷◌, ◌≡◌, ◌⊎◌}
-use Rattle.wasi_host.specs.declared.beside.Beside.{Beside}
-use Rattle.wasi_host.specs.declared.beside.BesideCall.{BesideCall}
-use Rattle.wasi_host.specs.declared.beside.BesideCall.TheVariants.{Connect, Receive, Resolve, Send}
-use Rattle.wasi_host.specs.Beside.{beside_in, beside_of}
+use Rattle.host_store.specs.declared.beside.Beside.{Beside}
+use Rattle.host_store.specs.declared.beside.BesideCall.{BesideCall}
+use Rattle.host_store.specs.declared.beside.BesideCall.TheVariants.{Connect, Receive, Resolve, Send}
+use Rattle.host_store.specs.Beside.{beside_in, beside_of}
 use Rattle.wasi_walks.specs.Licence.{HandsOne, IsReceive, MayReply, served_by, serves}
 use Rattle.wasi_walks.proofs.BesideLists.{found_has}
 use Rattle.wasi_walks.proofs.claims.Law.{Base, begins_on_two, on_two, on_two_along}

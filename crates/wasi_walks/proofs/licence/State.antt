@@ -8,19 +8,19 @@ use Rattle.wasi_walks.proofs.Words.{WriteState, Yes, [], call_place, entry, kind
 use Rattle.wasi_walks.proofs.Words.{◌+◌, ◌∷◌, ◌≡◌}
 use Rattle.wasi_walks.proofs.walks.Moves.{Interface, ListensFor, MakesUdpFor, record_of, udp_record_of, sending_in, receiving_in, IsOfHandle, CallKind, IsCall, kind_of}
 use Rattle.wasi_walks.proofs.licence.Lookups.{LookupIsFine, LookupsAreFine, NamesNone}
-use Rattle.wasi_host.specs.Blocking.{blocking_handles}
-use Rattle.wasi_host.specs.Kinds.{name_of}
+use Rattle.host_streams.specs.Blocking.{blocking_handles}
+use Rattle.host_store.specs.Kinds.{name_of}
 use Rattle.wasi_tcp.specs.declared.writer.WriteError.{WriteError}
 use Rattle.wasi_world.specs.Operation.{End, Refused}
 use Rattle.wasi_walks.specs.Licence.{handles_of, IsReceive, IsMarkedAs, WriteFailed, IsRemote, IsSendOf, IsStreamOf, IsUdpBindTo, IsUdpConnectTo, MakesTcp, MakesUdp, MaySendOut, Receives, WasDisconnected}
 use Rattle.std.specs.Prelude.{Bool, IsSome, slice_get, ◌⊎◌}
 use Rattle.std.specs.List.{AllByRecursion}
-use Rattle.wasi_host.specs.declared.beside.Beside.{Beside}
-use Rattle.wasi_host.specs.declared.beside.BesideCall.{BesideCall}
-use Rattle.wasi_host.specs.declared.beside.BesideCall.TheVariants as beside
+use Rattle.host_store.specs.declared.beside.Beside.{Beside}
+use Rattle.host_store.specs.declared.beside.BesideCall.{BesideCall}
+use Rattle.host_store.specs.declared.beside.BesideCall.TheVariants as beside
 use Rattle.wasi_walks.proofs.walks.Here.{end_place}
 use Rattle.wasi_world.specs.declared.datagram.OutgoingDatagram.{OutgoingDatagram}
-use Rattle.wasi_host.specs.declared.store.StandingCall.{StandingCall}
+use Rattle.host_store.specs.declared.store.StandingCall.{StandingCall}
 use Rattle.wasi_udp.specs.Receive.{IsLeftOfReceive}
 use Rattle.wasi_addr.specs.declared.address.SocketAddrUse.TheVariants as use_of
 use Rattle.wasi_world.specs.Operation.{UdpBind, UdpConnect, UdpWritable, Send}

@@ -4,12 +4,12 @@ use Rattle.wasi_walks.proofs.Words.{Told, WasiSocketsCtx, [], arith, entry, inl,
 use Rattle.wasi_walks.proofs.Words.{with_record, with_socket, without_handle, ℕ, ◌++◌, ◌∷◌, ◌≡◌}
 use Rattle.wasi_table.proofs.Tables.{value_without}
 use Rattle.wasi_records.specs.Records.{tcp2_at, tcp2_pushed, udp2_at, udp2_pushed}
-use Rattle.wasi_host.specs.Kinds.{name_of}
+use Rattle.host_store.specs.Kinds.{name_of}
 use Rattle.wasi_records.specs.Udp.{udp_side}
 use Rattle.wasi_walks.specs.Licence.{IsMarkedAs}
-use Rattle.wasi_host.specs.Machine.{with_room}
-use Rattle.wasi_host.specs.UdpCalls.{with_udp}
-use Rattle.wasi_host.specs.declared.beside.Beside.{Beside}
+use Rattle.host_tcp.specs.Creates.{with_room}
+use Rattle.host_store.specs.Store.{with_udp}
+use Rattle.host_store.specs.declared.beside.Beside.{Beside}
 use Rattle.wasi_jobs.specs.declared.job.HostJob.{HostJob}
 use Rattle.wasi_records.specs.declared.records.Record.TheVariants.{Tcp, Udp}
 use Rattle.wasi_records.specs.declared.udp.UdpRecord.{UdpRecord}

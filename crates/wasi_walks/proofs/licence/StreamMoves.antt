@@ -5,9 +5,9 @@ use Rattle.wasi_walks.proofs.Words.{WasiSocketsCtx, ap, handles_of, kind_at, own
 use Rattle.wasi_walks.proofs.Words.{subst, sym, ℕ, ◌∙◌, ◌≡◌}
 use Rattle.wasi_world.specs.declared.ids.Ids.{Ids}
 use Rattle.wasi_world.specs.declared.ids.OpId.{OpId}
-use Rattle.wasi_host.specs.Blocking.{blocking_handles}
+use Rattle.host_streams.specs.Blocking.{blocking_handles}
 use Rattle.wasi_records.specs.Records.{tcp2_at}
-use Rattle.wasi_host.specs.declared.blocking.BlockingCall.{BlockingCall}
+use Rattle.host_store.specs.declared.store.BlockingCall.{BlockingCall}
 use Rattle.wasi_walks.proofs.walks.Moves.{CallKind, Calls, Found, Here, IsCall, kind_of, record_of}
 use Rattle.wasi_walks.proofs.licence.State.{MakesCalls}
 use Rattle.wasi_walks.proofs.licence.Frames.{same_record}

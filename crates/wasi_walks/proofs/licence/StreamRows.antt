@@ -4,10 +4,10 @@ use Rattle.wasi_walks.proofs.Words.{Call, Entry, Give, HandleKind, IsLicensed, I
 use Rattle.wasi_walks.proofs.Words.{IpSocketAddress, ReadState, Socket, SocketAddrUse, TcpState, WriteState, inl, inr, new_record, new_socket, no_fields, number_fields, own_of, polls, refl, run, true, wildcard, with_state, ℕ, ⊤, ◌++◌, ◌∷◌, ◌≡◌, ◌⊎◌}
 use Rattle.wasi_addr.specs.declared.address.ShutdownType.TheVariants.{Receive}
 use Rattle.wasi_addr.specs.declared.code.ErrorCode.TheVariants.{ConnectionReset}
-use Rattle.wasi_host.specs.declared.kind.Kind.TheVariants as slot
-use Rattle.wasi_host.specs.declared.kind.PlainInput.TheVariants as plain_input
-use Rattle.wasi_host.specs.declared.kind.PlainOutput.TheVariants as plain_output
-use Rattle.wasi_host.specs.declared.kind.Watched.TheVariants as watched
+use Rattle.host_store.specs.declared.kind.Kind.TheVariants as slot
+use Rattle.host_store.specs.declared.kind.PlainInput.TheVariants as plain_input
+use Rattle.host_store.specs.declared.kind.PlainOutput.TheVariants as plain_output
+use Rattle.host_store.specs.declared.kind.Watched.TheVariants as watched
 use Rattle.wasi_records.specs.declared.records.Record.TheVariants as rec
 use Rattle.wasi_steps.specs.Reply.{bytes_fields, pair_fields}
 use Rattle.wasi_steps.specs.declared.reply.CodeWord.TheVariants as word

@@ -9,10 +9,10 @@ use Rattle.wasi_walks.proofs.walks.Moves.{MakesUdpFor, record_of, udp_record_of,
 use Rattle.wasi_walks.proofs.licence.Lookups.{NamesNone}
 use Rattle.wasi_walks.proofs.licence.State.{NamesEndIf, NamesIf, NamesUdp, NamesUdpIf, HandleIsFine, UdpBindLeft, UdpUnchecked, UdpChecked, UdpOver, Names, UdpMade, UdpBindIsFine, UdpProgressIsFine, UdpIsFine, LineNames, OfTcp, OfUdp, IfOp, StreamsStand, CreateStands, StandingIsFine}
 use Rattle.wasi_walks.proofs.licence.DatagramFrames.{free_more, udp_connect_more, send_more, receive_more}
-use Rattle.wasi_host.specs.declared.store.StandingCall.{StandingCall}
+use Rattle.host_store.specs.declared.store.StandingCall.{StandingCall}
 use Rattle.wasi_walks.proofs.licence.Frames.{Goes, began_more, marked_as_more, marked_more, names_on, works_more, IsMadeWith, made_put, names_record_more}
 use Rattle.wasi_records.specs.Records.{tcp2_at, tcp2_put, tcp2_pushed, udp2_at, udp2_put, udp2_pushed}
-use Rattle.wasi_host.specs.Kinds.{name_of}
+use Rattle.host_store.specs.Kinds.{name_of}
 use Rattle.wasi_records.specs.Udp.{udp_side}
 use Rattle.wasi_records.specs.declared.records.Record.{Record}
 use Rattle.wasi_records.specs.declared.records.Record.TheVariants.{Tcp, Udp}

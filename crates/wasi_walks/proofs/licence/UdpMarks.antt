@@ -17,11 +17,11 @@ use Rattle.wasi_walks.proofs.licence.Marks.{socket_touch, unmarked_made}
 use Rattle.wasi_walks.proofs.licence.UdpMoves.{names_part, open_at_place}
 use Rattle.wasi_world.specs.declared.call.HandleKind.TheVariants as name
 use Rattle.wasi_records.specs.Udp.{udp_side, with_udp_inner}
-use Rattle.wasi_host.specs.declared.kind.Kind.TheVariants.{Udp2, Incoming, Outgoing}
-use Rattle.wasi_host.specs.declared.kind.Kind.{Kind}
-use Rattle.wasi_host.specs.Kinds.{kind_at, name_of, udp_kind, udp_of}
+use Rattle.host_store.specs.declared.kind.Kind.TheVariants.{Udp2, Incoming, Outgoing}
+use Rattle.host_store.specs.declared.kind.Kind.{Kind}
+use Rattle.host_store.specs.Kinds.{kind_at, name_of, udp_kind, udp_of}
 use Rattle.wasi_records.specs.Records.{udp2_at}
-use Rattle.wasi_host.specs.UdpCreates.{udp_side_at}
+use Rattle.host_udp.specs.UdpCreates.{udp_side_at}
 use Rattle.wasi_records.specs.declared.records.Record.{Record}
 use Rattle.wasi_world.specs.declared.call.HandleKind.{HandleKind}
 use Rattle.std.specs.Prelude.{◌⊎◌}

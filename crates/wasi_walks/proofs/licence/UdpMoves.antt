@@ -24,8 +24,8 @@ use Rattle.wasi_udp.specs.Send.{is_sendable, where_to, send_to, send_left, send_
 use Rattle.wasi_udp.specs.Connect as udp_connect
 use Rattle.wasi_udp.specs.Receive.{IsLeftOfReceive, receive_left, receive_first, receive_start}
 use Rattle.wasi_udp.specs.Shape.{Socket}
-use Rattle.wasi_host.specs.Standing.{standing_as}
-use Rattle.wasi_host.specs.declared.store.StandingCall.{StandingCall}
+use Rattle.host_store.specs.Standing.{standing_as}
+use Rattle.host_store.specs.declared.store.StandingCall.{StandingCall}
 use Rattle.wasi_records.specs.Records.{tcp2_at, tcp2_of, udp2_at, udp2_of}
 use Rattle.wasi_records.specs.Udp.{udp_side, with_udp_progress}
 use Rattle.wasi_records.specs.declared.records.Record.{Record}

@@ -15,16 +15,16 @@ use Rattle.wasi_udp.specs.Bind as udp_bind
 use Rattle.wasi_udp.specs.Create.{create_cancel_asks, new_create, after_create as udp_after_create}
 use Rattle.wasi_udp.specs.Receive.{receive_start, wanting}
 use Rattle.wasi_udp.specs.Send.{at_remote, send_start}
-use Rattle.wasi_host.specs.declared.beside.Beside.{Beside}
-use Rattle.wasi_host.specs.declared.beside.BesideCall.{BesideCall}
-use Rattle.wasi_host.specs.declared.beside.BesideCall.TheVariants.{Send, Receive}
+use Rattle.host_store.specs.declared.beside.Beside.{Beside}
+use Rattle.host_store.specs.declared.beside.BesideCall.{BesideCall}
+use Rattle.host_store.specs.declared.beside.BesideCall.TheVariants.{Send, Receive}
 use Rattle.wasi_records.specs.declared.udp.OpenUdp.{OpenUdp}
 use Rattle.wasi_walks.proofs.BesideLists.{found_has}
 use Rattle.wasi_walks.proofs.fits.Datagrams.{FitBeside}
 use Rattle.wasi_walks.proofs.fits.UdpFits.{begun_receive, begun_send}
 use Rattle.wasi_walks.proofs.walks.Moves.{PollsDatagram, PollsReceive, PollsSend, StartsDatagram, StartsReceive, StartsSend, datagram_begun, datagram_polled, with_beside}
-use Rattle.wasi_host.specs.Kinds.{udp_kind}
-use Rattle.wasi_host.specs.declared.kind.Kind.TheVariants.{Listen3, Result3, Tcp3}
+use Rattle.host_store.specs.Kinds.{udp_kind}
+use Rattle.host_store.specs.declared.kind.Kind.TheVariants.{Listen3, Result3, Tcp3}
 use Rattle.wasi_records.specs.Records.{tcp2_at}
 use Rattle.wasi_records.specs.Udp.{udp_side}
 use Rattle.wasi_records.specs.declared.udp.UdpRecord.{UdpRecord}

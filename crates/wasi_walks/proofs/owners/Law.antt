@@ -6,11 +6,11 @@ use Rattle.wasi_walks.proofs.Words.{with_listening, without_handle, Begins, Bool
 use Rattle.wasi_walks.proofs.Words.{[], ap, arith, inl, inr, kind_at, length, new_record, own_of, poll_asks, refl, slice_get, subst, sym, table_parent, watched_by, with_handle, with_writer, ℕ, ⊤, ◌++◌, ◌∷◌, ◌∙◌, ◌≡◌, ◌⊎◌}
 use Rattle.wasi_table.specs.Table.{Live}
 use Rattle.wasi_udp.specs.Create.{after_create as udp_after_create}
-use Rattle.wasi_host.specs.Kinds.{tcp3_of, udp_kind}
+use Rattle.host_store.specs.Kinds.{tcp3_of, udp_kind}
 use Rattle.wasi_records.specs.Records.{tcp2_at, tcp2_put, tcp2_pushed, udp2_of}
-use Rattle.wasi_host.specs.declared.kind.Kind.TheVariants.{Result3, Incoming, Listen3, Lookup, Outgoing, PlainInput, PlainOutput, Tcp3, Udp2, Udp3}
-use Rattle.wasi_host.specs.declared.kind.PlainInput.TheVariants as plain_input
-use Rattle.wasi_host.specs.declared.kind.PlainOutput.TheVariants as plain_output
+use Rattle.host_store.specs.declared.kind.Kind.TheVariants.{Result3, Incoming, Listen3, Lookup, Outgoing, PlainInput, PlainOutput, Tcp3, Udp2, Udp3}
+use Rattle.host_store.specs.declared.kind.PlainInput.TheVariants as plain_input
+use Rattle.host_store.specs.declared.kind.PlainOutput.TheVariants as plain_output
 use Rattle.wasi_records.specs.declared.records.Record.{Record}
 use Rattle.wasi_records.specs.declared.udp.OpenUdp.{OpenUdp}
 use Rattle.wasi_records.specs.declared.udp.UdpRecord.{UdpRecord}

@@ -2,11 +2,11 @@
 use Rattle.std.proofs.Common.{◌≡◌, inl, inr, ℕ, List, [], ◌∷◌, ◌++◌, Option, Some, None, ap, refl, subst, sym, slice_get, slice_set, ◌∙◌}
 use Rattle.std.specs.Prelude.{Bool, true, false, is_some, not, ◌||◌, IsSome, ⊤}
 use Rattle.wasi_records.specs.Holding.{has_end, has_listener, is_held}
-use Rattle.wasi_host.specs.declared.kind.Kind.{Kind}
-use Rattle.wasi_host.specs.declared.kind.Kind.TheVariants.{Listen3, Tcp2, Tcp3, Udp2, Udp3, Input, Output, Incoming, Outgoing, Lookup, PlainInput, PlainOutput, Result3}
+use Rattle.host_store.specs.declared.kind.Kind.{Kind}
+use Rattle.host_store.specs.declared.kind.Kind.TheVariants.{Listen3, Tcp2, Tcp3, Udp2, Udp3, Input, Output, Incoming, Outgoing, Lookup, PlainInput, PlainOutput, Result3}
 use Rattle.wasi_records.specs.Slots.{slot_of}
-use Rattle.wasi_host.specs.declared.kind.PlainInput.TheVariants as plain_input
-use Rattle.wasi_host.specs.declared.kind.PlainOutput.TheVariants as plain_output
+use Rattle.host_store.specs.declared.kind.PlainInput.TheVariants as plain_input
+use Rattle.host_store.specs.declared.kind.PlainOutput.TheVariants as plain_output
 use Rattle.wasi_records.specs.Records.{tcp2_of, udp2_of, open_of, lookup_of, input_pipe_of, output_pipe_of}
 use Rattle.wasi_records.specs.declared.name_lookup.LookupOp.{LookupOp}
 use Rattle.wasi_records.specs.declared.records.Record.{Record}

@@ -2,11 +2,11 @@
 use Rattle.wasi_walks.proofs.Words.{Has, Listening, StandingCall, false, true, End, ErrorValue, HandleTable, Item, Kind, List, Network, None, Operation, Option, Pollable, Some, GuestCall, Step, TcpRecord, Watched}
 use Rattle.wasi_walks.proofs.Words.{ap, inl, inr, kind_at, refl, slice_get, subst, sym, table_parent, with_handle, ℕ, ⊤, ◌∙◌, ◌≡◌, ◌⊎◌}
 use Rattle.wasi_table.specs.Table.{Live}
-use Rattle.wasi_host.specs.Kinds.{udp_of}
+use Rattle.host_store.specs.Kinds.{udp_of}
 use Rattle.wasi_records.specs.Records.{tcp2_at, udp2_of}
-use Rattle.wasi_host.specs.declared.kind.Kind.TheVariants.{Send3, Receive3, Listen3, PlainInput, PlainOutput, Tcp3, Udp2}
-use Rattle.wasi_host.specs.declared.kind.PlainInput.TheVariants as plain_input
-use Rattle.wasi_host.specs.declared.kind.PlainOutput.TheVariants as plain_output
+use Rattle.host_store.specs.declared.kind.Kind.TheVariants.{Send3, Receive3, Listen3, PlainInput, PlainOutput, Tcp3, Udp2}
+use Rattle.host_store.specs.declared.kind.PlainInput.TheVariants as plain_input
+use Rattle.host_store.specs.declared.kind.PlainOutput.TheVariants as plain_output
 use Rattle.wasi_records.specs.declared.records.Record.{Record}
 use Rattle.wasi_records.specs.declared.udp.UdpRecord.{UdpRecord}
 use Rattle.wasi_walks.proofs.Slots.{SlotOf, slot_of}

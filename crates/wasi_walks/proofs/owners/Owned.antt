@@ -1,12 +1,12 @@
 -- What is live of each record: one handle is of it, and its streams and what watches them are under that.
 use Rattle.wasi_walks.proofs.Words.{HandleTable, Input, Kind, List, None, Option, Output, Pollable, Some, Standing, StandingCall, Tcp2, Watched, ap, arith, inl, inr, kind_at, refl, slice_get, subst, sym, table_parent, true, watched_by, with_handle, without_handle, ℕ, ⊤, ◌∙◌, ◌≡◌, ◌≤◌, ◌⊎◌}
 use Rattle.wasi_table.specs.Table.{Live}
-use Rattle.wasi_host.specs.Kinds.{has_no_child}
-use Rattle.wasi_host.specs.Machine.{first_state}
-use Rattle.wasi_host.specs.declared.kind.Kind.TheVariants.{Incoming, Listen3, Lookup, Outgoing, PlainInput, PlainOutput, Result3, Tcp3, Udp2, Udp3}
+use Rattle.host_store.specs.Kinds.{has_no_child}
+use Rattle.host_store.specs.Machine.{first_state}
+use Rattle.host_store.specs.declared.kind.Kind.TheVariants.{Incoming, Listen3, Lookup, Outgoing, PlainInput, PlainOutput, Result3, Tcp3, Udp2, Udp3}
 use Rattle.wasi_records.specs.Slots.{slot_at}
-use Rattle.wasi_host.specs.declared.kind.PlainInput.TheVariants as plain_input
-use Rattle.wasi_host.specs.declared.kind.PlainOutput.TheVariants as plain_output
+use Rattle.host_store.specs.declared.kind.PlainInput.TheVariants as plain_input
+use Rattle.host_store.specs.declared.kind.PlainOutput.TheVariants as plain_output
 use Rattle.wasi_records.specs.declared.records.Record.{Record}
 use Rattle.wasi_walks.specs.Licence.{Has}
 use Rattle.wasi_walks.proofs.Lists.{has_front, value_front}

@@ -10,10 +10,10 @@ use Rattle.wasi_tcp.specs.Listen.{IsListen}
 use Rattle.wasi_udp.specs.Create.{create_cancel_asks, after_create as udp_after_create}
 use Rattle.wasi_udp.specs.Receive.{wanting}
 use Rattle.wasi_udp.specs.Send.{at_remote}
-use Rattle.wasi_host.specs.declared.beside.Beside.{Beside}
-use Rattle.wasi_host.specs.declared.beside.BesideCall.{BesideCall}
-use Rattle.wasi_host.specs.declared.kind.Kind.TheVariants.{Listen3, Result3, Tcp3}
-use Rattle.wasi_host.specs.Beside.{beside_as, beside_in, beside_with, beside_without}
+use Rattle.host_store.specs.declared.beside.Beside.{Beside}
+use Rattle.host_store.specs.declared.beside.BesideCall.{BesideCall}
+use Rattle.host_store.specs.declared.kind.Kind.TheVariants.{Listen3, Result3, Tcp3}
+use Rattle.host_store.specs.Beside.{beside_as, beside_in, beside_with, beside_without}
 use Rattle.wasi_records.specs.declared.udp.OpenUdp.{OpenUdp}
 use Rattle.wasi_records.specs.declared.udp.UdpRecord.{UdpRecord}
 use Rattle.wasi_walks.specs.Licence.{IsReceive}
@@ -42,8 +42,8 @@ use Rattle.wasi_world.specs.declared.asks.Polled.TheVariants as polled
 use Rattle.wasi_world.specs.Typed.{told_names}
 use Rattle.wasi_records.specs.Binding.{left_of}
 use Rattle.wasi_records.specs.Records.{tcp2_at, tcp2_pushed}
-use Rattle.wasi_host.specs.declared.beside.BesideCall.TheVariants.{Resolve}
-use Rattle.wasi_host.specs.Resolves.{begun_lookup}
+use Rattle.host_store.specs.declared.beside.BesideCall.TheVariants.{Resolve}
+use Rattle.host_lookups.specs.Resolves.{begun_lookup}
 use Rattle.wasi_udp.specs.Create.{Create}
 use Rattle.wasi_udp.specs.Socket.{after_local as udp_after_local, after_peer}
 use Rattle.wasi_walks.proofs.received.Polls.{AreSilent, Elsewhere, NoName, silent_poll}

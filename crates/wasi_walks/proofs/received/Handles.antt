@@ -4,7 +4,7 @@ use Rattle.wasi_walks.proofs.Words.{End, Err, ErrorCode, HandleTable, Item, Kind
 use Rattle.wasi_walks.proofs.Words.{ap, arith, inl, inr, kind_at, refl, standing_as, subst, sym, table_parent, with_handle, without_handle, ℕ, ⊤, ◌<◌, ◌≤◌, ◌≡◌, ◌∙◌, ◌⊎◌}
 use Rattle.wasi_table.proofs.Tables.{value_without}
 use Rattle.wasi_udp.specs.Create.{Create}
-use Rattle.wasi_host.specs.Kinds.{udp_of}
+use Rattle.host_store.specs.Kinds.{udp_of}
 use Rattle.wasi_walks.proofs.Lists.{value_split}
 use Rattle.wasi_walks.proofs.walks.Moves as walk
 use Rattle.wasi_walks.proofs.walks.Moves.{GoesOn, Held, Here, Made, Move, Past, ToStream, made_so, udp_begun}

@@ -3,15 +3,15 @@ use Rattle.wasi_walks.proofs.Words.{⊤, Allows, Bool, Entry, Err, IsMarkedWith,
 use Rattle.wasi_walks.proofs.Words.{GuestCall, Step, Stop, Trap, WasiSocketsCtx, allows_keep, allows_then, allows_weaker, arith, asks_while, length, true, false}
 use Rattle.wasi_walks.proofs.Words.{first_ids, inl, inr, kind_at, machine_asks, refl, subst, sym, ℕ, ◌∙◌, ◌≡◌, ◌≤◌, ◌⊎◌}
 use Rattle.wasi_world.specs.declared.datagram.IncomingDatagram.{IncomingDatagram}
-use Rattle.wasi_host.specs.DatagramCalls.{begins_receive, receive_datagrams_at, with_receive}
+use Rattle.host_udp.specs.DatagramCalls.{begins_receive, receive_datagrams_at, with_receive}
 use Rattle.wasi_records.specs.Stops.{Code}
-use Rattle.wasi_host.specs.Machine.{incoming_at}
-use Rattle.wasi_host.specs.Jobs.{with_job}
-use Rattle.wasi_host.specs.UdpCalls.{with_open_udp}
+use Rattle.host_store.specs.Machine.{incoming_at}
+use Rattle.host_store.specs.Jobs.{with_job}
+use Rattle.host_store.specs.Store.{with_open_udp}
 use Rattle.wasi_jobs.specs.declared.job.HostJob.TheVariants.{Receive}
 use Rattle.wasi_records.specs.Receiving.{receive_datagrams_asks}
 use Rattle.wasi_records.specs.Records.{open_at, udp2_at, udp2_put}
-use Rattle.wasi_host.specs.Store.{Records}
+use Rattle.host_store.specs.Store.{Records}
 use Rattle.wasi_records.specs.Udp.{udp_side}
 use Rattle.wasi_records.specs.declared.records.Record.{Record}
 use Rattle.wasi_records.specs.declared.udp.OpenUdp.{OpenUdp}
@@ -37,7 +37,7 @@ use Rattle.wasi_walks.proofs.received.Handles.{AreUnder}
 use Rattle.wasi_walks.proofs.received.Marks.{AreEarly, Early, Since, are_early_later, are_early_more, early_more}
 use Rattle.wasi_walks.proofs.received.Since.{Inv, begins_since, since_along}
 use Rattle.wasi_walks.proofs.walks.Moves.{Past}
-use Rattle.wasi_host.specs.declared.kind.Kind.TheVariants.{Incoming}
+use Rattle.host_store.specs.declared.kind.Kind.TheVariants.{Incoming}
 
 one_each : (line : ℕ) (m : Machine) → BaseBetween line m → OneEach m.store.records
 one_each line m b i k o p e f s = b.named.udps.one p.inner.side i k (UdpRecord.Open o) (UdpRecord.Open p) e f s refl

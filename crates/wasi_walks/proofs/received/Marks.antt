@@ -2,7 +2,7 @@
 use Rattle.wasi_walks.proofs.Words.{Call, Entry, HandleTable, IsSide, Kind, List, OpId, Option, Some, GuestCall, Step, Told, [], append-nil, append_assoc, ap, arith}
 use Rattle.wasi_walks.proofs.Words.{entry, inl, inr, kind_at, length, length-append, name_of, subst, sym, with_handle, without_handle, ℕ, ⊤, ◌+◌, ◌++◌, ◌∙◌, ◌∷◌, ◌≡◌, ◌≤◌, ◌⊎◌}
 use Rattle.wasi_table.proofs.Tables.{value_without}
-use Rattle.wasi_host.specs.declared.kind.Kind.TheVariants.{Incoming, Input, Output}
+use Rattle.host_store.specs.declared.kind.Kind.TheVariants.{Incoming, Input, Output}
 use Rattle.wasi_records.specs.declared.records.Record.{Record}
 use Rattle.wasi_walks.proofs.Lists.{has_last}
 use Rattle.wasi_walks.proofs.licence.Frames.{side_more}

@@ -12,24 +12,24 @@ use Rattle.wasi_records.specs.Records.{open_at, udp2_at}
 use Rattle.wasi_records.specs.Stops.{Code, Stop, Trap}
 use Rattle.wasi_records.specs.declared.udp.OpenUdp.{OpenUdp}
 use Rattle.wasi_records.specs.declared.udp.UdpRecord.{UdpRecord}
-use Rattle.wasi_host.specs.declared.beside.Beside.{Beside}
-use Rattle.wasi_host.specs.declared.beside.BesideCall.{BesideCall}
-use Rattle.wasi_host.specs.declared.beside.BesideCall.TheVariants.{Connect, Receive, Resolve, Send}
-use Rattle.wasi_host.specs.BaseStops.{BaseStop, renamed}
-use Rattle.wasi_host.specs.Beside.{beside_in, beside_of}
-use Rattle.wasi_host.specs.Block.{Call, after_call, give as gives_all, goes_on, or_trap}
-use Rattle.wasi_host.specs.Lines.{storing}
-use Rattle.wasi_host.specs.Machine.{udp3_at, with_store}
-use Rattle.wasi_host.specs.declared.kind.Interface.TheVariants.{P3}
+use Rattle.host_store.specs.declared.beside.Beside.{Beside}
+use Rattle.host_store.specs.declared.beside.BesideCall.{BesideCall}
+use Rattle.host_store.specs.declared.beside.BesideCall.TheVariants.{Connect, Receive, Resolve, Send}
+use Rattle.host_store.specs.BaseStops.{BaseStop, renamed}
+use Rattle.host_store.specs.Beside.{beside_in, beside_of}
+use Rattle.host_store.specs.Block.{Call, after_call, give as gives_all, goes_on, or_trap}
+use Rattle.host_store.specs.Lines.{storing}
+use Rattle.host_store.specs.Machine.{udp3_at, with_store}
+use Rattle.host_store.specs.declared.kind.Interface.TheVariants.{P3}
 use Rattle.wasi_host.specs.declared.pending.Outcome.{Outcome}
 use Rattle.wasi_world.specs.declared.outcome.TrapKind.TheVariants.{NoSuchHandle}
 use Rattle.wasi_records.specs.Udp.{udp_side}
 use Rattle.wasi_p3.specs.Stops.{P3Stop}
 use Rattle.wasi_walks.proofs.licence.UdpFrames.{same_udp}
 use Rattle.wasi_host.specs.Pending.{answered_on, datagram_outcome, go_on_beside, resume_beside, resume_call, resumed}
-use Rattle.wasi_host.specs.SocketDatagrams.{receive_of, rereceive_of}
-use Rattle.wasi_host.specs.Standing.{call_of}
-use Rattle.wasi_host.specs.Store.{Records}
+use Rattle.host_udp.specs.SocketDatagrams.{receive_of, rereceive_of}
+use Rattle.host_store.specs.Standing.{call_of}
+use Rattle.host_store.specs.Store.{Records}
 use Rattle.wasi_machine.specs.Machine.{is_held_up, p3_answer_reply, resumed_reply, step_asks}
 use Rattle.wasi_p3.specs.Udp as udp3
 use Rattle.wasi_steps.specs.declared.reply.Field.{Field}

@@ -27,15 +27,16 @@ use Rattle.wasi_records.specs.Names.{own_of}
 use Rattle.wasi_records.specs.Records.{open_at, udp2_at}
 use Rattle.wasi_records.specs.Stops.{Code}
 use Rattle.wasi_records.specs.Udp.{close_udp_asks}
-use Rattle.wasi_host.specs.declared.beside.Beside.{Beside}
-use Rattle.wasi_host.specs.declared.beside.BesideCall.{BesideCall}
-use Rattle.wasi_host.specs.declared.beside.BesideCall.TheVariants.{Receive}
-use Rattle.wasi_host.specs.BaseStops.{BaseStop}
-use Rattle.wasi_host.specs.Block.{Call, Does, after_call, goes_on, or_stop, or_trap}
-use Rattle.wasi_host.specs.Beside.{beside_as, beside_in, beside_with, beside_without, unbeside}
-use Rattle.wasi_host.specs.SocketDatagrams.{Begun, as_base, asked_so, begun_so, drop_datagram, is_udp_held, polled, polled_so, receive_begins, receive_of, receive_polls, received_answer, rereceive_of, udp_goes}
-use Rattle.wasi_host.specs.Store.{Records}
-use Rattle.wasi_host.specs.UdpCalls.{release_udp_at, udp_left, with_open_udp}
+use Rattle.host_store.specs.declared.beside.Beside.{Beside}
+use Rattle.host_store.specs.declared.beside.BesideCall.{BesideCall}
+use Rattle.host_store.specs.declared.beside.BesideCall.TheVariants.{Receive}
+use Rattle.host_store.specs.BaseStops.{BaseStop}
+use Rattle.host_store.specs.Block.{Call, Does, after_call, goes_on, or_stop, or_trap}
+use Rattle.host_store.specs.Beside.{beside_as, beside_in, beside_with, beside_without, unbeside}
+use Rattle.host_udp.specs.SocketDatagrams.{Begun, as_base, asked_so, begun_so, drop_datagram, is_udp_held, polled, polled_so, receive_begins, receive_of, receive_polls, received_answer, rereceive_of, udp_goes}
+use Rattle.host_store.specs.Store.{Records}
+use Rattle.host_udp.specs.UdpCalls.{release_udp_at, udp_left}
+use Rattle.host_store.specs.Store.{with_open_udp}
 use Rattle.wasi_walks.specs.Licence.{IsMaker}
 use Rattle.wasi_walks.proofs.BesideLists.{push_at, with_at, without_at}
 use Rattle.wasi_walks.proofs.Words.{entry}

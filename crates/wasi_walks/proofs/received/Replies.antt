@@ -2,9 +2,9 @@
 use Rattle.wasi_walks.proofs.Words.{BeganBy, Reply, own_of, step_at, subst, sym, ⊤, Allows, Entry, Err, IsSide, List, Machine, None, Ok, OpId, Option, Result, Some, Standing, GuestCall, Step, Stop, Trap}
 use Rattle.wasi_walks.proofs.Words.{WasiSocketsCtx, allows_then, asks_while, first_ids, kind_at, machine_asks, refl, ℕ, ◌≡◌}
 use Rattle.wasi_world.specs.declared.datagram.IncomingDatagram.{IncomingDatagram}
-use Rattle.wasi_host.specs.DatagramCalls.{receive_datagrams_at}
+use Rattle.host_udp.specs.DatagramCalls.{receive_datagrams_at}
 use Rattle.wasi_records.specs.Stops.{Code}
-use Rattle.wasi_host.specs.Machine.{incoming_at}
+use Rattle.host_store.specs.Machine.{incoming_at}
 use Rattle.wasi_records.specs.Receiving.{receive_datagrams_asks}
 use Rattle.wasi_records.specs.Records.{open_at, udp2_at}
 use Rattle.wasi_records.specs.declared.udp.OpenUdp.{OpenUdp}

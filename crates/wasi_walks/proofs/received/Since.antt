@@ -1,6 +1,6 @@
 -- The law that what the incoming streams of a network socket hold was received after the marks of their handles.
 use Rattle.wasi_walks.proofs.walks.Asked.{MarksResult, WritesOnce}
-use Rattle.wasi_host.specs.declared.kind.Kind.TheVariants.{Result3}
+use Rattle.host_store.specs.declared.kind.Kind.TheVariants.{Result3}
 use Rattle.wasi_walks.proofs.walks.Asked.{Asked, Questions, SetsBacklog, Learns, Closes, MarksOne, AsksCreate, MarksAccepted, MarksListener, MarksPlain, Polls, Turns, GivesUp, UdpQuestions, UdpDisconnects, UdpLearns, UdpPeers, UdpCloses, UdpBegins, MarksUdp, MarksStream, MarksError, UdpGivesUp, Resolves, Looks}
 use Rattle.wasi_walks.proofs.walks.Asked.{BeginsDatagram, PollsBeside, ResolvesBeside, LooksBeside}
 use Rattle.wasi_walks.proofs.walks.Moves.{datagram_begun, datagram_polled, with_beside}
@@ -8,11 +8,11 @@ use Rattle.wasi_walks.proofs.Words.{made_to, Allows, Asks, Call, Entry, Err, Err
 use Rattle.wasi_walks.proofs.Words.{allows_if, allows_keep, allows_then, allows_weaker, ap, arith, bind, entry, give_up_asks, inl, inr, is_full, kind_at, length, length-append, make_asks, name_of, new_asks, new_record, own_of, poll_asks}
 use Rattle.wasi_walks.proofs.Words.{refl, side_of, subst, sym, told_done, turn_asks, with_handle, with_listening, with_writer, ℕ, ◌++◌, ◌∷◌, ◌≡◌, ◌⊎◌}
 use Rattle.wasi_udp.specs.Create.{create_cancel_asks, after_create as udp_after_create}
-use Rattle.wasi_host.specs.Kinds.{udp_kind, udp_of}
+use Rattle.host_store.specs.Kinds.{udp_kind, udp_of}
 use Rattle.wasi_records.specs.Records.{tcp2_pushed, udp2_at}
 use Rattle.wasi_records.specs.Udp.{udp_side}
-use Rattle.wasi_host.specs.UdpCreates.{udp_side_at}
-use Rattle.wasi_host.specs.declared.kind.Kind.TheVariants.{Incoming}
+use Rattle.host_udp.specs.UdpCreates.{udp_side_at}
+use Rattle.host_store.specs.declared.kind.Kind.TheVariants.{Incoming}
 use Rattle.wasi_records.specs.declared.records.Record.{Record}
 use Rattle.wasi_records.specs.declared.udp.OpenUdp.{OpenUdp}
 use Rattle.wasi_records.specs.declared.udp.UdpRecord.{UdpRecord}
@@ -28,7 +28,7 @@ use Rattle.wasi_walks.proofs.received.Polls.{NoName}
 use Rattle.wasi_walks.proofs.received.Silent.{new_silent}
 use Rattle.wasi_walks.proofs.received.State.{IsHeld, Late, OneEach, one_late, put_later, push_tcp, put_tcp, same_or_not}
 use Rattle.wasi_walks.proofs.walks.Law.{BeginsWrites, Law, Rests, Walks, begins_by}
-use Rattle.wasi_host.specs.declared.kind.Kind.TheVariants.{Listen3, Tcp3}
+use Rattle.host_store.specs.declared.kind.Kind.TheVariants.{Listen3, Tcp3}
 use Rattle.wasi_walks.proofs.walks.Moves.{Interface, P2, P3, tcp_kind, HasNewStream, Here, Made, MarksNext, Past, ToSend, Used, made_so, put, put_udp, udp_begun}
 use Rattle.wasi_walks.proofs.Places.{put_again, udp_sort}
 

@@ -4,14 +4,14 @@ use Rattle.wasi_tcp.specs.Halves.{write_asks}
 use Rattle.wasi_records.specs.Ends.{ends_of}
 use Rattle.wasi_walks.proofs.PipeLists.{slot_push_same}
 use Rattle.wasi_walks.proofs.walks.Asked.{MarksResult, WritesOnce}
-use Rattle.wasi_host.specs.declared.kind.Kind.TheVariants.{Result3}
+use Rattle.host_store.specs.declared.kind.Kind.TheVariants.{Result3}
 use Rattle.wasi_walks.proofs.remotes.State.{StreamsBy}
 use Rattle.wasi_walks.proofs.walks.Law.{BeginsWrites, Rests, begins_by}
 use Rattle.wasi_walks.proofs.walks.Asked.{Asked, Questions, SetsBacklog, Learns, Closes, MarksOne, AsksCreate, MarksAccepted, MarksListener, MarksPlain, Polls, Turns, GivesUp, UdpQuestions, UdpDisconnects, UdpLearns, UdpPeers, UdpCloses, UdpBegins, MarksUdp, MarksStream, MarksError, UdpGivesUp, Resolves, Looks}
 use Rattle.wasi_walks.proofs.walks.Asked.{BeginsDatagram, PollsBeside, ResolvesBeside, LooksBeside}
 use Rattle.wasi_udp.specs.Receive.{receive_start, wanting}
 use Rattle.wasi_udp.specs.Send.{at_remote, send_start}
-use Rattle.wasi_host.specs.declared.beside.BesideCall.{BesideCall}
+use Rattle.host_store.specs.declared.beside.BesideCall.{BesideCall}
 use Rattle.wasi_walks.proofs.BesideLists.{found_has}
 use Rattle.wasi_walks.proofs.fits.DatagramPolls.{wanted_left}
 use Rattle.wasi_walks.proofs.fits.Datagrams.{FitBeside}
@@ -32,7 +32,7 @@ use Rattle.wasi_udp.specs.Create.{Create, create_cancel_asks, new_create, after_
 use Rattle.wasi_udp.specs.Shape.{Socket as UdpSocket}
 use Rattle.wasi_udp.specs.Socket.{after_local as udp_after_local}
 use Rattle.wasi_records.specs.Records.{tcp2_put, udp2_put}
-use Rattle.wasi_host.specs.Kinds.{udp_kind}
+use Rattle.host_store.specs.Kinds.{udp_kind}
 use Rattle.wasi_records.specs.Udp.{udp_side, with_udp_inner}
 use Rattle.wasi_records.specs.declared.records.Record.{Record}
 use Rattle.wasi_records.specs.declared.udp.OpenUdp.{OpenUdp}
@@ -42,7 +42,7 @@ use Rattle.wasi_walks.proofs.claims.Law.{Named, Base}
 use Rattle.wasi_walks.proofs.fits.Polls.{Anything}
 use Rattle.wasi_walks.proofs.fits.UdpFits.{kept_op}
 use Rattle.wasi_walks.proofs.walks.Moves as walk
-use Rattle.wasi_host.specs.declared.kind.Kind.TheVariants.{Listen3, Tcp3}
+use Rattle.host_store.specs.declared.kind.Kind.TheVariants.{Listen3, Tcp3}
 use Rattle.wasi_walks.proofs.walks.Moves.{Interface, tcp_kind, closed_record, udp_begun, opened_by, part_of, Found, Here, IsOn, IsQuestionOf, IsUdpQuestionOf, Move, OfReader, OfSocket, OfWriter, UdpPlain, faulted, joined, joined_plain, receiving_in}
 use Rattle.wasi_walks.proofs.remotes.Held.{peer_keeps, polls_keep}
 use Rattle.wasi_walks.proofs.remotes.Polls.{AreSilent, NoPeer, Unpeered, silent_poll}

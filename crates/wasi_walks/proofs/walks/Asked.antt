@@ -7,23 +7,23 @@ use Rattle.std.specs.Prelude.{Ok, take}
 use Rattle.wasi_world.specs.declared.outcome.Answer.{Answer}
 use Rattle.wasi_tcp.specs.Halves.{write_asks}
 use Rattle.wasi_tcp.specs.declared.halves.TcpSendStream.{TcpSendStream}
-use Rattle.wasi_host.specs.declared.kind.ConnectionEnd.{ConnectionEnd}
+use Rattle.host_store.specs.declared.kind.ConnectionEnd.{ConnectionEnd}
 use Rattle.wasi_world.specs.Asks.{one}
 use Rattle.wasi_walks.proofs.walks.Moves.{Interface, P2, P3, tcp_kind, Calls, Creates, CreatesUdp, Found, FoundUdp, HasNewStream, Held, Here, IsCreated, IsKnown, IsOn, IsQuestionOf}
 use Rattle.wasi_world.specs.Typed.{told_names}
 use Rattle.wasi_walks.proofs.walks.Moves.{StartsDatagram, PollsDatagram, datagram_begun, datagram_polled, Faulted, IsUdpQuestionOf, Joined, ListenerGoes, LooksUp, Marks, MarksNext, NoStart, OfStreams, Past, Releases, ReleasesUdp}
 use Rattle.wasi_walks.proofs.walks.Moves.{SameSockets, ToListen, ToResult, MakesEnds, ToSend, Unused, Used, closed_record, made_so, part_of, put, put_udp, record_of, udp_begun, with_beside, with_records}
 use Rattle.wasi_walks.proofs.walks.Failures.{Fails}
-use Rattle.wasi_host.specs.declared.beside.Beside.{Beside}
-use Rattle.wasi_host.specs.declared.beside.BesideCall.{BesideCall}
-use Rattle.wasi_host.specs.declared.beside.BesideCall.TheVariants.{Resolve}
-use Rattle.wasi_host.specs.Beside.{beside_as, beside_of}
-use Rattle.wasi_host.specs.Resolves.{begun_lookup}
-use Rattle.wasi_host.specs.Kinds.{kind_at, send3_of, tcp3_of, udp_kind, udp_of}
-use Rattle.wasi_host.specs.declared.kind.Kind.TheVariants.{Listen3, Result3, Tcp3}
+use Rattle.host_store.specs.declared.beside.Beside.{Beside}
+use Rattle.host_store.specs.declared.beside.BesideCall.{BesideCall}
+use Rattle.host_store.specs.declared.beside.BesideCall.TheVariants.{Resolve}
+use Rattle.host_store.specs.Beside.{beside_as, beside_of}
+use Rattle.host_lookups.specs.Resolves.{begun_lookup}
+use Rattle.host_store.specs.Kinds.{kind_at, send3_of, tcp3_of, udp_kind, udp_of}
+use Rattle.host_store.specs.declared.kind.Kind.TheVariants.{Listen3, Result3, Tcp3}
 use Rattle.wasi_records.specs.Holding.{has_listener}
 use Rattle.wasi_walks.specs.Licence.{IsDisconnect}
-use Rattle.wasi_host.specs.UdpCreates.{udp_side_at}
+use Rattle.host_udp.specs.UdpCreates.{udp_side_at}
 use Rattle.wasi_records.specs.Records.{tcp2_at, udp2_at, lookup_at}
 use Rattle.wasi_records.specs.Udp.{udp_side, with_udp_inner}
 use Rattle.wasi_records.specs.declared.name_lookup.Lookup.TheVariants as lookup

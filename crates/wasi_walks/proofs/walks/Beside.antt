@@ -4,14 +4,14 @@ use Rattle.wasi_world.specs.declared.outcome.Answer.{Answer}
 use Rattle.wasi_world.specs.declared.outcome.WasiSocketsCtx.{WasiSocketsCtx}
 use Rattle.wasi_world.specs.Asks.{Give, bind}
 use Rattle.wasi_records.specs.Stops.{Stop}
-use Rattle.wasi_host.specs.declared.beside.Beside.{Beside}
-use Rattle.wasi_host.specs.declared.beside.BesideCall.{BesideCall}
-use Rattle.wasi_host.specs.declared.beside.BesideCall.TheVariants.{Connect, Resolve, Send, Receive}
-use Rattle.wasi_host.specs.declared.machine.Machine.{Machine}
+use Rattle.host_store.specs.declared.beside.Beside.{Beside}
+use Rattle.host_store.specs.declared.beside.BesideCall.{BesideCall}
+use Rattle.host_store.specs.declared.beside.BesideCall.TheVariants.{Connect, Resolve, Send, Receive}
+use Rattle.host_store.specs.declared.machine.Machine.{Machine}
 use Rattle.wasi_host.specs.declared.pending.Outcome.{Outcome}
-use Rattle.wasi_host.specs.Beside.{beside_of}
+use Rattle.host_store.specs.Beside.{beside_of}
 use Rattle.wasi_host.specs.Cancel.{beside_cancelled}
-use Rattle.wasi_host.specs.Machine.{with_store}
+use Rattle.host_store.specs.Machine.{with_store}
 use Rattle.wasi_host.specs.Pending.{go_on_beside, resume_beside, resumed}
 use Rattle.wasi_steps.specs.declared.step.Step.{Step}
 use Rattle.wasi_walks.proofs.walks.Connects.{reconnect_walks}

@@ -18,20 +18,23 @@ use Rattle.wasi_records.specs.Names.{own_of}
 use Rattle.wasi_records.specs.Records.{open_at, tcp2_at}
 use Rattle.wasi_records.specs.Stops.{Code, Trap}
 use Rattle.wasi_records.specs.Udp.{begin_udp_bind_asks, poll_udp_bind_asks, with_udp_progress}
-use Rattle.wasi_host.specs.declared.kind.Interface.{Interface}
-use Rattle.wasi_host.specs.declared.kind.Interface.TheVariants.{P2, P3}
-use Rattle.wasi_host.specs.declared.machine.Machine.{Machine}
-use Rattle.wasi_host.specs.declared.store.StandingCall.{StandingCall}
-use Rattle.wasi_host.specs.declared.store.StandingCall.TheVariants.{Bind, UdpBind}
-use Rattle.wasi_host.specs.BaseStops.{BaseStop, renamed}
-use Rattle.wasi_host.specs.Binds.{Answered, bind_told, binds, keeps, rebind_of, rebinds, stands_of, udp_bind_told, udp_binds, udp_rebind_of, udp_rebinds, udp_stands_of}
-use Rattle.wasi_host.specs.Binds.{bind_of, udp_bind_of}
-use Rattle.wasi_host.specs.Block.{Call, goes_on}
-use Rattle.wasi_host.specs.Kinds.{kind_at}
-use Rattle.wasi_host.specs.Machine.{tcp3_at, udp3_at}
-use Rattle.wasi_host.specs.Standing.{call_place}
-use Rattle.wasi_host.specs.Store.{with_socket}
-use Rattle.wasi_host.specs.UdpCalls.{with_open_udp}
+use Rattle.host_store.specs.declared.kind.Interface.{Interface}
+use Rattle.host_store.specs.declared.kind.Interface.TheVariants.{P2, P3}
+use Rattle.host_store.specs.declared.machine.Machine.{Machine}
+use Rattle.host_store.specs.declared.store.StandingCall.{StandingCall}
+use Rattle.host_store.specs.declared.store.StandingCall.TheVariants.{Bind, UdpBind}
+use Rattle.host_store.specs.BaseStops.{BaseStop, renamed}
+use Rattle.host_store.specs.Lines.{Answered, keeps}
+use Rattle.host_tcp.specs.Binds.{bind_told, binds, rebind_of, rebinds, stands_of}
+use Rattle.host_udp.specs.UdpBinds.{udp_bind_told, udp_binds, udp_rebind_of, udp_rebinds, udp_stands_of}
+use Rattle.host_tcp.specs.Binds.{bind_of}
+use Rattle.host_udp.specs.UdpBinds.{udp_bind_of}
+use Rattle.host_store.specs.Block.{Call, goes_on}
+use Rattle.host_store.specs.Kinds.{kind_at}
+use Rattle.host_store.specs.Machine.{tcp3_at, udp3_at}
+use Rattle.host_store.specs.Standing.{call_place}
+use Rattle.host_store.specs.Store.{with_socket}
+use Rattle.host_store.specs.Store.{with_open_udp}
 use Rattle.wasi_p3.specs.Tcp.{bind_to}
 use Rattle.wasi_p3.specs.Udp.{bind_to as udp_bind_to}
 use Rattle.wasi_machine.specs.Machine.{first_ids}

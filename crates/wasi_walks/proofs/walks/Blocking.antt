@@ -4,11 +4,11 @@ use Rattle.std.specs.Prelude.{◌==◌, ℕ, zero, suc, min, nat_lt, ⊤, ◌⊎
 use Rattle.wasi_streams.specs.Streams.{zeros}
 use Rattle.wasi_world.specs.declared.ids.Ids.{Ids}
 use Rattle.wasi_walks.proofs.Words.{Give, Machine, Pending, Ready, Step, WasiSocketsCtx, if◌then◌else◌, is_readable, is_writable, inl, inr, kind_at, refl, Answer, Stop, ap, sym, ◌≡◌}
-use Rattle.wasi_host.specs.Blocking.{Again, Blocked, blocking_flush_asks, blocking_handles, blocking_read_asks, blocking_skip_asks, blocking_splice_asks, blocking_splice_when, blocking_write_asks, blocking_zeroes_asks, finish_flushed, finish_write_asks, flush_begun, flush_checked, last_check_asks, last_checked, read_answer, read_looked, round_checked, round_written, skip_answer, skip_looked, splice_count, splice_given, splice_looked, splice_permitted, splice_written, waits_as, write_ended, write_rest_asks, write_rounds, write_when, zeroes_when}
-use Rattle.wasi_host.specs.CallStops.{CallStop, Closed, Failed, Traps}
+use Rattle.host_streams.specs.Blocking.{Again, Blocked, blocking_flush_asks, blocking_handles, blocking_read_asks, blocking_skip_asks, blocking_splice_asks, blocking_splice_when, blocking_write_asks, blocking_zeroes_asks, finish_flushed, finish_write_asks, flush_begun, flush_checked, last_check_asks, last_checked, read_answer, read_looked, round_checked, round_written, skip_answer, skip_looked, splice_count, splice_given, splice_looked, splice_permitted, splice_written, waits_as, write_ended, write_rest_asks, write_rounds, write_when, zeroes_when}
+use Rattle.host_store.specs.CallStops.{CallStop, Closed, Failed, Traps}
 use Rattle.wasi_host.specs.Pending.{blocked_outcome, gone_on, nothing_given, places_on, unblock_asks}
-use Rattle.wasi_host.specs.declared.blocking.BlockingCall.{BlockingCall}
-use Rattle.wasi_host.specs.declared.blocking.BlockingCall.TheVariants.{Read, Skip, Write, Finish, Flush, Splice, Block, Poll}
+use Rattle.host_store.specs.declared.store.BlockingCall.{BlockingCall}
+use Rattle.host_store.specs.declared.store.BlockingCall.TheVariants.{Read, Skip, Write, Finish, Flush, Splice, Block, Poll}
 use Rattle.wasi_host.specs.declared.pending.Outcome.{Outcome}
 use Rattle.wasi_host.specs.declared.pending.Outcome.TheVariants.{Bytes, Count}
 use Rattle.wasi_host.specs.declared.polling.Look.TheVariants.{Later}

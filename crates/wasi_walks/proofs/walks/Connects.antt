@@ -24,16 +24,16 @@ use Rattle.wasi_records.specs.Names.{own_of}
 use Rattle.wasi_records.specs.Records.{tcp2_at}
 use Rattle.wasi_records.specs.Sockets.{inner_answered, with_inner}
 use Rattle.wasi_records.specs.Stops.{Code}
-use Rattle.wasi_host.specs.declared.beside.BesideCall.TheVariants.{Connect}
-use Rattle.wasi_host.specs.declared.machine.Machine.{Machine}
-use Rattle.wasi_host.specs.BaseStops.{BaseStop, renamed}
-use Rattle.wasi_host.specs.Beside.{beside_as, beside_polled, besided}
-use Rattle.wasi_host.specs.Binds.{Answered}
-use Rattle.wasi_host.specs.Block.{Call, after_call, give as gives_all, last, need, or_trap, ◌>>◌}
-use Rattle.wasi_host.specs.Connects.{connect_begun, connect_in, connect_of, connects, reconnect_in, reconnect_of, reconnects}
-use Rattle.wasi_host.specs.Kinds.{kind_at}
-use Rattle.wasi_host.specs.Machine.{tcp3_at}
-use Rattle.wasi_host.specs.Store.{Records, with_socket}
+use Rattle.host_store.specs.declared.beside.BesideCall.TheVariants.{Connect}
+use Rattle.host_store.specs.declared.machine.Machine.{Machine}
+use Rattle.host_store.specs.BaseStops.{BaseStop, renamed}
+use Rattle.host_store.specs.Beside.{beside_as, beside_polled, besided}
+use Rattle.host_store.specs.Lines.{Answered}
+use Rattle.host_store.specs.Block.{Call, after_call, give as gives_all, last, need, or_trap, ◌>>◌}
+use Rattle.host_tcp.specs.Connects.{connect_begun, connect_in, connect_of, connects, reconnect_in, reconnect_of, reconnects}
+use Rattle.host_store.specs.Kinds.{kind_at}
+use Rattle.host_store.specs.Machine.{tcp3_at}
+use Rattle.host_store.specs.Store.{Records, with_socket}
 use Rattle.wasi_p3.specs.Tcp.{connect_to}
 use Rattle.wasi_steps.specs.declared.step.Step.{Step}
 use Rattle.wasi_steps.specs.Steps.{handles_of}

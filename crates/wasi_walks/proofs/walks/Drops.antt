@@ -20,8 +20,8 @@ use Rattle.wasi_walks.proofs.walks.Pipes.{drop_input_walks, drop_output_walks as
 use Rattle.wasi_walks.proofs.walks.SocketDatagrams.{drop_udp_walks}
 use Rattle.wasi_walks.proofs.walks.Udp.{release_udp_walks}
 use Rattle.wasi_walks.proofs.walks.Lookups.{drop_lookup_walks}
-use Rattle.wasi_host.specs.declared.kind.Kind.TheVariants.{Listen3, Receive3, Result3, Send3, Tcp3, Udp2, Udp3, PlainInput, PlainOutput, Incoming, Outgoing, Lookup}
-use Rattle.wasi_host.specs.Machine.{answered}
+use Rattle.host_store.specs.declared.kind.Kind.TheVariants.{Listen3, Receive3, Result3, Send3, Tcp3, Udp2, Udp3, PlainInput, PlainOutput, Incoming, Outgoing, Lookup}
+use Rattle.wasi_host.specs.HandleDrops.{answered}
 use Rattle.wasi_walks.proofs.walks.Receives.{drop_incoming_walks}
 use Rattle.wasi_walks.proofs.walks.Sends.{drop_outgoing_walks}
 use Rattle.wasi_walks.proofs.walks.Releases.{drop_output_walks, handle_goes_walks, listener_goes_walks, release_at_walks}

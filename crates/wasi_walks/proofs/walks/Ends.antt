@@ -12,13 +12,13 @@ use Rattle.wasi_records.specs.Holding.{is_held, let_go_asks}
 use Rattle.wasi_records.specs.Names.{own_of}
 use Rattle.wasi_records.specs.Records.{tcp2_at}
 use Rattle.wasi_records.specs.Slots.{StreamEnd, filled, slot_at}
-use Rattle.wasi_host.specs.declared.kind.ConnectionEnd.{ConnectionEnd}
-use Rattle.wasi_host.specs.declared.kind.Kind.TheVariants.{Result3}
-use Rattle.wasi_host.specs.declared.machine.Machine.{Machine}
-use Rattle.wasi_host.specs.Dropping.{left_so, let_go_at}
-use Rattle.wasi_host.specs.ConnectionEnds.{close_end, drop_slot, drop_slot_in, end_goes, fill, fill_in, let_go, open_by, open_in, shut_at}
-use Rattle.wasi_host.specs.Kinds.{has_no_child, kind_at}
-use Rattle.wasi_host.specs.Store.{Records, with_socket}
+use Rattle.host_store.specs.declared.kind.ConnectionEnd.{ConnectionEnd}
+use Rattle.host_store.specs.declared.kind.Kind.TheVariants.{Result3}
+use Rattle.host_store.specs.declared.machine.Machine.{Machine}
+use Rattle.host_tcp.specs.Dropping.{left_so, let_go_at}
+use Rattle.host_tcp.specs.ConnectionEnds.{close_end, drop_slot, drop_slot_in, end_goes, fill, fill_in, let_go, open_by, open_in, shut_at}
+use Rattle.host_store.specs.Kinds.{has_no_child, kind_at}
+use Rattle.host_store.specs.Store.{Records, with_socket}
 use Rattle.wasi_steps.specs.declared.step.Step.{Step}
 use Rattle.wasi_steps.specs.Steps.{handles_of}
 use Rattle.wasi_walks.specs.Licence.{Has}

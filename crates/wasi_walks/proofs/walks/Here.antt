@@ -7,21 +7,21 @@ use Rattle.wasi_records.specs.Datagrams.{has_streams}
 use Rattle.wasi_records.specs.Holding.{has_listener}
 use Rattle.wasi_records.specs.Receiving.{taken, with_receiving}
 use Rattle.wasi_records.specs.Records.{open_at, open_of, tcp2_at, udp2_at, lookup_at, input_pipe_at, output_pipe_at}
-use Rattle.wasi_host.specs.SocketDatagrams.{is_udp_held}
-use Rattle.wasi_host.specs.UdpCalls.{with_udp}
-use Rattle.wasi_host.specs.declared.beside.Beside.{Beside}
-pub use Rattle.wasi_host.specs.declared.kind.Interface.{Interface}
-pub use Rattle.wasi_host.specs.declared.kind.Interface.TheVariants.{P2, P3}
-use Rattle.wasi_host.specs.declared.kind.Kind.TheVariants.{Incoming, Listen3, Outgoing, Receive3, Result3, Send3, Tcp3, Udp2, Lookup, PlainInput, PlainOutput}
-use Rattle.wasi_host.specs.declared.kind.ConnectionEnd.{ConnectionEnd}
+use Rattle.host_udp.specs.SocketDatagrams.{is_udp_held}
+use Rattle.host_store.specs.Store.{with_udp}
+use Rattle.host_store.specs.declared.beside.Beside.{Beside}
+pub use Rattle.host_store.specs.declared.kind.Interface.{Interface}
+pub use Rattle.host_store.specs.declared.kind.Interface.TheVariants.{P2, P3}
+use Rattle.host_store.specs.declared.kind.Kind.TheVariants.{Incoming, Listen3, Outgoing, Receive3, Result3, Send3, Tcp3, Udp2, Lookup, PlainInput, PlainOutput}
+use Rattle.host_store.specs.declared.kind.ConnectionEnd.{ConnectionEnd}
 use Rattle.wasi_records.specs.Slots.{slot_at}
 use Rattle.wasi_records.specs.declared.slot.Slot.{Slot}
 use Rattle.wasi_records.specs.Udp.{udp_side}
 use Rattle.wasi_records.specs.declared.datagrams.Incoming.{Incoming as IncomingStream}
 use Rattle.memory_streams.specs.Plain.{Contents}
-use Rattle.wasi_host.specs.GivingBack.{given_back}
-use Rattle.wasi_host.specs.declared.kind.PlainInput.TheVariants as plain_input
-use Rattle.wasi_host.specs.declared.kind.PlainOutput.TheVariants as plain_output
+use Rattle.host_store.specs.GivingBack.{given_back}
+use Rattle.host_store.specs.declared.kind.PlainInput.TheVariants as plain_input
+use Rattle.host_store.specs.declared.kind.PlainOutput.TheVariants as plain_output
 use Rattle.wasi_records.specs.declared.name_lookup.Lookup.{Lookup as NameLookup}
 use Rattle.wasi_records.specs.declared.datagrams.Receiving.{Receiving}
 use Rattle.wasi_jobs.specs.declared.job.HostJob.{HostJob}

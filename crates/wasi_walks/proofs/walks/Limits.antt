@@ -11,7 +11,7 @@ use Rattle.wasi_records.specs.declared.socket.TcpRecord.{TcpRecord}
 use Rattle.wasi_records.specs.declared.socket.Streams.{Streams}
 use Rattle.wasi_tcp.specs.declared.writer.WriteState.{WriteState}
 use Rattle.wasi_tcp.specs.Bounds.{held}
-use Rattle.wasi_host.specs.Limits.{limit_in, limit_or, left, most_of}
+use Rattle.host_store.specs.Limits.{limit_in, limit_or, left, most_of}
 use Rattle.wasi_records.specs.Halves.{with_writer}
 use Rattle.wasi_walks.proofs.walks.Here.{Here, Found, put}
 

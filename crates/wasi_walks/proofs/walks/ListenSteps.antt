@@ -6,8 +6,8 @@ use Rattle.wasi_walks.proofs.Words.{first_ids, handles_of, is_nothing, kept_acce
 use Rattle.wasi_walks.proofs.Words.{socket_at, start_listen_at, start_listen_by, true, with_records, with_store, socket_with_streams, with_table, ℕ, ⊤, ◌≡◌}
 use Rattle.wasi_walks.proofs.walks.Moves.{ListensFor, RemembersListen, StandsListen, NoStartStands, Used, Unused, put, Found, record_of, Reaches, Leaves, Spends, Marked, made_so, AnAcceptedStream, Watches, Counts, Names, SpendsNames}
 use Rattle.wasi_world.specs.declared.ids.Ids.{Ids}
-use Rattle.wasi_host.specs.Pending.{relisten_at}
-use Rattle.wasi_host.specs.Standing.{call_answered}
+use Rattle.host_tcp.specs.TcpCalls.{relisten_at}
+use Rattle.host_store.specs.Standing.{call_answered}
 use Rattle.wasi_p2.specs.Tcp.{start_listen_on}
 use Rattle.wasi_records.specs.Listening.{begin_listen_asks}
 use Rattle.wasi_walks.proofs.walks.Here.{after_names, part_after}

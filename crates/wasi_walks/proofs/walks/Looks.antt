@@ -6,16 +6,16 @@ use Rattle.std.specs.Prelude.{◌≡◌, ℕ, ◌+◌, not, Bool, true, false, L
 use Rattle.wasi_walks.proofs.Words.{Accepts, Asks, Give, Has, InProgress, Listening, Machine, Records, Step, Stop, TcpRecord, WasiSocketsCtx, Watched}
 use Rattle.wasi_walks.proofs.Words.{ap, bind, handles_of, if◌then◌else◌, is_connect, is_nothing, kind_at, own_of, place_in, ready_on, refl, subst, sym, watch_of, with_listening, with_store, ready_end, ◌∙◌}
 use Rattle.wasi_world.specs.declared.ids.Ids.{Ids}
-use Rattle.wasi_host.specs.DatagramCalls.{begins_receive, ready_incoming_at}
-use Rattle.wasi_host.specs.Jobs.{with_job}
+use Rattle.host_udp.specs.DatagramCalls.{begins_receive, ready_incoming_at}
+use Rattle.host_store.specs.Jobs.{with_job}
 use Rattle.wasi_records.specs.Looks.{begins_accept, socket_begins}
 use Rattle.wasi_records.specs.Receiving.{would_receive, has_none}
 use Rattle.wasi_host.specs.Polling.{begins_on, tcp_begins, udp_begins}
-use Rattle.wasi_host.specs.Readiness.{ready_at}
+use Rattle.host_store.specs.Readiness.{ready_at}
 use Rattle.wasi_records.specs.Looks.{ready_idle, ready_listening, ready_socket_by}
 use Rattle.wasi_records.specs.Receiving.{fetch_asks, look_incoming, receives, with_incoming}
 use Rattle.wasi_records.specs.Records.{open_at, tcp2_at, udp2_at}
-use Rattle.wasi_host.specs.UdpCalls.{with_open_udp}
+use Rattle.host_store.specs.Store.{with_open_udp}
 use Rattle.wasi_records.specs.declared.datagrams.Incoming.{Incoming}
 use Rattle.wasi_records.specs.declared.datagrams.Receiving.{Receiving}
 use Rattle.wasi_jobs.specs.declared.job.HostJob.TheVariants.{Receive}

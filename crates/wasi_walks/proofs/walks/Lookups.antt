@@ -11,14 +11,14 @@ use Rattle.wasi_walks.proofs.Words.{Asks, Ask, Call, Full, Give, HandleTable, Ki
 use Rattle.wasi_walks.proofs.Words.{ap, ask_made, bind, context_at, entry, inl, inr, is_full, is_network, kind_at, make_asks, name_of, own_of, refl, subst, sym, with_handle, with_store, ◌∙◌}
 use Rattle.wasi_world.specs.declared.asks.Polled.{Polled}
 use Rattle.wasi_world.specs.Typed.{told_names}
-use Rattle.wasi_host.specs.Machine.{answered, at_once}
+use Rattle.wasi_host.specs.HandleDrops.{answered, at_once}
 use Rattle.wasi_records.specs.NameLookup.{lookup_told, next_of, turn_lookup_at, is_looking}
-use Rattle.wasi_host.specs.NameLookupCalls.{drop_lookup_at, looked_up, lookup_handle, next_at, resolve_host, resolved, with_lookup}
+use Rattle.host_lookups.specs.NameLookupCalls.{drop_lookup_at, looked_up, lookup_handle, next_at, resolve_host, resolved, with_lookup}
 use Rattle.wasi_records.specs.Records.{lookup_at, lookup_of, lookup_put, lookup_pushed}
 use Rattle.wasi_records.specs.declared.name_lookup.Lookup.{Lookup}
 use Rattle.wasi_records.specs.declared.name_lookup.Lookup.TheVariants.{InProgress, Found, Failed}
 use Rattle.wasi_records.specs.declared.name_lookup.LookupOp.{LookupOp}
-use Rattle.wasi_host.specs.declared.kind.Kind.TheVariants.{Lookup as LookupHandle}
+use Rattle.host_store.specs.declared.kind.Kind.TheVariants.{Lookup as LookupHandle}
 use Rattle.wasi_records.specs.declared.records.Record.{Record}
 use Rattle.wasi_records.specs.declared.records.Record.TheVariants.{Lookup as LookupRecord}
 use Rattle.wasi_p2.specs.Lookup.{next_address_on, resolve_asks, resolved_host}

@@ -15,8 +15,8 @@ use Rattle.wasi_world.specs.declared.ids.Ids.{Ids}
 use Rattle.wasi_addr.specs.declared.address.SocketAddressFamily.{SocketAddressFamily}
 use Rattle.wasi_world.specs.declared.outcome.WasiSocketsCtx.{WasiSocketsCtx}
 use Rattle.wasi_tcp.specs.Bounds.{held}
-use Rattle.wasi_host.specs.Limits.{left}
-use Rattle.wasi_host.specs.Machine.{with_room}
+use Rattle.host_store.specs.Limits.{left}
+use Rattle.host_tcp.specs.Creates.{with_room}
 pub use Rattle.wasi_walks.proofs.walks.Here.{Interface, ListenerGoes, NoListener, NotYet, NoMore, OfNothing, P2, P3, tcp_kind, KeepsJobs, IsRecord, job_place, keeps_incoming, StreamGoes, StreamIsMade, StreamIsTaken, StreamMoves, StreamStays, StreamsUnder, TakesFrom, ConnectIsOver, HasNewStream, KeepsStreams, MarksNext, TakesOver, one_stream, IsCreated, IsOpenUdp, NoStart, NoStartIn, NoStartStands, Releases, ReleasesUdp, WithHandle, Unheld, GoesBack, WhenIdle, WhenClosed, CallKind, OfPollables, OfStreams, Found, FoundUdp, Here, Own, Names, ToConnect, ToWrite, Unused, Used, Made, Awaited, Calls, Emptied, Faulted, Freed, Joined, Marked, Past, ToListen, ToSend, ToStream, Unmade, part_of, put, put_udp, with_beside, with_records, IsLeft, IsNumbered, OfTcp, OfUdp, OfLookup, OfUnnamed, OfInput, OfOutput, OfSlot, without_record, Numbered, ToResult, end_in, end_of, MakesEnds, MakesEnd, IsEndAt}
 use Rattle.wasi_records.specs.Records.{tcp2_put, tcp2_pushed}
 use Rattle.std.specs.Prelude.{◌+◌}
@@ -32,14 +32,14 @@ use Rattle.wasi_records.specs.declared.datagrams.Incoming.{Incoming as IncomingS
 use Rattle.wasi_records.specs.declared.datagrams.Outgoing.{Outgoing as OutgoingStream}
 use Rattle.wasi_records.specs.declared.datagrams.Receiving.{Receiving}
 use Rattle.wasi_records.specs.declared.datagrams.Sending.{Sending}
-use Rattle.wasi_host.specs.declared.blocking.BlockingCall.{BlockingCall}
-use Rattle.wasi_host.specs.declared.kind.Kind.TheVariants.{Tcp3, Udp3}
-use Rattle.wasi_host.specs.Blocking.{blocking_handles}
-use Rattle.wasi_host.specs.declared.beside.Beside.{Beside}
-use Rattle.wasi_host.specs.declared.beside.BesideCall.{BesideCall}
-use Rattle.wasi_host.specs.declared.beside.BesideCall.TheVariants.{Connect, Send, Receive}
-use Rattle.wasi_host.specs.Beside.{beside_as, beside_with, beside_without, unbeside}
-use Rattle.wasi_host.specs.Kinds.{has_no_child, udp_of}
+use Rattle.host_store.specs.declared.store.BlockingCall.{BlockingCall}
+use Rattle.host_store.specs.declared.kind.Kind.TheVariants.{Tcp3, Udp3}
+use Rattle.host_streams.specs.Blocking.{blocking_handles}
+use Rattle.host_store.specs.declared.beside.Beside.{Beside}
+use Rattle.host_store.specs.declared.beside.BesideCall.{BesideCall}
+use Rattle.host_store.specs.declared.beside.BesideCall.TheVariants.{Connect, Send, Receive}
+use Rattle.host_store.specs.Beside.{beside_as, beside_with, beside_without, unbeside}
+use Rattle.host_store.specs.Kinds.{has_no_child, udp_of}
 use Rattle.wasi_udp.specs.Connect.{connect_start}
 use Rattle.wasi_udp.specs.Receive.{receive_start, wanting}
 use Rattle.wasi_udp.specs.Send.{at_remote, send_start}
@@ -47,7 +47,7 @@ use Rattle.wasi_records.specs.declared.udp.OpenUdp.{OpenUdp}
 use Rattle.wasi_records.specs.declared.udp.UdpRecord.{UdpRecord}
 use Rattle.wasi_records.specs.declared.udp.UdpInProgress.{UdpInProgress}
 use Rattle.wasi_records.specs.Udp.{udp_bind_progress, udp_create_left, with_udp_progress, without_udp_socket}
-use Rattle.wasi_host.specs.UdpCreates.{with_create}
+use Rattle.host_udp.specs.UdpCreates.{with_create}
 use Rattle.wasi_udp.specs.Bind.{bind_operation as udp_bind_operation}
 use Rattle.wasi_udp.specs.Create.{Create}
 use Rattle.wasi_udp.specs.Socket.{asker_of}
@@ -55,7 +55,7 @@ use Rattle.wasi_udp.specs.declared.bind.UdpBindStage.{UdpBindStage}
 use Rattle.wasi_records.specs.Ends.{ends_of}
 use Rattle.wasi_records.specs.Slots.{slot_pushed}
 use Rattle.wasi_records.specs.declared.slot.Slot.{Slot}
-use Rattle.wasi_host.specs.declared.kind.ConnectionEnd.{ConnectionEnd}
+use Rattle.host_store.specs.declared.kind.ConnectionEnd.{ConnectionEnd}
 use Rattle.wasi_records.specs.declared.records.Record.{Record}
 use Rattle.wasi_jobs.specs.declared.job.HostJob.{HostJob}
 use Rattle.wasi_walks.specs.Licence.{BindsAnywhere, IsSendOf, IsUdpBindTo, IsUdpConnectTo, Receives}

@@ -13,13 +13,13 @@ use Rattle.wasi_walks.proofs.walks.Asked.{Asked, Questions, SetsBacklog, Learns,
 use Rattle.wasi_walks.proofs.walks.Law.{BeginsIn, BeginsWrites, Rests}
 use Rattle.wasi_walks.proofs.walks.Moves.{Interface, P2, P3, Faulted, ListenerGoes, ToListen, ToResult, MakesEnds, tcp_kind, Calls, Creates, CreatesUdp, Found, FoundUdp, HasNewStream, Held, Here, IsCreated, Joined, LooksUp, Made, Marked, Marks, MarksNext, Move}
 use Rattle.wasi_walks.proofs.walks.Moves.{PollsDatagram, PollsSend, PollsReceive, StartsDatagram, StartsSend, StartsReceive, datagram_begun, datagram_polled, NoStart, OfStreams, Past, Releases, ReleasesUdp, SameSockets, Spends, ToSend, Unused, Used, closed_record, put, put_udp, record_of, udp_begun, with_beside, with_records}
-use Rattle.wasi_host.specs.declared.beside.BesideCall.{BesideCall}
-use Rattle.wasi_host.specs.declared.beside.BesideCall.TheVariants.{Resolve}
-use Rattle.wasi_host.specs.Beside.{beside_as, beside_of}
-use Rattle.wasi_host.specs.declared.beside.Beside.{Beside}
-use Rattle.wasi_host.specs.Resolves.{begun_lookup}
-use Rattle.wasi_host.specs.Kinds.{udp_kind, kind_at, tcp3_of, udp_of}
-use Rattle.wasi_host.specs.declared.kind.Kind.TheVariants.{Listen3, Result3, Tcp3}
+use Rattle.host_store.specs.declared.beside.BesideCall.{BesideCall}
+use Rattle.host_store.specs.declared.beside.BesideCall.TheVariants.{Resolve}
+use Rattle.host_store.specs.Beside.{beside_as, beside_of}
+use Rattle.host_store.specs.declared.beside.Beside.{Beside}
+use Rattle.host_lookups.specs.Resolves.{begun_lookup}
+use Rattle.host_store.specs.Kinds.{udp_kind, kind_at, tcp3_of, udp_of}
+use Rattle.host_store.specs.declared.kind.Kind.TheVariants.{Listen3, Result3, Tcp3}
 use Rattle.wasi_records.specs.Holding.{has_listener}
 use Rattle.wasi_records.specs.Udp.{with_udp_inner}
 use Rattle.wasi_records.specs.declared.records.Record.{Record}

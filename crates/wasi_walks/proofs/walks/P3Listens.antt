@@ -23,18 +23,19 @@ use Rattle.wasi_records.specs.Names.{own_of}
 use Rattle.wasi_records.specs.Records.{tcp2_at, tcp2_put}
 use Rattle.wasi_records.specs.Sockets.{new_record, with_progress}
 use Rattle.wasi_records.specs.Stops.{Code}
-use Rattle.wasi_host.specs.declared.kind.Interface.TheVariants.{P3}
-use Rattle.wasi_host.specs.declared.kind.Kind.TheVariants.{Listen3, Tcp3}
-use Rattle.wasi_host.specs.declared.machine.Machine.{Machine}
-use Rattle.wasi_host.specs.declared.store.StandingCall.TheVariants.{Listen}
-use Rattle.wasi_host.specs.BaseStops.{BaseStop, trap_of}
-use Rattle.wasi_host.specs.Binds.{Answered, bind_told, keeps}
-use Rattle.wasi_host.specs.Block.{Call, Read, after_call, give as gives_all, goes_on, last, need, or_trap, ◌>>=◌, ◌>>◌}
-use Rattle.wasi_host.specs.Kinds.{kind_at, make_asks}
-use Rattle.wasi_host.specs.Lines.{same_stop, storing, tabling}
-use Rattle.wasi_host.specs.Listens.{accept_in, keep_accepted, listen_in, listen_of, listened, listens, look_accept, make_listener, relisten_in, relisten_of, relistens}
-use Rattle.wasi_host.specs.Machine.{listen3_at, side_at, tcp3_at}
-use Rattle.wasi_host.specs.Store.{Records, with_socket}
+use Rattle.host_store.specs.declared.kind.Interface.TheVariants.{P3}
+use Rattle.host_store.specs.declared.kind.Kind.TheVariants.{Listen3, Tcp3}
+use Rattle.host_store.specs.declared.machine.Machine.{Machine}
+use Rattle.host_store.specs.declared.store.StandingCall.TheVariants.{Listen}
+use Rattle.host_store.specs.BaseStops.{BaseStop, trap_of}
+use Rattle.host_store.specs.Lines.{Answered, keeps}
+use Rattle.host_tcp.specs.Binds.{bind_told}
+use Rattle.host_store.specs.Block.{Call, Read, after_call, give as gives_all, goes_on, last, need, or_trap, ◌>>=◌, ◌>>◌}
+use Rattle.host_store.specs.Kinds.{kind_at, make_asks}
+use Rattle.host_store.specs.Lines.{same_stop, storing, tabling}
+use Rattle.host_tcp.specs.Listens.{accept_in, keep_accepted, listen_in, listen_of, listened, listens, look_accept, make_listener, relisten_in, relisten_of, relistens}
+use Rattle.host_store.specs.Machine.{listen3_at, side_at, tcp3_at}
+use Rattle.host_store.specs.Store.{Records, with_socket}
 use Rattle.wasi_p3.specs.Lines.{in_host}
 use Rattle.wasi_p3.specs.Listening.{accept, accept_by, hand_over, handed, listen_to}
 use Rattle.wasi_machine.specs.Machine.{first_ids}

@@ -12,9 +12,9 @@ use Rattle.wasi_tcp.specs.Shape.{Socket}
 use Rattle.wasi_tcp.specs.Options.{get_where, set_where, option_side, get_option_asks, set_option_asks, set_backlog_asks}
 use Rattle.wasi_records.specs.declared.socket.TcpRecord.{TcpRecord}
 use Rattle.wasi_records.specs.Sockets.{with_inner, tell_local_asks, tell_remote_asks}
-use Rattle.wasi_host.specs.declared.machine.Machine.{Machine}
-use Rattle.wasi_host.specs.Kinds.{kind_at}
-use Rattle.wasi_host.specs.Machine.{own_of, tcp3_at}
+use Rattle.host_store.specs.declared.machine.Machine.{Machine}
+use Rattle.host_store.specs.Kinds.{kind_at}
+use Rattle.host_store.specs.Machine.{own_of, tcp3_at}
 use Rattle.wasi_p3.specs.Stops.{p3_stop}
 use Rattle.wasi_p3.specs.Lines.{inner_call, on_tcp}
 use Rattle.wasi_p3.specs.Tcp.{local_address, remote_address, get_option}

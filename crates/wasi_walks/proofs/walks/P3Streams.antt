@@ -31,18 +31,18 @@ use Rattle.wasi_records.specs.Records.{tcp2_at, tcp2_put}
 use Rattle.wasi_records.specs.Slots.{StreamEnd, result_of, slot_at, slot_for}
 use Rattle.wasi_records.specs.Sockets.{with_inner}
 use Rattle.wasi_records.specs.Stops.{StopOf, Trap}
-use Rattle.wasi_host.specs.declared.kind.ConnectionEnd.{ConnectionEnd}
-use Rattle.wasi_host.specs.declared.kind.Kind.{Kind}
-use Rattle.wasi_host.specs.declared.kind.Kind.TheVariants.{Receive3, Result3, Send3, Tcp3}
-use Rattle.wasi_host.specs.declared.machine.Machine.{Machine}
-use Rattle.wasi_host.specs.BaseStops.{renamed}
-use Rattle.wasi_host.specs.Block.{Does, Read, after_call, give as ends_with, goes_on, last}
-use Rattle.wasi_host.specs.ConnectionEnds.{end_of as end_made, take_end, take_end_in, with_end}
-use Rattle.wasi_host.specs.EndPolls.{asks, ends_by, looked, read_of, read_open, read_told, write_of, write_open, write_told}
-use Rattle.wasi_host.specs.Kinds.{has_no_child, kind_at, receive3_of, result3_of, send3_of, taken_out, without_handle}
-use Rattle.wasi_host.specs.Lines.{same_stop, storing}
-use Rattle.wasi_host.specs.Machine.{receive3_at, result3_at, send3_at, side_at, tcp3_at}
-use Rattle.wasi_host.specs.Store.{Records}
+use Rattle.host_store.specs.declared.kind.ConnectionEnd.{ConnectionEnd}
+use Rattle.host_store.specs.declared.kind.Kind.{Kind}
+use Rattle.host_store.specs.declared.kind.Kind.TheVariants.{Receive3, Result3, Send3, Tcp3}
+use Rattle.host_store.specs.declared.machine.Machine.{Machine}
+use Rattle.host_store.specs.BaseStops.{renamed}
+use Rattle.host_store.specs.Block.{Does, Read, after_call, give as ends_with, goes_on, last}
+use Rattle.host_tcp.specs.ConnectionEnds.{end_of as end_made, take_end, take_end_in, with_end}
+use Rattle.host_tcp.specs.EndPolls.{asks, ends_by, looked, read_of, read_open, read_told, write_of, write_open, write_told}
+use Rattle.host_store.specs.Kinds.{has_no_child, kind_at, receive3_of, result3_of, send3_of, taken_out, without_handle}
+use Rattle.host_store.specs.Lines.{same_stop, storing}
+use Rattle.host_store.specs.Machine.{receive3_at, result3_at, send3_at, side_at, tcp3_at}
+use Rattle.host_store.specs.Store.{Records}
 use Rattle.wasi_p3.specs.Lines.{in_base}
 use Rattle.wasi_p3.specs.Streams.{Taken, make_ends, named_end, read, receive, result_at, result_in, result_on, result_out, send, take_by, take_result, write}
 use Rattle.wasi_addr.specs.declared.p3.ErrorCode.{ErrorCode as P3Code}

@@ -10,11 +10,11 @@ use Rattle.wasi_records.specs.declared.udp.OpenUdp.{OpenUdp}
 use Rattle.wasi_records.specs.declared.udp.UdpRecord.TheVariants.{Open}
 use Rattle.wasi_records.specs.Records.{open_at}
 use Rattle.wasi_records.specs.Udp.{udp_local_asks}
-use Rattle.wasi_host.specs.declared.machine.Machine.{Machine}
-use Rattle.wasi_host.specs.Block.{Call, last}
-use Rattle.wasi_host.specs.Kinds.{kind_at}
-use Rattle.wasi_host.specs.Machine.{own_of, udp3_at}
-use Rattle.wasi_host.specs.UdpCalls.{with_open_udp}
+use Rattle.host_store.specs.declared.machine.Machine.{Machine}
+use Rattle.host_store.specs.Block.{Call, last}
+use Rattle.host_store.specs.Kinds.{kind_at}
+use Rattle.host_store.specs.Machine.{own_of, udp3_at}
+use Rattle.host_store.specs.Store.{with_open_udp}
 use Rattle.wasi_p3.specs.Lines.{of_udp, on_udp, same_stop}
 use Rattle.wasi_p3.specs.Stops.{p3_stop}
 use Rattle.wasi_p3.specs.Udp.{disconnect, disconnect_of, get_option, local_address, set_option, staying}

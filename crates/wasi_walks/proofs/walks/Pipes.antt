@@ -3,14 +3,14 @@ use Rattle.std.specs.Prelude.{◌≡◌, ℕ, length, List, [], ◌∷◌, ◌++
 use Rattle.memory_streams.specs.Plain.{Contents, no_contents, pipe_read, pipe_write}
 use Rattle.wasi_walks.proofs.Words.{Allows, Full, Give, HandleTable, Kind, Machine, Step, Stop, Trap, WasiSocketsCtx, ap, ask_made, bind, is_full, make_asks, name_of, own_of, refl, subst, with_handle}
 use Rattle.wasi_walks.proofs.Lists.{get_seam}
-use Rattle.wasi_host.specs.PlainStreams.{read_plain, read_pipe_at, write_plain, write_pipe_at, piped, input_pipe_asks, output_pipe_asks, plain_asks, drop_input_pipe_at, drop_output_pipe_at, with_record_more, drop_plain_input, drop_plain_output}
+use Rattle.host_streams.specs.PlainStreams.{read_plain, read_pipe_at, write_plain, write_pipe_at, piped, input_pipe_asks, output_pipe_asks, plain_asks, drop_input_pipe_at, drop_output_pipe_at, with_record_more, drop_plain_input, drop_plain_output}
 use Rattle.wasi_records.specs.Records.{input_pipe_at, input_pipe_of, output_pipe_at, output_pipe_of}
-use Rattle.wasi_host.specs.StreamCalls.{plain_done}
-use Rattle.wasi_host.specs.declared.kind.Kind.TheVariants.{PlainInput, PlainOutput}
-use Rattle.wasi_host.specs.declared.kind.PlainInput.{PlainInput as InputOf}
-use Rattle.wasi_host.specs.declared.kind.PlainInput.TheVariants as input
-use Rattle.wasi_host.specs.declared.kind.PlainOutput.{PlainOutput as OutputOf}
-use Rattle.wasi_host.specs.declared.kind.PlainOutput.TheVariants as output
+use Rattle.host_streams.specs.StreamCalls.{plain_done}
+use Rattle.host_store.specs.declared.kind.Kind.TheVariants.{PlainInput, PlainOutput}
+use Rattle.host_store.specs.declared.kind.PlainInput.{PlainInput as InputOf}
+use Rattle.host_store.specs.declared.kind.PlainInput.TheVariants as input
+use Rattle.host_store.specs.declared.kind.PlainOutput.{PlainOutput as OutputOf}
+use Rattle.host_store.specs.declared.kind.PlainOutput.TheVariants as output
 use Rattle.wasi_records.specs.declared.records.Record.{Record}
 use Rattle.wasi_records.specs.declared.records.Record.TheVariants.{InputPipe, OutputPipe}
 use Rattle.wasi_walks.proofs.PipeLists.{IsPipe, input_pipe_same, output_pipe_same, pipe_push}

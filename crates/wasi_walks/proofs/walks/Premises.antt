@@ -20,15 +20,15 @@ use Rattle.wasi_records.specs.declared.name_lookup.LookupOp.{LookupOp}
 use Rattle.std.specs.Prelude.{IsSome, is_some, slice_get}
 use Rattle.wasi_names.specs.declared.name.HostName.TheVariants.{Domain}
 use Rattle.wasi_names.specs.Names.{name_is}
-use Rattle.wasi_host.specs.declared.blocking.BlockingCall.{BlockingCall}
-use Rattle.wasi_host.specs.declared.blocking.BlockingCall.TheVariants as blocking
-use Rattle.wasi_host.specs.declared.kind.Kind.TheVariants.{Listen3, Tcp3, Udp2, Udp3, PlainInput, PlainOutput, Incoming, Outgoing, Lookup}
-use Rattle.wasi_host.specs.declared.kind.PlainInput.TheVariants as plain_input
-use Rattle.wasi_host.specs.declared.kind.PlainOutput.TheVariants as plain_output
-use Rattle.wasi_host.specs.Kinds.{watched_by}
-use Rattle.wasi_host.specs.UdpCreates.{udp_side_at}
+use Rattle.host_store.specs.declared.store.BlockingCall.{BlockingCall}
+use Rattle.host_store.specs.declared.store.BlockingCall.TheVariants as blocking
+use Rattle.host_store.specs.declared.kind.Kind.TheVariants.{Listen3, Tcp3, Udp2, Udp3, PlainInput, PlainOutput, Incoming, Outgoing, Lookup}
+use Rattle.host_store.specs.declared.kind.PlainInput.TheVariants as plain_input
+use Rattle.host_store.specs.declared.kind.PlainOutput.TheVariants as plain_output
+use Rattle.host_store.specs.Kinds.{watched_by}
+use Rattle.host_udp.specs.UdpCreates.{udp_side_at}
 use Rattle.wasi_records.specs.Slots.{slot_at}
-use Rattle.wasi_host.specs.declared.kind.ConnectionEnd.{ConnectionEnd}
+use Rattle.host_store.specs.declared.kind.ConnectionEnd.{ConnectionEnd}
 use Rattle.wasi_records.specs.declared.records.Record.{Record}
 use Rattle.wasi_walks.specs.Licence.{IsGetOf, IsSetTo}
 use Rattle.wasi_walks.specs.Answered.{streams_in}

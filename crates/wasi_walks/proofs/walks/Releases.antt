@@ -15,12 +15,12 @@ use Rattle.wasi_walks.proofs.Words.{ℕ, ◌≡◌}
 use Rattle.wasi_world.specs.declared.ids.Ids.{Ids}
 use Rattle.wasi_records.specs.Records.{tcp2_at}
 use Rattle.wasi_records.specs.Holding.{drop_listener_asks, drop_socket_asks, is_held, let_go_by, without_socket}
-use Rattle.wasi_host.specs.Dropping.{left_so, let_go_at, released}
+use Rattle.host_tcp.specs.Dropping.{left_so, let_go_at, released}
 use Rattle.wasi_walks.proofs.walks.Moves.{Used, Unused, Here, put, Spends, Leaves, IsGone, Stands}
 use Rattle.wasi_walks.proofs.walks.Law.{Law, HasRecord, Walks, give, and_then, move, gives, from, found, on, put_same, ends, close, give_up, and_so}
 use Rattle.wasi_tcp.specs.Closing.{close_in}
 use Rattle.wasi_walks.proofs.walks.States.{OverIn, At, streams_are, none_stands, Put, there}
-use Rattle.wasi_host.specs.declared.kind.Kind.TheVariants.{Listen3, Tcp3}
+use Rattle.host_store.specs.declared.kind.Kind.TheVariants.{Listen3, Tcp3}
 use Rattle.wasi_walks.proofs.walks.Streams.{drop_look_walks, reader_up_walks, writer_up_walks}
 
 -- the handle of a socket of 0.3 goes

@@ -12,14 +12,14 @@ use Rattle.wasi_world.specs.declared.call.Call.TheVariants.{Lookup}
 use Rattle.wasi_world.specs.Asks.{Give, bind}
 use Rattle.wasi_world.specs.Typed.{told_names}
 use Rattle.wasi_records.specs.Names.{own_of}
-use Rattle.wasi_host.specs.declared.beside.Beside.{Beside}
-use Rattle.wasi_host.specs.declared.beside.BesideCall.TheVariants.{Resolve}
-use Rattle.wasi_host.specs.declared.machine.Machine.{Machine}
-use Rattle.wasi_host.specs.Beside.{beside_as, beside_of, beside_polled, besided}
-use Rattle.wasi_host.specs.Block.{after_call, give as gives_all}
-use Rattle.wasi_host.specs.Lines.{same_stop, storing}
-use Rattle.wasi_host.specs.Resolves.{Resolved, begun_lookup, names_told, resolve_of, reresolve_of}
-use Rattle.wasi_host.specs.Store.{Records}
+use Rattle.host_store.specs.declared.beside.Beside.{Beside}
+use Rattle.host_store.specs.declared.beside.BesideCall.TheVariants.{Resolve}
+use Rattle.host_store.specs.declared.machine.Machine.{Machine}
+use Rattle.host_store.specs.Beside.{beside_as, beside_of, beside_polled, besided}
+use Rattle.host_store.specs.Block.{after_call, give as gives_all}
+use Rattle.host_store.specs.Lines.{same_stop, storing}
+use Rattle.host_lookups.specs.Resolves.{Resolved, begun_lookup, names_told, resolve_of, reresolve_of}
+use Rattle.host_store.specs.Store.{Records}
 use Rattle.wasi_machine.specs.Machine.{context_at}
 use Rattle.wasi_p3.specs.Lookup.{resolve, resolve_host}
 use Rattle.wasi_steps.specs.declared.guest_call.GuestCall.TheVariants as guest

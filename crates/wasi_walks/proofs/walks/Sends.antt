@@ -9,12 +9,12 @@ use Rattle.wasi_machine.specs.Machine.{first_ids}
 use Rattle.wasi_world.specs.declared.datagram.OutgoingDatagram.{OutgoingDatagram}
 use Rattle.wasi_world.specs.declared.ids.Ids.{Ids}
 use Rattle.wasi_world.specs.declared.ids.OpId.{OpId}
-use Rattle.wasi_host.specs.DatagramCalls.{begins_send, check_send_at, check_send_by, drop_outgoing_at, drop_outgoing_by, send_datagrams_at}
+use Rattle.host_udp.specs.DatagramCalls.{begins_send, check_send_at, check_send_by, drop_outgoing_at, drop_outgoing_by, send_datagrams_at}
 use Rattle.wasi_records.specs.Datagrams.{permitted, sends, with_sending, send_left, turned_left, poll_send_asks, send_one_asks, one_sent, send_next_asks, send_after, send_all, all_sent, send_permitted, send_some, send_datagrams_asks, turn_sending, turn_outgoing}
-use Rattle.wasi_host.specs.Jobs.{with_job, turn_datagram_at}
-use Rattle.wasi_host.specs.Machine.{outgoing_at}
+use Rattle.host_store.specs.Jobs.{with_job, turn_datagram_at}
+use Rattle.host_store.specs.Machine.{outgoing_at}
 use Rattle.wasi_records.specs.Records.{open_at, udp2_at}
-use Rattle.wasi_host.specs.UdpCalls.{with_open_udp}
+use Rattle.host_store.specs.Store.{with_open_udp}
 use Rattle.wasi_records.specs.declared.datagrams.Outgoing.{Outgoing}
 use Rattle.wasi_records.specs.declared.datagrams.Sending.{Sending}
 use Rattle.wasi_jobs.specs.declared.job.HostJob.{HostJob}

@@ -19,20 +19,20 @@ use Rattle.wasi_records.specs.Names.{own_of}
 use Rattle.wasi_records.specs.Records.{open_at, udp2_at}
 use Rattle.wasi_records.specs.Stops.{Code}
 use Rattle.wasi_records.specs.Udp.{with_udp_inner, without_udp_socket}
-use Rattle.wasi_host.specs.declared.beside.Beside.{Beside}
-use Rattle.wasi_host.specs.declared.beside.BesideCall.{BesideCall}
-use Rattle.wasi_host.specs.declared.beside.BesideCall.TheVariants.{Connect, Resolve, Send, Receive}
-use Rattle.wasi_host.specs.declared.kind.Kind.TheVariants.{Udp3}
-use Rattle.wasi_host.specs.declared.machine.Machine.{Machine}
-use Rattle.wasi_host.specs.BaseStops.{BaseStop}
-use Rattle.wasi_host.specs.Beside.{beside_of, beside_without, unbeside}
-use Rattle.wasi_host.specs.Block.{Call, Does, after_call, goes_on, last, or_trap, ◌>>=◌}
+use Rattle.host_store.specs.declared.beside.Beside.{Beside}
+use Rattle.host_store.specs.declared.beside.BesideCall.{BesideCall}
+use Rattle.host_store.specs.declared.beside.BesideCall.TheVariants.{Connect, Resolve, Send, Receive}
+use Rattle.host_store.specs.declared.kind.Kind.TheVariants.{Udp3}
+use Rattle.host_store.specs.declared.machine.Machine.{Machine}
+use Rattle.host_store.specs.BaseStops.{BaseStop}
+use Rattle.host_store.specs.Beside.{beside_of, beside_without, unbeside}
+use Rattle.host_store.specs.Block.{Call, Does, after_call, goes_on, last, or_trap, ◌>>=◌}
 use Rattle.wasi_host.specs.Cancel.{beside_given_up}
-use Rattle.wasi_host.specs.Kinds.{kind_at}
-use Rattle.wasi_host.specs.Machine.{udp3_at}
-use Rattle.wasi_host.specs.SocketDatagrams.{Begun, begins_so, begun_on, begun_so, drop_udp, ends_so, goes_on_so, is_udp_held, let_udp_go, polled, polled_so, receive_begins, receive_of, received_answer, rereceive_of, resend_of, send_begins, send_of, udp_goes, without_udp_handle}
-use Rattle.wasi_host.specs.Store.{Records}
-use Rattle.wasi_host.specs.UdpCalls.{with_open_udp}
+use Rattle.host_store.specs.Kinds.{kind_at}
+use Rattle.host_store.specs.Machine.{udp3_at}
+use Rattle.host_udp.specs.SocketDatagrams.{Begun, begins_so, begun_on, begun_so, drop_udp, ends_so, goes_on_so, is_udp_held, let_udp_go, polled, polled_so, receive_begins, receive_of, received_answer, rereceive_of, resend_of, send_begins, send_of, udp_goes, without_udp_handle}
+use Rattle.host_store.specs.Store.{Records}
+use Rattle.host_store.specs.Store.{with_open_udp}
 use Rattle.wasi_p3.specs.Lines.{in_base}
 use Rattle.wasi_p3.specs.Udp.{receive, send}
 use Rattle.wasi_steps.specs.declared.guest_call.GuestCall.{GuestCall}

@@ -16,8 +16,8 @@ use Rattle.socket_common.specs.Options.{value_set}
 use Rattle.wasi_walks.specs.Licence.{IsSetTo}
 use Rattle.wasi_records.specs.Records.{tcp2_at}
 use Rattle.wasi_walks.proofs.Words.{Tcp2}
-use Rattle.wasi_host.specs.Store.{with_socket}
-use Rattle.wasi_host.specs.Options.{looked_at, set_backlog_at}
+use Rattle.host_store.specs.Store.{with_socket}
+use Rattle.host_tcp.specs.Options.{looked_at, set_backlog_at}
 use Rattle.wasi_p2.specs.Options.{record_asks}
 use Rattle.wasi_walks.proofs.walks.Moves.{IsOfOld, Move, P2, NoStartStands, IsSettled, Used, Unused, Here, put, Found, record_of, AStream, Reaches, Leaves, Spends, Changes, Stands, Made, Past, Marks}
 use Rattle.wasi_walks.proofs.walks.Law.{Law, HasRecord, found, put_same, Walks, Given, give, and_then, and_given, by_if, move, gives, from, mark}
@@ -27,8 +27,8 @@ use Rattle.wasi_walks.proofs.walks.Lines.{look, call, call_given}
 use Rattle.wasi_addr.specs.declared.p2.ErrorCode.TheVariants.{NotInProgress}
 use Rattle.wasi_records.specs.Stops.{Code, StopOf, code_stop}
 use Rattle.wasi_records.specs.Sockets.{poll_connect_asks}
-use Rattle.wasi_host.specs.Block.{Call, Does, Read, last, need, goes_on, or_trap, ◌>>=◌, ◌>>◌}
-use Rattle.wasi_host.specs.Lines.{tcp_at, in_store, same_stop, storing, on_tcp, done_by, finish_connect_of}
+use Rattle.host_store.specs.Block.{Call, Does, Read, last, need, goes_on, or_trap, ◌>>=◌, ◌>>◌}
+use Rattle.host_store.specs.Lines.{tcp_at, in_store, same_stop, storing, on_tcp, done_by, finish_connect_of}
 use Rattle.wasi_p2.specs.Tcp.{local_address, remote_address, finish_connect, make_streams}
 use Rattle.wasi_walks.proofs.walks.States.{OverWith, Between, socket_record, make_given, socket_kind, At, Starts, streams_are, Put, Over, there}
 

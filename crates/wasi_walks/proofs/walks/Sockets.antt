@@ -2,11 +2,11 @@
 use Rattle.std.specs.Prelude.{IsSome}
 use Rattle.wasi_tcp.specs.Halves.{take_send}
 use Rattle.wasi_records.specs.Records.{tcp2_at}
-use Rattle.wasi_host.specs.Store.{with_socket}
+use Rattle.host_store.specs.Store.{with_socket}
 use Rattle.wasi_records.specs.Stops.{Code}
 use Rattle.wasi_addr.specs.declared.p2.ErrorCode.TheVariants.{NotInProgress}
-use Rattle.wasi_host.specs.Block.{give as gives_all, after_call, last, need, or_trap, ◌>>◌}
-use Rattle.wasi_host.specs.Lines.{done_by, finish_connect_of, same_stop}
+use Rattle.host_store.specs.Block.{give as gives_all, after_call, last, need, or_trap, ◌>>◌}
+use Rattle.host_store.specs.Lines.{done_by, finish_connect_of, same_stop}
 use Rattle.wasi_walks.specs.Answered.{streams_in}
 use Rattle.wasi_walks.proofs.Words.{Records, TcpReceiveStream, TcpSendStream}
 use Rattle.wasi_walks.proofs.Words.{Answer, Begins, Bool, Connection, Done, End, Err, ErrorCode, Give, InProgress}

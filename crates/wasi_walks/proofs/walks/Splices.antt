@@ -1,8 +1,8 @@
 -- A splice, as moves: a check of what may be written, a read of so much, and a write of what was read.
 use Rattle.std.specs.Prelude.{ℕ, zero, suc, min, Bool, true, false, List, [], ◌∷◌, length, Option, Result, Ok, Err}
 use Rattle.wasi_walks.proofs.Words.{Give, Has, Machine, Step, WasiSocketsCtx, is_readable, is_writable, kind_at, own_of, refl}
-use Rattle.wasi_host.specs.CallStops.{CallStop}
-use Rattle.wasi_host.specs.StreamCalls.{splice_asks, splice_checked, splice_read, splice_some, splice_when, spliced}
+use Rattle.host_store.specs.CallStops.{CallStop}
+use Rattle.host_streams.specs.StreamCalls.{splice_asks, splice_checked, splice_read, splice_some, splice_when, spliced}
 use Rattle.wasi_walks.proofs.walks.Moves.{Leaves, Used}
 use Rattle.wasi_walks.proofs.walks.Law.{BeginsWrites, Law, Walks, and_then, gives}
 use Rattle.wasi_walks.proofs.walks.Calls.{Calling, check_asks_walks, read_asks_walks, write_asks_walks}

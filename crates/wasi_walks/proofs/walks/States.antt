@@ -1,6 +1,6 @@
 -- What a line works on where it begins, in its midst and at its end, and what is known of handles there.
-use Rattle.wasi_host.specs.declared.kind.PlainInput.TheVariants as plain_input
-use Rattle.wasi_host.specs.declared.kind.PlainOutput.TheVariants as plain_output
+use Rattle.host_store.specs.declared.kind.PlainInput.TheVariants as plain_input
+use Rattle.host_store.specs.declared.kind.PlainOutput.TheVariants as plain_output
 use Rattle.wasi_walks.proofs.walks.Moves.{MakesPlain}
 use Rattle.wasi_walks.proofs.Words.{GuestCall, Step}
 use Rattle.wasi_walks.proofs.Words.{Answer, Ask, AskWrite, Asks, Bool, Err, ErrorCode, Full, Give, HandleTable, Input, Kind, List, Machine, None, Ok}
@@ -11,8 +11,8 @@ use Rattle.wasi_walks.proofs.Words.{length, name_of, output_of, place_of, refl, 
 use Rattle.wasi_walks.proofs.Words.{watch_of, watched_by, with_handle, with_records, ℕ, ⊤, ◌==◌, ◌∙◌, ◌≡◌}
 use Rattle.wasi_world.specs.declared.ids.Ids.{Ids}
 use Rattle.wasi_walks.proofs.walks.Moves.{Interface, P2, ToListen, Own, Used, Here, put, Found, NoStartStands, record_of, udp_record_of, tcp_place, udp_place, Made, Awaited, Emptied, Numbered, Past, Unmade, Joined}
-use Rattle.wasi_host.specs.declared.kind.Kind.TheVariants.{Listen3, Tcp3, Udp2, Udp3, PlainInput, PlainOutput, Incoming, Outgoing, Lookup}
-use Rattle.wasi_host.specs.Kinds.{listen3_of, tcp3_of, udp3_of, udp_of, incoming_of, outgoing_of}
+use Rattle.host_store.specs.declared.kind.Kind.TheVariants.{Listen3, Tcp3, Udp2, Udp3, PlainInput, PlainOutput, Incoming, Outgoing, Lookup}
+use Rattle.host_store.specs.Kinds.{listen3_of, tcp3_of, udp3_of, udp_of, incoming_of, outgoing_of}
 use Rattle.wasi_walks.proofs.Lists.{value_front}
 use Rattle.wasi_walks.proofs.walks.Law.{HasRecord, Given, given_then}
 use Rattle.wasi_records.specs.Records.{tcp2_at, tcp2_put}

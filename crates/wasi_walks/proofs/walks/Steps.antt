@@ -29,9 +29,9 @@ use Rattle.wasi_machine.specs.Machine.{slot_reply}
 use Rattle.wasi_walks.proofs.walks.P3Listens.{p3_accept_walks, p3_listen_walks, p3_relisten_walks}
 use Rattle.wasi_records.specs.Records.{tcp2_at, open_at, udp2_at}
 use Rattle.wasi_host.specs.declared.pending.Outcome.{Outcome}
-use Rattle.wasi_host.specs.Machine.{udp_socket_at, outgoing_at, lookup_number}
+use Rattle.host_store.specs.Machine.{udp_socket_at, outgoing_at, lookup_number}
 use Rattle.wasi_host.specs.Pending.{gone_on, answered_on, handle_outcome, outcome_of, streams_on}
-use Rattle.wasi_host.specs.Standing.{allowed_answer, standing_as}
+use Rattle.host_store.specs.Standing.{allowed_answer, standing_as}
 use Rattle.wasi_steps.specs.Settings.{udp_opt, udp_chosen}
 use Rattle.wasi_walks.proofs.walks.Datagrams.{Streaming, stream_walks, streams_again}
 use Rattle.wasi_walks.proofs.walks.Receives.{receive_walks}
@@ -39,21 +39,21 @@ use Rattle.wasi_walks.proofs.walks.Lookups.{next_address_walks, resolve_walks}
 use Rattle.wasi_walks.proofs.walks.Sends.{check_send_walks, drop_outgoing_walks, send_walks}
 use Rattle.wasi_walks.proofs.walks.Udp.{on_udp, udp_local_at_walks, udp_get_at_walks, udp_set_at_walks, start_udp_bind_walks, finish_udp_bind_walks, Polling, polled_walks, create_udp_walks}
 use Rattle.wasi_walks.proofs.walks.P3Udp.{p3_disconnect_walks, p3_udp_get_walks, p3_udp_local_walks, p3_udp_set_walks}
-use Rattle.wasi_host.specs.BaseStops.{BaseStop}
+use Rattle.host_store.specs.BaseStops.{BaseStop}
 use Rattle.wasi_records.specs.declared.udp.UdpRecord.{UdpRecord}
 use Rattle.wasi_walks.proofs.Words.{Asks, append-nil, first_ids, handles_of, inr, ◌∙◌, ◌∷◌, []}
 use Rattle.wasi_streams.specs.Streams.{zeros}
-use Rattle.wasi_host.specs.declared.kind.Kind.TheVariants.{PlainInput, PlainOutput}
-use Rattle.wasi_host.specs.declared.kind.PlainInput.TheVariants as plain_input
-use Rattle.wasi_host.specs.declared.kind.PlainOutput.TheVariants as plain_output
+use Rattle.host_store.specs.declared.kind.Kind.TheVariants.{PlainInput, PlainOutput}
+use Rattle.host_store.specs.declared.kind.PlainInput.TheVariants as plain_input
+use Rattle.host_store.specs.declared.kind.PlainOutput.TheVariants as plain_output
 use Rattle.wasi_walks.proofs.walks.Blocking.{WritesNone, blocking_flush_walks, blocking_read_walks, blocking_skip_walks, blocking_splice_walks, blocking_write_walks, blocking_zeroes_walks, unblock_walks}
 use Rattle.wasi_walks.proofs.walks.Calls.{Calling, calls_over, check_asks_walks, flushed_asks_walks, read_asks_walks, skip_asks_walks, write_asks_walks}
 use Rattle.wasi_host.specs.declared.polling.Look.TheVariants.{First}
 use Rattle.wasi_walks.proofs.walks.Polling.{block_walks, looks_begin, poll_asks_walks, ready_asks_walks}
-use Rattle.wasi_host.specs.Machine.{code_told, same_told}
+use Rattle.host_tcp.specs.Creates.{code_told, same_told}
 use Rattle.wasi_p3.specs.Tcp as p3
 use Rattle.wasi_walks.proofs.walks.Binds.{p3_bind_walks, p3_udp_bind_walks, rebind_walks, udp_rebind_walks}
-use Rattle.wasi_host.specs.Beside.{beside_of}
+use Rattle.host_store.specs.Beside.{beside_of}
 use Rattle.wasi_walks.proofs.walks.Beside.{resume_beside_walks}
 use Rattle.wasi_walks.proofs.walks.Connects.{p3_connect_walks}
 use Rattle.wasi_walks.proofs.walks.Resolves.{p3_resolve_walks}

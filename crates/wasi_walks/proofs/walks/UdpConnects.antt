@@ -17,13 +17,13 @@ use Rattle.wasi_records.specs.Datagrams.{has_streams, udp_alone_begun, udp_conne
 use Rattle.wasi_records.specs.Records.{open_at}
 use Rattle.wasi_records.specs.Stops.{Code}
 use Rattle.wasi_records.specs.Udp.{with_udp_inner}
-use Rattle.wasi_host.specs.declared.store.StandingCall.TheVariants.{UdpConnect3}
-use Rattle.wasi_host.specs.BaseStops.{renamed}
-use Rattle.wasi_host.specs.Binds.{Answered, keeps}
-use Rattle.wasi_host.specs.Block.{Call, goes_on, or_trap, need, ◌>>=◌, ◌>>◌}
-use Rattle.wasi_host.specs.Machine.{udp3_at}
-use Rattle.wasi_host.specs.UdpCalls.{with_open_udp}
-use Rattle.wasi_host.specs.UdpConnects.{udp_connect_of, udp_reconnect_of}
+use Rattle.host_store.specs.declared.store.StandingCall.TheVariants.{UdpConnect3}
+use Rattle.host_store.specs.BaseStops.{renamed}
+use Rattle.host_store.specs.Lines.{Answered, keeps}
+use Rattle.host_store.specs.Block.{Call, goes_on, or_trap, need, ◌>>=◌, ◌>>◌}
+use Rattle.host_store.specs.Machine.{udp3_at}
+use Rattle.host_store.specs.Store.{with_open_udp}
+use Rattle.host_udp.specs.UdpConnects.{udp_connect_of, udp_reconnect_of}
 use Rattle.wasi_p3.specs.Udp.{connect_to}
 use Rattle.wasi_steps.specs.Steps.{handles_of}
 use Rattle.wasi_walks.specs.Licence.{IsUdpConnectTo}

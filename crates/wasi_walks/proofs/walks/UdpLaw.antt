@@ -3,16 +3,16 @@ use Rattle.std.specs.Prelude.{◌≡◌, ℕ, true, List, [], ◌∷◌, ◌++�
 use Rattle.wasi_walks.proofs.Words.{Asks, Ask, Call, End, Entry, Item, Operation, SocketAddressFamily, Step, Told, WasiSocketsCtx}
 use Rattle.wasi_walks.proofs.Words.{ap, bind, entry, ◌∙◌, make_asks, own_of, poll_asks, subst, told_addr}
 use Rattle.wasi_records.specs.Datagrams.{udp_connect_left, udp_reconnect_left, with_sending}
-use Rattle.wasi_host.specs.Kinds.{kind_at, udp_of}
+use Rattle.host_store.specs.Kinds.{kind_at, udp_of}
 use Rattle.wasi_records.specs.Receiving.{receive_left, with_receiving}
 use Rattle.wasi_records.specs.Records.{udp2_at}
-use Rattle.wasi_host.specs.UdpCreates.{udp_side_at}
+use Rattle.host_udp.specs.UdpCreates.{udp_side_at}
 use Rattle.wasi_records.specs.declared.datagrams.Incoming.{Incoming}
 use Rattle.wasi_records.specs.declared.datagrams.Outgoing.{Outgoing}
 use Rattle.wasi_records.specs.declared.datagrams.Receiving.{Receiving}
 use Rattle.wasi_records.specs.declared.datagrams.Sending.{Sending}
-use Rattle.wasi_host.specs.declared.kind.Kind.{Kind}
-use Rattle.wasi_host.specs.Kinds.{udp_kind}
+use Rattle.host_store.specs.declared.kind.Kind.{Kind}
+use Rattle.host_store.specs.Kinds.{udp_kind}
 use Rattle.wasi_walks.specs.Licence.{IsDisconnect}
 use Rattle.wasi_udp.specs.Receive.{wanting}
 use Rattle.wasi_udp.specs.Send.{at_remote}

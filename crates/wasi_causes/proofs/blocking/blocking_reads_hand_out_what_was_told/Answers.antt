@@ -3,7 +3,7 @@ use Rattle.wasi_steps.specs.declared.step.Step.TheVariants as step
 use Rattle.wasi_steps.specs.declared.reply.Reply.TheVariants as reply
 use Rattle.wasi_causes.proofs.Words.{◌∷◌, bytes_fields, nothing_stands, refl}
 use Rattle.wasi_machine.specs.Machine.{first_ids}
-use Rattle.wasi_host.specs.declared.blocking.BlockingCall.TheVariants as blocking
+use Rattle.host_store.specs.declared.store.BlockingCall.TheVariants as blocking
 use Rattle.wasi_causes.proofs.streams.Read.{ends_by_read}
 use Rattle.wasi_causes.proofs.tables.Steps.{its_own, while_free}
 use Rattle.wasi_causes.proofs.blocking.blocking_reads_hand_out_what_was_told.Goals as goal

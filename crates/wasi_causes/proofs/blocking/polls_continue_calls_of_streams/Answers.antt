@@ -1,7 +1,7 @@
 use Rattle.wasi_steps.specs.declared.step.Step.TheVariants as step
 use Rattle.wasi_steps.specs.declared.reply.Reply.TheVariants as reply
 use Rattle.wasi_causes.proofs.Words.{refl}
-use Rattle.wasi_host.specs.declared.store.StandingCall.TheVariants.{Blocking}
+use Rattle.host_store.specs.declared.store.StandingCall.TheVariants.{Blocking}
 use Rattle.wasi_causes.proofs.tables.Steps.{its_own, own_free, unheld}
 use Rattle.wasi_causes.proofs.blocking.polls_continue_calls_of_streams.Goals as goal
 

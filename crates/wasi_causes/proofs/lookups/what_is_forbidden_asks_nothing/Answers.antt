@@ -1,7 +1,7 @@
 use Rattle.wasi_steps.specs.declared.guest_call.GuestCall.TheVariants as guest
 use Rattle.wasi_steps.specs.declared.step.Step.TheVariants as step
 use Rattle.wasi_causes.proofs.Words.{context_at, inl, inr, refl, [], ◌≡◌, ◌⊎◌}
-use Rattle.wasi_host.specs.Machine.{with_room}
+use Rattle.host_tcp.specs.Creates.{with_room}
 use Rattle.wasi_steps.specs.declared.reply.Reply.TheVariants as said
 use Rattle.wasi_causes.proofs.tables.Steps.{of_answer}
 use Rattle.wasi_causes.specs.Outcomes.{Quiet}

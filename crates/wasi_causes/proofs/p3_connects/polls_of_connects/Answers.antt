@@ -3,7 +3,7 @@ use Rattle.wasi_causes.proofs.Words.{Option, refl, subst}
 use Rattle.wasi_causes.proofs.p3_connects.polls_of_connects.Goals as goal
 use Rattle.wasi_causes.proofs.tables.Steps.{its_own, other_free, unheld}
 use Rattle.wasi_causes.specs.P3Connects.{GoesOnBeside}
-use Rattle.wasi_host.specs.declared.beside.Beside.{Beside}
+use Rattle.host_store.specs.declared.beside.Beside.{Beside}
 use Rattle.wasi_steps.specs.declared.reply.Reply.TheVariants as reply
 use Rattle.wasi_steps.specs.declared.step.Step.TheVariants as step
 

@@ -3,7 +3,7 @@ use Rattle.wasi_causes.proofs.Words.{Option, subst}
 use Rattle.wasi_causes.proofs.p3_lookups.polls_of_lookups.Goals as goal
 use Rattle.wasi_causes.proofs.tables.Steps.{its_own}
 use Rattle.wasi_causes.specs.P3Connects.{GoesOnBeside}
-use Rattle.wasi_host.specs.declared.beside.Beside.{Beside}
+use Rattle.host_store.specs.declared.beside.Beside.{Beside}
 use Rattle.wasi_steps.specs.declared.step.Step.TheVariants as step
 
 pub returns : goal.returns

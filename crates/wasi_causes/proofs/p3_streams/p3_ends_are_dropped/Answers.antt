@@ -2,7 +2,7 @@ use Rattle.wasi_causes.proofs.p3_streams.p3_ends_are_dropped.Goals as goal
 use Rattle.wasi_steps.specs.declared.guest_call.GuestCall.TheVariants as guest
 use Rattle.wasi_steps.specs.declared.step.Step.TheVariants as step
 use Rattle.wasi_steps.specs.declared.reply.Reply.TheVariants as reply
-use Rattle.wasi_host.specs.declared.kind.Kind.TheVariants as kind
+use Rattle.host_store.specs.declared.kind.Kind.TheVariants as kind
 use Rattle.wasi_causes.proofs.Ending.{end_ok, read_end_gone, result_gone, write_end_gone}
 use Rattle.wasi_causes.proofs.tables.Steps.{its_own, while_free}
 

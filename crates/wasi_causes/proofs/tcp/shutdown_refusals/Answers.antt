@@ -1,7 +1,7 @@
 use Rattle.wasi_steps.specs.declared.guest_call.GuestCall.TheVariants as guest
 use Rattle.wasi_steps.specs.declared.step.Step.TheVariants as step
 use Rattle.wasi_steps.specs.declared.reply.Reply.TheVariants as reply
-use Rattle.wasi_host.specs.Machine.{socket_at}
+use Rattle.host_store.specs.Machine.{socket_at}
 use Rattle.wasi_causes.proofs.streams.Routes.{more_of}
 use Rattle.wasi_causes.proofs.tables.Steps.{its_own, while_free}
 use Rattle.wasi_causes.proofs.tcp.shutdown_refusals.Goals as goal

@@ -1,5 +1,5 @@
 use Rattle.wasi_causes.proofs.Words.{first_ids, nothing_stands, refl}
-use Rattle.wasi_host.specs.declared.blocking.BlockingCall.TheVariants as blocking
+use Rattle.host_store.specs.declared.store.BlockingCall.TheVariants as blocking
 use Rattle.wasi_host.specs.declared.polling.Look.TheVariants.{First, Later}
 use Rattle.wasi_steps.specs.declared.reply.Reply.TheVariants as reply
 use Rattle.wasi_steps.specs.declared.guest_call.GuestCall.TheVariants as guest

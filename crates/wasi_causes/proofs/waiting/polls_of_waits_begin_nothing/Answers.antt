@@ -1,10 +1,10 @@
 use Rattle.wasi_causes.proofs.Words.{false, refl, true}
-use Rattle.wasi_host.specs.declared.blocking.BlockingCall.TheVariants as blocking
+use Rattle.host_store.specs.declared.store.BlockingCall.TheVariants as blocking
 use Rattle.wasi_steps.specs.declared.step.Step.TheVariants as step
 use Rattle.wasi_causes.proofs.pollables.Places.{takes_so}
 use Rattle.wasi_causes.proofs.Runs.{waits_never_trap}
 use Rattle.wasi_causes.proofs.pollables.Unnamed.{same_asks}
-use Rattle.wasi_host.specs.declared.store.StandingCall.TheVariants.{Blocking}
+use Rattle.host_store.specs.declared.store.StandingCall.TheVariants.{Blocking}
 use Rattle.wasi_causes.proofs.tables.Steps.{own_free, unheld}
 use Rattle.wasi_causes.proofs.waiting.polls_of_waits_begin_nothing.Goals as goal
 

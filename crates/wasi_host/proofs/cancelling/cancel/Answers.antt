@@ -2,10 +2,10 @@ use Rattle.std.proofs.Common.{Bool, ap, refl, sym}
 use Rattle.wasi_world.specs.Asks.{Give}
 use Rattle.wasi_world.proofs.Walks.{asks_end, asks_exit, asks_gives}
 use Rattle.wasi_records.proofs.ReceiveLists.{on_err}
-use Rattle.wasi_host.specs.Machine.{with_store}
-use Rattle.wasi_host.specs.Store.{Records}
-use Rattle.wasi_host.specs.Views.{state_of}
-use Rattle.wasi_host.specs.declared.machine.Machine.{Machine}
+use Rattle.host_store.specs.Machine.{with_store}
+use Rattle.host_store.specs.Store.{Records}
+use Rattle.host_store.specs.Views.{state_of}
+use Rattle.host_store.specs.declared.machine.Machine.{Machine}
 use Rattle.wasi_host.proofs.cancelling.cancel.Goals as goal
 
 pub returns-in_default-clause-asked : goal.returns-in_default-clause-asked

@@ -1,7 +1,7 @@
 use Rattle.std.proofs.Common.{◌≡◌, [], false, length}
 use Rattle.wasi_world.specs.Asks.{Reaches}
 use Rattle.wasi_jobs.specs.JobList.{below, from_on}
-use Rattle.wasi_host.specs.Jobs.{turn_jobs}
+use Rattle.host_store.specs.Jobs.{turn_jobs}
 use Rattle.wasi_records.specs.Sides.{MakesNone, held_in}
 use Rattle.wasi_host.proofs.jobs.turn_jobs.Given as goal
 

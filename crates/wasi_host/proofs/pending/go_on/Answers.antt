@@ -1,11 +1,11 @@
 use Rattle.std.proofs.Common.{refl}
 use Rattle.wasi_world.proofs.Walks.{asks_end}
 use Rattle.wasi_records.proofs.Hosts.{host_exit, host_passed}
-use Rattle.wasi_host.specs.declared.kind.Interface.TheVariants.{P3}
-use Rattle.wasi_host.specs.BaseStops.{ends_as}
+use Rattle.host_store.specs.declared.kind.Interface.TheVariants.{P3}
+use Rattle.host_store.specs.BaseStops.{ends_as}
 use Rattle.wasi_host.specs.Pending.{handle_outcome, outcome_of}
-use Rattle.wasi_host.specs.Views.{state_of}
-use Rattle.wasi_host.proofs.Bases.{answered_goes, stored_goes}
+use Rattle.host_store.specs.Views.{state_of}
+use Rattle.wasi_host.proofs.Outcomes.{answered_goes, stored_goes}
 use Rattle.wasi_host.proofs.pending.go_on.Goals as goal
 
 pub returns-in-Bind-clause-asked : goal.returns-in-Bind-clause-asked

@@ -1,10 +1,10 @@
 use Rattle.std.proofs.Common.{refl}
 use Rattle.wasi_world.proofs.Walks.{asks_end}
 use Rattle.wasi_records.proofs.Hosts.{host_passed}
-use Rattle.wasi_host.specs.declared.kind.Interface.TheVariants.{P3}
-use Rattle.wasi_host.specs.BaseStops.{ends_as}
+use Rattle.host_store.specs.declared.kind.Interface.TheVariants.{P3}
+use Rattle.host_store.specs.BaseStops.{ends_as}
 use Rattle.wasi_host.specs.Pending.{handle_outcome}
-use Rattle.wasi_host.proofs.Bases.{answered_goes}
+use Rattle.wasi_host.proofs.Outcomes.{answered_goes}
 use Rattle.wasi_host.proofs.pending.go_on_listen.Goals as goal
 
 pub returns-in_err-answer-clause-asked : goal.returns-in_err-answer-clause-asked

@@ -5,13 +5,13 @@ use Rattle.wasi_world.proofs.Walks.{asks_end}
 use Rattle.wasi_records.specs.Stops.{SocketError, host_outcome}
 use Rattle.wasi_records.proofs.Hosts.{host_exit, host_passed}
 use Rattle.wasi_records.proofs.ReceiveLists.{on_err}
-use Rattle.wasi_host.proofs.Pipes.{on_err as on_err_by}
-use Rattle.wasi_host.specs.declared.beside.Beside.{Beside}
-use Rattle.wasi_host.specs.Beside.{beside_in}
-use Rattle.wasi_host.specs.SocketDatagrams.{is_datagram_in}
-use Rattle.wasi_host.specs.Standing.{call_of}
-use Rattle.wasi_host.specs.Store.{Records}
-use Rattle.wasi_host.specs.declared.store.Standing.{Standing}
+use Rattle.host_streams.proofs.Pipes.{on_err as on_err_by}
+use Rattle.host_store.specs.declared.beside.Beside.{Beside}
+use Rattle.host_store.specs.Beside.{beside_in}
+use Rattle.host_udp.specs.SocketDatagrams.{is_datagram_in}
+use Rattle.host_store.specs.Standing.{call_of}
+use Rattle.host_store.specs.Store.{Records}
+use Rattle.host_store.specs.declared.store.Standing.{Standing}
 use Rattle.wasi_host.proofs.pending.resume.Goals as goal
 
 pub returns-in_default-clause-asked : goal.returns-in_default-clause-asked

@@ -2,13 +2,13 @@ use Rattle.std.proofs.Common.{refl}
 use Rattle.wasi_world.specs.declared.outcome.Answer.{Answer}
 use Rattle.wasi_world.proofs.Walks.{asks_end}
 use Rattle.wasi_records.proofs.Hosts.{host_none, host_passed}
-use Rattle.wasi_host.specs.declared.kind.Interface.TheVariants.{P3}
+use Rattle.host_store.specs.declared.kind.Interface.TheVariants.{P3}
 use Rattle.wasi_host.specs.declared.pending.Outcome.{Outcome}
-use Rattle.wasi_host.specs.BaseStops.{ends_as}
+use Rattle.host_store.specs.BaseStops.{ends_as}
 use Rattle.wasi_host.specs.Pending.{datagram_outcome, outcome_of}
-use Rattle.wasi_host.specs.Views.{state_of}
-use Rattle.wasi_host.proofs.Bases.{stored_goes}
-use Rattle.wasi_host.proofs.Resolves.{resolved_goes}
+use Rattle.host_store.specs.Views.{state_of}
+use Rattle.wasi_host.proofs.Outcomes.{stored_goes}
+use Rattle.wasi_host.proofs.Outcomes.{resolved_goes}
 use Rattle.wasi_host.proofs.pending.resume_beside.Goals as goal
 
 pub returns-in_err-answer-in-Connect-clause-asked : goal.returns-in_err-answer-in-Connect-clause-asked

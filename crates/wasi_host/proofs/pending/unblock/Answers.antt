@@ -1,9 +1,9 @@
 use Rattle.std.proofs.Common.{refl}
 use Rattle.wasi_host.specs.declared.pending.Outcome.TheVariants.{Bytes, Count}
 use Rattle.wasi_host.specs.Pending.{nothing_given}
-use Rattle.wasi_host.specs.Views.{state_of}
+use Rattle.host_store.specs.Views.{state_of}
 use Rattle.wasi_world.proofs.Walks.{asks_end}
-use Rattle.wasi_host.proofs.Blocks.{call_outcome_of}
+use Rattle.wasi_host.proofs.Outcomes.{call_outcome_of}
 use Rattle.wasi_records.proofs.Hosts.{host_fault}
 use Rattle.wasi_host.proofs.pending.unblock.Goals as goal
 

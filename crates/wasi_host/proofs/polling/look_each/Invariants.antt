@@ -1,8 +1,8 @@
 use Rattle.std.proofs.Common.{◌≡◌, ◌+◌, ◌≤◌, false, drop, []}
 use Rattle.wasi_world.specs.Asks.{Reaches}
 use Rattle.wasi_host.specs.Polling.{look_each}
-use Rattle.wasi_host.specs.KnownSides.{KnowsSides}
-use Rattle.wasi_host.specs.Views.{SameView, state_of}
+use Rattle.host_store.specs.KnownSides.{KnowsSides}
+use Rattle.host_store.specs.Views.{SameView, state_of}
 use Rattle.wasi_host.proofs.polling.look_each.Given as goal
 
 -- those before the place were looked at, each by one name at most

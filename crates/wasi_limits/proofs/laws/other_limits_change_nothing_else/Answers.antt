@@ -3,7 +3,7 @@ use Rattle.wasi_limits.proofs.Buts.{run_is, plain_alike}
 use Rattle.wasi_limits.proofs.Logs.{follows}
 use Rattle.wasi_limits.proofs.Runs.{runs_alike}
 use Rattle.wasi_limits.specs.Runs.{NoReplies}
-use Rattle.wasi_host.specs.Machine.{first_state}
+use Rattle.host_store.specs.Machine.{first_state}
 use Rattle.wasi_limits.proofs.laws.other_limits_change_nothing_else.Goals as goal
 
 pub returns : goal.returns

@@ -1,6 +1,6 @@
 use Rattle.wasi_world.proofs.Walks.{asks_gives}
-use Rattle.wasi_host.specs.Machine.{with_store}
-use Rattle.wasi_host.specs.Views.{state_of}
+use Rattle.host_store.specs.Machine.{with_store}
+use Rattle.host_store.specs.Views.{state_of}
 use Rattle.wasi_p2.proofs.options.get_option.Goals as goal
 
 pub returns-clause-asked : goal.returns-clause-asked

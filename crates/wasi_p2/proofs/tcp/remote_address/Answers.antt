@@ -1,6 +1,6 @@
-use Rattle.wasi_host.specs.Views.{state_of}
-use Rattle.wasi_host.specs.Lines.{storing}
-use Rattle.wasi_host.proofs.Called.{called_last}
+use Rattle.host_store.specs.Views.{state_of}
+use Rattle.host_store.specs.Lines.{storing}
+use Rattle.host_store.proofs.Called.{called_last}
 use Rattle.wasi_p2.proofs.tcp.remote_address.Goals as goal
 
 pub returns-clause-asked : goal.returns-clause-asked

@@ -6,10 +6,10 @@ use Rattle.wasi_world.proofs.Walks.{asks_gives}
 use Rattle.wasi_records.specs.Records.{open_at}
 use Rattle.wasi_records.specs.Stops.{SocketError, host_outcome}
 use Rattle.wasi_records.proofs.ReceiveLists.{err_then, on_err}
-use Rattle.wasi_host.specs.DatagramCalls.{StoreLoses}
-use Rattle.wasi_host.specs.Machine.{with_store}
-use Rattle.wasi_host.specs.Views.{state_of}
-use Rattle.wasi_host.specs.declared.machine.Machine.{Machine}
+use Rattle.host_udp.specs.DatagramCalls.{StoreLoses}
+use Rattle.host_store.specs.Machine.{with_store}
+use Rattle.host_store.specs.Views.{state_of}
+use Rattle.host_store.specs.declared.machine.Machine.{Machine}
 use Rattle.wasi_p2.specs.Udp.{ReceiveLoses}
 use Rattle.wasi_p2.proofs.udp.receive.Goals as goal
 

@@ -1,7 +1,7 @@
 use Rattle.std.proofs.Common.{refl}
-use Rattle.wasi_host.specs.BaseStops.{ends_as}
-use Rattle.wasi_host.specs.Views.{state_of}
-use Rattle.wasi_host.proofs.Bases.{ends_none}
+use Rattle.host_store.specs.BaseStops.{ends_as}
+use Rattle.host_store.specs.Views.{state_of}
+use Rattle.host_store.proofs.Bases.{ends_none}
 use Rattle.wasi_p3.proofs.HostCalls.{stored}
 use Rattle.wasi_p3.proofs.ip_name_lookup.resolve.Goals as goal
 

@@ -1,5 +1,5 @@
 use Rattle.std.proofs.Common.{refl}
-use Rattle.wasi_host.proofs.Bases.{ends_none}
+use Rattle.host_store.proofs.Bases.{ends_none}
 use Rattle.wasi_p3.proofs.ip_name_lookup.resolve_addresses.Goals as goal
 
 pub returns-in_err-host-clause-asked : goal.returns-in_err-host-clause-asked

@@ -1,6 +1,6 @@
 use Rattle.wasi_addr.specs.Code.{p3_of_code}
-use Rattle.wasi_host.specs.BaseStops.{ends_as}
-use Rattle.wasi_host.specs.Views.{state_of}
+use Rattle.host_store.specs.BaseStops.{ends_as}
+use Rattle.host_store.specs.Views.{state_of}
 use Rattle.wasi_p3.proofs.HostCalls.{host_named}
 use Rattle.wasi_p3.proofs.listening.listen.Goals as goal
 

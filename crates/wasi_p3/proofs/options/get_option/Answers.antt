@@ -6,8 +6,8 @@ use Rattle.wasi_records.specs.Names.{own_of}
 use Rattle.wasi_records.specs.Sockets.{inner_answered}
 use Rattle.wasi_records.proofs.OptionSides.{calm_get}
 use Rattle.wasi_records.proofs.SideCounts.{Any, held_in-set}
-use Rattle.wasi_host.specs.Views.{state_of}
-use Rattle.wasi_host.proofs.KnownSides.{knows_asked}
+use Rattle.host_store.specs.Views.{state_of}
+use Rattle.host_store.proofs.KnownSides.{knows_asked}
 use Rattle.wasi_p3.specs.Lines.{inner_call}
 use Rattle.wasi_p3.proofs.Called.{tcp_called, tcp_none}
 use Rattle.wasi_p3.proofs.options.get_option.Goals as goal

@@ -1,6 +1,6 @@
 use Rattle.std.proofs.Common.{refl}
 use Rattle.wasi_world.proofs.Walks.{asks_then, asks_end}
-use Rattle.wasi_host.proofs.Bases.{ends_fault}
+use Rattle.host_store.proofs.Bases.{ends_fault}
 use Rattle.wasi_p3.proofs.streams.make_ends.Goals as goal
 
 pub returns-in_err-end-clause-asked : goal.returns-in_err-end-clause-asked

@@ -1,5 +1,5 @@
-use Rattle.wasi_host.specs.BaseStops.{ends_as}
-use Rattle.wasi_host.specs.Views.{state_of}
+use Rattle.host_store.specs.BaseStops.{ends_as}
+use Rattle.host_store.specs.Views.{state_of}
 use Rattle.wasi_p3.proofs.Ends.{given_if, stored_goes_on, stored_stops}
 use Rattle.wasi_p3.proofs.streams.receive.Goals as goal
 

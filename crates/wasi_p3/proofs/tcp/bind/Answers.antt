@@ -1,7 +1,7 @@
 use Rattle.wasi_addr.specs.Code.{p3_of_code}
-use Rattle.wasi_host.specs.BaseStops.{ends_as}
-use Rattle.wasi_host.specs.Views.{state_of}
-use Rattle.wasi_host.proofs.Bases.{stored_named}
+use Rattle.host_store.specs.BaseStops.{ends_as}
+use Rattle.host_store.specs.Views.{state_of}
+use Rattle.host_store.proofs.Bases.{stored_named}
 use Rattle.wasi_p3.proofs.tcp.bind.Goals as goal
 
 pub returns-clause-asked : goal.returns-clause-asked

@@ -1,7 +1,7 @@
 use Rattle.wasi_world.proofs.Walks.{asks_ok}
-use Rattle.wasi_host.specs.declared.kind.Kind.TheVariants.{Tcp3}
-use Rattle.wasi_host.specs.Views.{state_of}
-use Rattle.wasi_host.proofs.TcpHandles.{asks_made}
+use Rattle.host_store.specs.declared.kind.Kind.TheVariants.{Tcp3}
+use Rattle.host_store.specs.Views.{state_of}
+use Rattle.host_tcp.proofs.TcpHandles.{asks_made}
 use Rattle.wasi_p3.specs.Tcp.{code_told, handle_told}
 use Rattle.wasi_p3.proofs.Called.{create_refused, fault_told}
 use Rattle.wasi_p3.proofs.tcp.create.Goals as goal

@@ -4,8 +4,8 @@ use Rattle.wasi_world.proofs.Walks.{asks_at}
 use Rattle.wasi_records.specs.Names.{own_of}
 use Rattle.wasi_records.specs.Sockets.{tell_local_asks}
 use Rattle.wasi_records.proofs.SideCounts.{Any, held_in-set, calm_tell_local}
-use Rattle.wasi_host.specs.Views.{state_of}
-use Rattle.wasi_host.proofs.KnownSides.{knows_asked}
+use Rattle.host_store.specs.Views.{state_of}
+use Rattle.host_store.proofs.KnownSides.{knows_asked}
 use Rattle.wasi_p3.proofs.Called.{tcp_called, tcp_none}
 use Rattle.wasi_p3.proofs.tcp.get_local_address.Goals as goal
 

@@ -1,6 +1,6 @@
 use Rattle.wasi_addr.specs.Code.{p3_of_code}
-use Rattle.wasi_host.specs.BaseStops.{ends_as}
-use Rattle.wasi_host.proofs.Bases.{created_named}
+use Rattle.host_store.specs.BaseStops.{ends_as}
+use Rattle.host_udp.proofs.CreatedNames.{created_named}
 use Rattle.wasi_p3.proofs.udp.create.Goals as goal
 
 pub returns-clause-asked : goal.returns-clause-asked

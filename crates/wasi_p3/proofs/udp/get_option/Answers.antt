@@ -6,8 +6,8 @@ use Rattle.wasi_records.specs.Names.{own_of}
 use Rattle.wasi_records.proofs.SideCounts.{Any}
 use Rattle.wasi_records.proofs.UdpCalms.{calm_udp_get}
 use Rattle.wasi_records.proofs.UdpLookups.{held_in-open}
-use Rattle.wasi_host.specs.Views.{state_of}
-use Rattle.wasi_host.proofs.KnownSides.{knows_asked}
+use Rattle.host_store.specs.Views.{state_of}
+use Rattle.host_store.proofs.KnownSides.{knows_asked}
 use Rattle.wasi_p3.specs.Udp.{staying}
 use Rattle.wasi_p3.proofs.Called.{udp_called, udp_none}
 use Rattle.wasi_p3.proofs.udp.get_option.Goals as goal

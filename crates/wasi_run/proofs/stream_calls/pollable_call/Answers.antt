@@ -5,8 +5,8 @@ use Rattle.std.proofs.Common.{sym}
 use Rattle.wasi_steps.specs.Reply.{numbers_fields}
 use Rattle.wasi_world.specs.declared.ids.Ids.{Ids}
 use Rattle.wasi_world.proofs.Walks.{asks_at}
-use Rattle.wasi_host.specs.Machine.{drop_asks}
-use Rattle.wasi_host.specs.Views.{state_of}
+use Rattle.wasi_host.specs.HandleDrops.{drop_asks}
+use Rattle.host_store.specs.Views.{state_of}
 use Rattle.wasi_run.proofs.stream_calls.pollable_call.Goals as goal
 
 pub returns-in-Subscribe-clause-asked : goal.returns-in-Subscribe-clause-asked

@@ -1,7 +1,7 @@
 use Rattle.std.proofs.Common.{◌≡◌, ◌==◌, false, arith, refl}
 use Rattle.wasi_addr.specs.Code.{p3_of_code}
 use Rattle.wasi_world.proofs.Walks.{asks_end, asks_then}
-use Rattle.wasi_host.specs.Views.{state_of}
+use Rattle.host_store.specs.Views.{state_of}
 use Rattle.wasi_p3.proofs.HostCalls.{stopped, value_told}
 use Rattle.wasi_p3.proofs.listening.ListenStreamProducer.poll_produce.Goals as goal
 

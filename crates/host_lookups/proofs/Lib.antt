@@ -1,0 +1,2 @@
+pub mod LookupHandles
+pub mod Resolves

@@ -1,0 +1,7 @@
+use Rattle.std.proofs.Common.{◌≡◌}
+use Rattle.wasi_records.proofs.NameLookups.{converted}
+use Rattle.host_lookups.proofs.resolving.canonical_names.Given as goal
+
+-- those before the index are in their canonical form
+abbrev pub invariant-loop-address : goal.invariant-loop-address
+invariant-loop-address l = l.address-items ≡ converted l.address-index l.fn.names

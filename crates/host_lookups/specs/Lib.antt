@@ -1,0 +1,2 @@
+pub mod NameLookupCalls
+pub mod Resolves

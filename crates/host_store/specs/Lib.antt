@@ -1,0 +1,16 @@
+pub mod BaseStops
+pub mod Beside
+pub mod Block
+pub mod CallStops
+pub mod GivingBack
+pub mod Jobs
+pub mod Kinds
+pub mod KnownSides
+pub mod Limits
+pub mod Lines
+pub mod Machine
+pub mod Readiness
+pub mod Rows
+pub mod Standing
+pub mod Store
+pub mod Views

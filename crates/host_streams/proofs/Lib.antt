@@ -1,0 +1,4 @@
+pub mod Blocks
+pub mod Pipes
+pub mod StreamCalls
+pub mod WriteRests

@@ -1,0 +1,26 @@
+use Rattle.std.proofs.Common.{refl, ap}
+use Rattle.wasi_world.proofs.Walks.{asks_gives, asks_given}
+use Rattle.wasi_tcp.specs.Socket.{side_of}
+use Rattle.host_store.specs.Store.{Records}
+use Rattle.host_store.specs.Readiness.{ready_put}
+use Rattle.wasi_records.proofs.SideCounts.{Any, held_in-set}
+use Rattle.host_store.proofs.KnownSides.{knows_asked}
+use Rattle.wasi_records.proofs.Looks.{calm_ready_reader}
+use Rattle.wasi_records.proofs.Lookups.{found_at, none_at}
+use Rattle.host_store.specs.declared.store.Store.TheView.{view}
+use Rattle.host_streams.proofs.connections.input_ready.Goals as goal
+
+pub returns-in_default-clause-asked : goal.returns-in_default-clause-asked
+returns-in_default-clause-asked g c = rw (← c.store.view_is, none_at c.store.inside.records.items c.args.place c.in_default.ensures.item) (asks_given _ _ refl refl)
+
+pub returns-clause-asked : goal.returns-clause-asked
+returns-clause-asked g c =
+    let store : Records = view c.store.inside in
+    rw (← c.store.view_is, found_at c.store.inside.records.items c.args.place c.in-Some.record c.in-Some.ensures.item)
+    (asks_gives (ready_put store c.args.place) c.input_ready.ensures.asked)
+
+pub returns-clause-sides : goal.returns-clause-sides
+returns-clause-sides g c = λ k.
+    knows_asked Any _ _ _ (calm_ready_reader c.args.op c.in-Some.record.now c.in-Some.record.now.streams) c.input_ready.ensures.asked
+    (held_in-set c.store.inside.records.items c.args.place c.in-Some.record.now c.input_ready.new.self (found_at c.store.inside.records.items c.args.place c.in-Some.record c.in-Some.ensures.item) (ap side_of c.input_ready.ensures.inner) c.input_ready.ensures.listening)
+    (rw (← c.store.view_is) at k)

@@ -1,0 +1,4 @@
+pub mod Blocking
+pub mod PlainStreams
+pub mod StreamCalls
+pub mod StreamEnds

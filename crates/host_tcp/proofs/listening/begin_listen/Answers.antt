@@ -1,0 +1,48 @@
+use Rattle.std.proofs.Common.{List, Err, Ok, ap, sym, refl}
+use Rattle.wasi_addr.specs.declared.code.ErrorCode.TheVariants.{InvalidState}
+use Rattle.wasi_world.specs.declared.ids.OpId.{OpId}
+use Rattle.wasi_world.specs.declared.outcome.Answer.{Answer}
+use Rattle.wasi_world.specs.Asks.{Give}
+use Rattle.wasi_world.proofs.Walks.{asks_at, asks_end, asks_given}
+use Rattle.wasi_records.specs.declared.records.Record.{Record}
+use Rattle.wasi_records.specs.Sides.{held_in}
+use Rattle.wasi_records.specs.Stops.{Code}
+use Rattle.wasi_records.proofs.Lookups.{found_at, none_at, set_back}
+use Rattle.host_tcp.specs.Listens.{listens}
+use Rattle.host_store.specs.Store.{Records, with_socket}
+use Rattle.host_store.proofs.Bases.{base_passed}
+use Rattle.host_store.proofs.KnownSides.{knows_polled, knows_same, knows_stood}
+use Rattle.host_store.specs.declared.store.Store.TheView.{view}
+use Rattle.host_tcp.proofs.listening.begin_listen.Goals as goal
+
+pub returns-in_default-clause-asked : goal.returns-in_default-clause-asked
+returns-in_default-clause-asked g c = rw (← c.store.view_is, none_at c.store.inside.records.items c.args.place c.in_default.ensures.item) (asks_given _ _ refl refl)
+
+pub returns-then-not-is_nothing-clause-asked : goal.returns-then-not-is_nothing-clause-asked
+returns-then-not-is_nothing-clause-asked g c =
+    let store : Records = view c.store.inside in
+    rw (← c.store.view_is, found_at c.store.inside.records.items c.args.place c.in-Some.record c.in-Some.ensures.item, ← c.is_nothing.ensures, c.if-not-is_nothing.true)
+    (asks_given (Err (Code InvalidState)) _ refl (ap (λ (l : List Record). Give (Err (Code InvalidState), record store { records = l })) (sym (set_back c.store.inside.records.items c.args.place c.in-Some.record c.in-Some.ensures.item))))
+
+pub returns-then-not-is_nothing-clause-sides : goal.returns-then-not-is_nothing-clause-sides
+returns-then-not-is_nothing-clause-sides g c = λ k. knows_same _ _ (ap held_in (set_back c.store.inside.records.items c.args.place c.in-Some.record c.in-Some.ensures.item)) (rw (← c.store.view_is) at k)
+
+pub returns-in_err-answer-clause-asked : goal.returns-in_err-answer-clause-asked
+returns-in_err-answer-clause-asked g c = rw (← c.store.view_is, found_at c.store.inside.records.items c.args.place c.in-Some.record c.in-Some.ensures.item, ← c.is_nothing.ensures, c.if-not-is_nothing.false)
+    (base_passed _ c.listen.result _ c.from_residual.result c.from_residual.ensures.1 c.in_err-answer.ensures.told (asks_at (λ (op : OpId). listens op c.in-Some.record.now) (sym c.own.ensures) c.listen.ensures.asked) (λ code. refl))
+
+pub returns-in_err-answer-clause-sides : goal.returns-in_err-answer-clause-sides
+returns-in_err-answer-clause-sides g c = λ k.
+    let store : Records = view c.store.inside in
+    knows_polled store c.args.place c.in-Some.record.now c.listen.new.record (found_at c.store.inside.records.items c.args.place c.in-Some.record c.in-Some.ensures.item) c.listen.ensures.sides (rw (← c.store.view_is) at k)
+
+pub returns-clause-asked : goal.returns-clause-asked
+returns-clause-asked g c = rw (← c.store.view_is, found_at c.store.inside.records.items c.args.place c.in-Some.record c.in-Some.ensures.item, ← c.is_nothing.ensures, c.if-not-is_nothing.false)
+    (asks_end _ (rw c.in_ok-answer.ensures.ok at (asks_at (λ (op : OpId). listens op c.in-Some.record.now) (sym c.own.ensures) c.listen.ensures.asked)).ok
+    (ap (λ (d : Answer (Unit {0}) × Records). Give (Ok d.0, d.1)) (sym c.stand.ensures)))
+
+pub returns-clause-sides : goal.returns-clause-sides
+returns-clause-sides g c = λ k.
+    let store : Records = view c.store.inside in
+    knows_stood (with_socket store c.args.place c.listen.new.record) _ _ _ _ _ c.stand.ensures
+    (knows_polled store c.args.place c.in-Some.record.now c.listen.new.record (found_at c.store.inside.records.items c.args.place c.in-Some.record c.in-Some.ensures.item) c.listen.ensures.sides (rw (← c.store.view_is) at k))

@@ -1,0 +1,34 @@
+use Rattle.std.proofs.Common.{refl}
+use Rattle.wasi_world.proofs.Walks.{asks_given, asks_end}
+use Rattle.wasi_records.specs.Sockets.{with_inner}
+use Rattle.wasi_records.proofs.Hosts.{host_refused}
+use Rattle.wasi_records.proofs.Lookups.{found_at, none_at}
+use Rattle.wasi_records.proofs.SideCounts.{Any, held_in-set}
+use Rattle.host_store.proofs.KnownSides.{knows_asked, knows_calm}
+use Rattle.wasi_records.proofs.OptionSides.{calm_backlog}
+use Rattle.host_tcp.proofs.options.set_backlog.Goals as goal
+
+pub returns-in_default-clause-asked : goal.returns-in_default-clause-asked
+returns-in_default-clause-asked g c = rw (← c.store.view_is, none_at c.store.inside.records.items c.args.place c.in_default.ensures.item) (asks_given _ _ refl refl)
+
+pub returns-in_err-set_listen_backlog_size-clause-asked : goal.returns-in_err-set_listen_backlog_size-clause-asked
+returns-in_err-set_listen_backlog_size-clause-asked g c =
+    rw (← c.store.view_is, found_at c.store.inside.records.items c.args.place c.in-Some.record c.in-Some.ensures.item)
+    (host_refused _ _ c.from_residual.result c.from_residual.ensures.1 c.in_err-set_listen_backlog_size.ensures.asked (λ code. refl))
+
+pub returns-clause-asked : goal.returns-clause-asked
+returns-clause-asked g c =
+    rw (← c.store.view_is, found_at c.store.inside.records.items c.args.place c.in-Some.record c.in-Some.ensures.item)
+    (asks_end _ c.in_ok-set_listen_backlog_size.ensures.asked.ok refl)
+
+pub returns-in_err-set_listen_backlog_size-clause-sides : goal.returns-in_err-set_listen_backlog_size-clause-sides
+returns-in_err-set_listen_backlog_size-clause-sides g c = λ k.
+    knows_asked Any _ _ _ (calm_backlog c.args.op c.in-Some.record.now.inner c.args.value) c.in_err-set_listen_backlog_size.ensures.asked
+    (held_in-set c.store.inside.records.items c.args.place c.in-Some.record.now (with_inner c.in-Some.record.now c.set_listen_backlog_size.new.self) (found_at c.store.inside.records.items c.args.place c.in-Some.record c.in-Some.ensures.item) c.set_listen_backlog_size.ensures.side refl)
+    (rw (← c.store.view_is) at k)
+
+pub returns-clause-sides : goal.returns-clause-sides
+returns-clause-sides g c = λ k.
+    knows_calm Any _ _ (calm_backlog c.args.op c.in-Some.record.now.inner c.args.value) c.in_ok-set_listen_backlog_size.ensures.asked.ok
+    (held_in-set c.store.inside.records.items c.args.place c.in-Some.record.now (with_inner c.in-Some.record.now c.set_listen_backlog_size.new.self) (found_at c.store.inside.records.items c.args.place c.in-Some.record c.in-Some.ensures.item) c.set_listen_backlog_size.ensures.side refl)
+    (rw (← c.store.view_is) at k)

@@ -1,0 +1,11 @@
+pub mod Binds
+pub mod ConnectionEnds
+pub mod Connects
+pub mod Creates
+pub mod Dropping
+pub mod EndPolls
+pub mod Listens
+pub mod Making
+pub mod Options
+pub mod TcpCalls
+pub mod TcpCancels

@@ -1,7 +1,0 @@
-use Rattle.wasi_addr.specs.Code.{p2_of_code}
-use Rattle.wasi_host.specs.BaseStops.{ends_as}
-use Rattle.wasi_host.proofs.Bases.{created_named}
-use Rattle.wasi_host.proofs.store.Store.create_udp_socket.Goals as goal
-
-pub returns-clause-asked : goal.returns-clause-asked
-returns-clause-asked g c = rw c.named.ensures (created_named p2_of_code (ends_as c.create_udp.result) c.create_udp.ensures.asked)

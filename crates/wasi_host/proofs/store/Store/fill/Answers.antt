@@ -1,7 +1,0 @@
-use Rattle.std.proofs.Common.{sym}
-use Rattle.wasi_records.proofs.SlotCounts.{held_in-slot}
-use Rattle.wasi_host.proofs.KnownSides.{knows_same}
-use Rattle.wasi_host.proofs.store.Store.fill.Goals as goal
-
-pub returns-clause-sides : goal.returns-clause-sides
-returns-clause-sides c = λ s k. knows_same _ _ (held_in-slot c.self.inside.records.items c.args.slot c.in-Some.found.now c.fill.new.self (sym c.in-Some.ensures.item)) (rw (← c.self.view_is) at k)

@@ -1,9 +1,0 @@
--- The network sockets that a store knows.
-use Rattle.std.specs.Prelude.{◌≡◌, ◌+◌, IfSome}
-use Rattle.wasi_world.specs.Seen.{Seen}
-use Rattle.wasi_host.specs.Store.{Records}
-use Rattle.wasi_records.specs.Sides.{Weight, closed_in, held_in, made_in}
-
--- The records hold just the network sockets that were made and not closed, where the log is reported.
-pub record KnowsSides (seen : Seen) (records : Records) : Type 0 where
-  pub count : IfSome seen.log (λ log. (w : Weight) → closed_in log w + held_in records.records w ≡ made_in log w)
