@@ -7,7 +7,6 @@ use Rattle.wasi_world.specs.declared.outcome.Answer.TheVariants.{Ready, Pending}
 use Rattle.wasi_world.specs.declared.outcome.TrapKind.TheVariants.{NoSuchHandle}
 use Rattle.wasi_world.specs.Asks.{Asks, Give, bind}
 use Rattle.host_store.specs.declared.kind.Interface.TheVariants.{P2}
-use Rattle.wasi_host.specs.declared.pending.Outcome.TheVariants.{Nothing}
 use Rattle.wasi_records.specs.declared.socket.TcpRecord.{TcpRecord}
 use Rattle.host_store.specs.declared.store.StandingCall.TheVariants.{Bind, Listen}
 use Rattle.wasi_records.specs.Stops.{Stop, Code, Trap, code_stop}

@@ -2,8 +2,8 @@
 
 use crate::same::same;
 use std::test::Fail;
-use wasi_run::drawn::Drawn;
-use wasi_run::generate::generate;
+use drawn_scripts::drawn::Drawn;
+use drawn_scripts::generate::generate;
 
 /// The lines of the first block of seed 1, and the first line of the next. The number that is drawn
 /// is 7806831264735756412: the port is 60930, and 61 bytes 108 are written.

@@ -2,8 +2,8 @@
 
 use crate::same::same;
 use std::alloc::AllocError;
-use wasi_run::Reply;
-use wasi_run::reply::reply_text;
+use wasi_steps::Reply;
+use wasi_steps::reply::reply_text;
 
 #[test]
 fn each_reply_has_its_text(rt: HostRuntime) -> Result<(), AllocError> {

@@ -10,7 +10,7 @@ use Rattle.wasi_run.specs.declared.error.RunError.{RunError}
 use Rattle.wasi_run.specs.declared.error.RunError.TheVariants as error
 use Rattle.wasi_run.specs.declared.run.RunEnd.{RunEnd}
 use Rattle.wasi_commands.specs.declared.commands.Command.{Command}
-use Rattle.wasi_run.specs.declared.drawn.Drawn.{Drawn}
+use Rattle.drawn_scripts.specs.declared.drawn.Drawn.{Drawn}
 use Rattle.wasi_commands.specs.declared.commands.Command.TheVariants.{Run, Pump, Generate}
 use Rattle.wasi_program.specs.declared.status.Status.{Status}
 use Rattle.wasi_program.specs.declared.status.Status.TheVariants as status

@@ -2,8 +2,8 @@
 use Rattle.std.specs.Prelude.{ℕ, ◌⊎◌, if◌then◌else◌, bytes_eq, codes, List, [], ◌∷◌, Option, Some, None, option_map}
 use Rattle.std.specs.Option.{option_and_then}
 use Rattle.world_text.specs.Fields.{number_in}
-use Rattle.wasi_run.specs.declared.drawn.Drawn.{Drawn}
-use Rattle.wasi_run.specs.declared.drawn.Drawn.TheVariants.{OfTwo, OfBoth}
+use Rattle.drawn_scripts.specs.declared.drawn.Drawn.{Drawn}
+use Rattle.drawn_scripts.specs.declared.drawn.Drawn.TheVariants.{OfTwo, OfBoth}
 use Rattle.wasi_commands.specs.declared.commands.Command.{Command}
 use Rattle.wasi_commands.specs.declared.commands.Command.TheVariants.{Run, Pump, Generate}
 

@@ -7,20 +7,20 @@ use Rattle.world_io.specs.Io.{Reading, Writing}
 use Rattle.world_scripted.specs.Scenario.{scenario_of}
 use Rattle.wasi_run.specs.declared.run.RunEnd.{RunEnd}
 use Rattle.wasi_run.specs.declared.error.RunError.{RunError}
-use Rattle.wasi_run.specs.declared.counts.Counts.{Counts}
+use Rattle.drawn_scripts.specs.declared.counts.Counts.{Counts}
 use Rattle.wasi_program.specs.declared.status.Status.{Status}
 use Rattle.wasi_program.specs.declared.status.Status.TheVariants as status
 use Rattle.wasi_program.specs.Status.{number_of, status_of, bad_line_of}
 use Rattle.wasi_program.specs.Scenario.{ReadScenario, HasBadLine}
 use Rattle.wasi_program.specs.Planned.{RanPlan}
 use Rattle.wasi_commands.specs.declared.commands.Command.{Command}
-use Rattle.wasi_run.specs.declared.drawn.Drawn.{Drawn}
+use Rattle.drawn_scripts.specs.declared.drawn.Drawn.{Drawn}
 use Rattle.wasi_commands.specs.declared.commands.Command.TheVariants.{Run, Pump, Generate}
 use Rattle.wasi_commands.specs.Commands.{command_in}
 use Rattle.wasi_pump.specs.declared.error.PumpError.{PumpError}
 use Rattle.wasi_pump.specs.declared.error.PumpError.TheVariants as pump
 use Rattle.wasi_pump.specs.Pumped.{PumpEnds}
-use Rattle.wasi_run.specs.Counted.{CountsRun, summary}
+use Rattle.drawn_scripts.specs.Counted.{CountsRun, summary}
 use Rattle.world_io.specs.Written.{TookAll, TookPart}
 
 -- how a pump's end is reported

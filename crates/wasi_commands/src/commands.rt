@@ -4,7 +4,7 @@ ghost use Rattle.std.specs.Prelude.{◌≡◌, map, string_bytes};
 ghost use Rattle.wasi_commands.specs.Commands.{run_in, pump_in, limited_in, drawn_in};
 ghost use Rattle.wasi_commands.specs.Commands.{generate_in, command_in};
 
-use wasi_run::drawn::Drawn;
+use drawn_scripts::drawn::Drawn;
 use world_text::fields::number;
 
 /// The most lines that a script is generated with.

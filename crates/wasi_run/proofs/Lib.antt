@@ -1,6 +1,5 @@
 pub mod LineWords
-pub mod CallSteps
-pub mod Stretches
+pub mod LinesJoined
 pub mod OneLine
 pub mod ManyLines
 pub mod Pieces
@@ -9,10 +8,3 @@ pub mod Streaming
 pub mod Completes
 pub mod CauseLaws
 pub mod Headline
-mod GeneratedLines
-mod Generated
-mod Newlines
-mod GeneratedSteps
-mod OwnErrors
-mod CountedRuns
-mod Contents

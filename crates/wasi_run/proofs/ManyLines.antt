@@ -5,7 +5,7 @@ use Rattle.wasi_run.specs.declared.lines.LinesEnd.TheVariants as lines
 use Rattle.wasi_run.specs.declared.error.RunError.{RunError}
 use Rattle.wasi_run.specs.Lines.{LeftAt}
 use Rattle.wasi_run.specs.Ran.{LinesRan}
-use Rattle.wasi_run.proofs.Stretches.{lines_then, lines_none, lines_ahead, IsOver}
+use Rattle.wasi_run.proofs.LinesJoined.{lines_then, lines_none, lines_ahead, IsOver}
 
 -- Of the bytes from start on, the lines up to a place were done.
 pub record Going (contexts : List WasiSocketsCtx) (w_old w_new : Seen) (k_old k_new : Writing) (first now : Machine) (start : ℕ) (bytes : List ℕ) (number_old number at : ℕ) : Type 0 where

@@ -1,5 +1,5 @@
 -- What one line makes, by how it ends.
-use Rattle.wasi_run.proofs.LineWords.{◌≡◌, sym, refl, subst, ℕ, Bool, true, false, if◌then◌else◌, List, [], ◌∷◌, ◌++◌, ◌+◌, length, take, Some, None, Result, Ok, Err, append-nil, add-zero, WasiSocketsCtx, Seen, Asks, Give, Reaches, Started, Writing, Took, reaches_on, reaches_in, Machine, Step, Reply, is_trap, text_of, machine_asks, run, KnowsSides, err_from_is_err_and}
+use Rattle.wasi_run.proofs.LineWords.{◌≡◌, sym, refl, subst, ℕ, true, false, List, [], ◌∷◌, ◌++◌, ◌+◌, length, take, Some, None, Result, Ok, Err, append-nil, add-zero, WasiSocketsCtx, Seen, Give, Started, Writing, Took, reaches_in, Machine, Step, Reply, is_trap, text_of, machine_asks, KnowsSides, err_from_is_err_and}
 use Rattle.std.specs.Prelude.{IsErrAnd}
 use Rattle.wasi_run.specs.declared.lines.LinesEnd.{LinesEnd}
 use Rattle.wasi_run.specs.declared.lines.LinesEnd.TheVariants as lines
@@ -9,11 +9,8 @@ use Rattle.wasi_steps.specs.Steps.{step_of}
 use Rattle.world_io.specs.Written.{TookAll, TookPart}
 use Rattle.wasi_run.specs.Ran.{Beyond, Wrote, Counted, Cause, LinesRan}
 use Rattle.world_io.proofs.Took.{same_none}
-use Rattle.wasi_run.proofs.Stretches.{next_run, Stepped, stretch_one, before_any, none_began}
-
-either_way : (b : Bool) (a : List Reply × Machine) → (if b then Give a else Give a) ≡ Give a
-either_way true a = refl
-either_way false a = refl
+use Rattle.wasi_calls.proofs.Stretches.{next_run, one_ran, Stepped, stretch_one}
+use Rattle.wasi_run.proofs.LinesJoined.{before_any, none_began}
 
 -- out of memory before any line is done
 pub none_done : (contexts : List WasiSocketsCtx) (w : Seen) (k : Writing) (first last : Machine) (line : ℕ) (all : List (List ℕ)) → last ≡ first → LinesRan contexts w w k k first line all (Err Memory) last
@@ -35,11 +32,6 @@ module _ {contexts : List WasiSocketsCtx} {w_old w_new : Seen} {k : Writing} {fi
   pub one_hungry : step_of (length contexts) l ≡ Some s → Started (machine_asks contexts first line s) w_old w_new → (KnowsSides w_old first.store → KnowsSides w_new last.store) → LinesRan contexts w_old w_new k k first line (l ∷ []) (Err Memory) last
   one_hungry e h held =
       before_any (s ∷ []) (e, tt) (λ so_far. record { rest = _; reached = reaches_in (next_run contexts so_far line []) h.reached }) (rw add-zero h) (tt, refl) (same_none k) tt held
-
-pub one_ran : {contexts : List WasiSocketsCtx} {w_old w_new : Seen} {first state : Machine} {line : ℕ} {s : Step} {reply : Reply} → Stepped contexts first line s reply state w_old w_new → (so_far : List Reply) → Reaches (run contexts so_far first line (s ∷ [])) (Give (so_far ++ reply ∷ [], state)) w_old w_new
-one_ran {contexts} {w_old} {w_new} {first} {state} {line} {s} {reply} h so_far =
-    let P : Asks (List Reply × Machine) → Type 0 = λ rest. Reaches (run contexts so_far first line (s ∷ [])) rest w_old w_new in
-    subst P (either_way (is_trap reply) (so_far ++ reply ∷ [], state)) (reaches_on (next_run contexts so_far line []) h.asked)
 
 module _ {contexts : List WasiSocketsCtx} {w_old w_new : Seen} {k_old k_new : Writing} {first state : Machine} {line : ℕ} {l : List ℕ} {s : Step} {reply : Reply} (e : step_of (length contexts) l ≡ Some s) (h : Stepped contexts first line s reply state w_old w_new) where
   -- it was done, and this was written

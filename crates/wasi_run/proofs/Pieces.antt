@@ -6,7 +6,7 @@ use Rattle.wasi_run.specs.declared.error.RunError.{RunError}
 use Rattle.wasi_run.specs.declared.error.RunError.TheVariants.{Memory}
 use Rattle.wasi_run.specs.Lines.{LeftAt, KeptOf}
 use Rattle.wasi_run.specs.Ran.{LinesRan}
-use Rattle.wasi_run.proofs.Stretches.{lines_then, lines_none, lines_ahead, IsOver}
+use Rattle.wasi_run.proofs.LinesJoined.{lines_then, lines_none, lines_ahead, IsOver}
 use Rattle.wasi_run.proofs.OneLine.{none_done}
 
 pub piece_cut : (front piece : List ℕ) (end : ℕ) → Some end ≡ position (λ b. b == 10) piece → Cut front piece end

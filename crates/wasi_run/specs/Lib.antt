@@ -1,9 +1,5 @@
-pub mod Groups
 pub mod Lines
 pub mod Ran
 pub mod Script
 pub mod Causes
 pub mod Headline
-pub mod Generate
-pub mod Counted
-pub mod TextStreams

@@ -16,6 +16,7 @@ use Rattle.wasi_steps.specs.Replies.{text_of}
 use Rattle.wasi_machine.specs.Machine.{machine_asks, run}
 use Rattle.host_store.specs.KnownSides.{KnowsSides}
 use Rattle.wasi_run.specs.Lines.{StartWith, BadAfter}
+use Rattle.wasi_calls.specs.Stretches.{Stretch}
 
 abbrev pub texts : List Reply → List ℕ
 texts [] = []
@@ -42,10 +43,6 @@ pub record CutLast (replies : List Reply) (written : List ℕ) : Type 0 where
   pub others : NoTrap front
   pub short : cut < length (text_of last)
   pub is : written ≡ texts front ++ take cut (text_of last)
-
--- These lines ran, and the run can continue.
-pub record Stretch (contexts : List WasiSocketsCtx) (first : Machine) (line : ℕ) (steps : List Step) (replies : List Reply) (state : Machine) (old now : Seen) : Type 0 where
-  pub reached : (so_far : List Reply) (more : List Step) → Reaches (run contexts so_far first line (steps ++ more)) (run contexts (so_far ++ replies) state (line + length steps) more) old now
 
 -- where memory ran out: between two lines, or in a line of which the first asks were made
 abbrev pub Met : List WasiSocketsCtx → Machine → ℕ → List Step → Seen → Seen → Type 0

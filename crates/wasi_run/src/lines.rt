@@ -7,8 +7,8 @@ ghost use Rattle.wasi_run.specs.Lines.{LeftAt, KeptOf};
 ghost use Rattle.wasi_run.specs.Ran.{LinesRan};
 
 use crate::error::RunError;
-use crate::progress::Progress;
 use std::alloc::Global;
+use wasi_calls::Progress;
 use wasi_steps::parse::parse_step;
 use wasi_steps::reply::append_reply;
 use wasi_world::{WasiSocketsCtx, World};

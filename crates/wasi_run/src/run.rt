@@ -12,8 +12,8 @@ ghost use Rattle.wasi_run.specs.Causes.{StopsAtWriteFault, StopsForMemory};
 
 use crate::error::RunError;
 use crate::lines::{LinesEnd, do_piece};
-use crate::progress::Progress;
 use std::alloc::Global;
+use wasi_calls::Progress;
 use wasi_world::{WasiSocketsCtx, World};
 use world_io::{Sink, Source};
 

@@ -18,9 +18,9 @@ use Rattle.wasi_records.specs.Closing.{IsFresh, HasClosedAll, HasClosedEach}
 use Rattle.wasi_records.specs.Sides.{ClosesAll, no_socket}
 use Rattle.wasi_world.specs.declared.ids.OpId.{OpId}
 use Rattle.wasi_records.proofs.Closings.{empty_known}
-use Rattle.wasi_run.specs.Ran.{Stretch}
-use Rattle.wasi_run.proofs.Stretches.{Stepped, stretch_none, stretch_one, stretch_then, next_run}
-use Rattle.wasi_run.proofs.OneLine.{one_ran}
+use Rattle.wasi_calls.specs.Stretches.{Stretch}
+use Rattle.wasi_calls.proofs.Stretches.{Stepped, stretch_none, stretch_one, stretch_then, next_run}
+use Rattle.wasi_calls.proofs.Stretches.{one_ran}
 use Rattle.wasi_session.specs.State.{State}
 use Rattle.std.specs.Prelude.{IsErrAnd}
 use Rattle.wasi_session.specs.declared.error.StepError.{StepError}

@@ -10,7 +10,7 @@ use Rattle.wasi_steps.specs.declared.reply.Reply.{Reply}
 use Rattle.wasi_steps.specs.Reply.{is_trap}
 use Rattle.wasi_steps.specs.Steps.{context_of}
 use Rattle.wasi_walks.specs.Licence.{IsLicensed}
-use Rattle.wasi_run.specs.Ran.{Stretch}
+use Rattle.wasi_calls.specs.Stretches.{Stretch}
 use Rattle.wasi_session.specs.declared.error.StepError.{StepError}
 use Rattle.wasi_session.specs.declared.error.StepError.TheVariants.{Over, TooMany, NoContext, Memory}
 use Rattle.wasi_session.specs.State.{State}

@@ -16,7 +16,7 @@ use crate::error::StepError;
 use std::alloc::Global;
 use std::marker::Model;
 use wasi_decides::Decides;
-use wasi_run::Progress;
+use wasi_calls::Progress;
 use wasi_steps::{Reply, Step};
 use wasi_world::{Waits, WasiSocketsCtx, World};
 

@@ -15,7 +15,7 @@ use Rattle.wasi_machine.specs.Machine.{machine_asks}
 use Rattle.wasi_steps.specs.Reply.{is_trap}
 use Rattle.wasi_steps.specs.Steps.{step_of}
 use Rattle.wasi_transcript.specs.Transcript.{answered_text}
-use Rattle.wasi_run.specs.declared.progress.Progress.{Progress}
+use Rattle.wasi_calls.specs.declared.progress.Progress.{Progress}
 use Rattle.wasi_transcript.specs.declared.exchange.LineEnd.{LineEnd}
 use Rattle.wasi_transcript.specs.Done.{Exchanged, LineDone, Starved}
 

@@ -15,7 +15,7 @@ use Rattle.host_store.specs.KnownSides.{KnowsSides}
 use Rattle.wasi_run.specs.declared.run.RunEnd.TheVariants as end
 use Rattle.wasi_run.specs.declared.error.RunError.{RunError}
 use Rattle.wasi_run.specs.declared.error.RunError.TheVariants.{Memory, BadStep, TooLong, ReadFault, WriteFault}
-use Rattle.wasi_run.specs.declared.progress.Progress.{Progress}
+use Rattle.wasi_calls.specs.declared.progress.Progress.{Progress}
 use Rattle.wasi_run.specs.Ran.{NoTrap}
 use Rattle.wasi_steps.specs.declared.reply.Reply.{Reply}
 use Rattle.wasi_steps.specs.declared.step.Step.{Step}

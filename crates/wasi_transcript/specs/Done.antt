@@ -6,7 +6,7 @@ use Rattle.wasi_world.specs.declared.outcome.WasiSocketsCtx.{WasiSocketsCtx}
 use Rattle.wasi_world.specs.Asks.{Asks, Left}
 use Rattle.wasi_world.specs.Seen.{Seen}
 use Rattle.wasi_steps.specs.declared.reply.Reply.{Reply}
-use Rattle.wasi_run.specs.declared.progress.Progress.{Progress}
+use Rattle.wasi_calls.specs.declared.progress.Progress.{Progress}
 use Rattle.wasi_steps.specs.declared.step.Step.{Step}
 use Rattle.wasi_machine.specs.Machine.{machine_asks}
 use Rattle.wasi_steps.specs.Reply.{is_trap}

@@ -1,6 +1,6 @@
 use Rattle.wasi_run.proofs.LineWords.{◌∙◌, ap, Ok}
 use Rattle.wasi_run.proofs.OneLine.{at_exit}
-use Rattle.wasi_run.proofs.Stretches.{stays_open}
+use Rattle.wasi_run.proofs.LinesJoined.{stays_open}
 use Rattle.wasi_run.proofs.ManyLines.{going_start, going_on, going_over, going_all, going_left, going_fits, found, found_none}
 use Rattle.wasi_run.proofs.lines.do_lines.Goals as goal
 

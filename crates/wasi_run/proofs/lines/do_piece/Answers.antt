@@ -2,7 +2,7 @@ use Rattle.wasi_run.proofs.LineWords.{◌∙◌, ap, Ok, Result, refl, ◌+◌, 
 use Rattle.wasi_run.specs.declared.lines.LinesEnd.{LinesEnd}
 use Rattle.wasi_run.specs.declared.error.RunError.{RunError}
 use Rattle.wasi_run.specs.Ran.{LinesRan}
-use Rattle.wasi_run.proofs.Stretches.{stays_open}
+use Rattle.wasi_run.proofs.LinesJoined.{stays_open}
 use Rattle.wasi_run.proofs.OneLine.{at_exit, none_done}
 use Rattle.wasi_run.proofs.Pieces.{piece_cut, piece_whole, piece_over, piece_then, piece_none, kept_none, kept_some, starved, first_within}
 use Rattle.wasi_run.proofs.lines.do_piece.Given.{Over}

@@ -1,0 +1,4 @@
+pub mod CallSteps
+pub mod CallWords
+pub mod Contents
+pub mod Stretches
