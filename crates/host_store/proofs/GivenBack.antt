@@ -15,7 +15,7 @@ use Rattle.wasi_records.proofs.SideCounts.{same_tally}
 use Rattle.wasi_records.proofs.UdpLookups.{held_in-udp_swap}
 
 -- what is left of a record that goes holds none
-held_gone : (w : Weight) (rs : List Record) (i : ℕ) → held_in (record_gone rs i) w + held_by (item_at rs i) w ≡ held_in rs w
+pub held_gone : (w : Weight) (rs : List Record) (i : ℕ) → held_in (record_gone rs i) w + held_by (item_at rs i) w ≡ held_in rs w
 held_gone w [] i = refl
 held_gone w (x ∷ rs) zero = omega arith
 held_gone w (x ∷ rs) (suc i) = let later = held_gone w rs i in omega arith
@@ -55,7 +55,7 @@ none_was w rs i x none same = was_held w rs i x 0 none (let s = ap (λ (held : T
 pub was_none : (rs : List Record) (i : ℕ) (x : Record) → held_by x ≡ no_socket → held_in (slice_set rs i x) ≡ held_in rs → held_by (item_at rs i) ≡ no_socket
 was_none rs i x none same = same_tally (λ w. none_was w rs i x none same)
 
-held_udp : (w : Weight) (rs : List Record) (i : ℕ) (u : UdpRecord) → udp2_at rs i ≡ Some u → held_by (item_at rs i) w ≡ udp_holds u w
+pub held_udp : (w : Weight) (rs : List Record) (i : ℕ) (u : UdpRecord) → udp2_at rs i ≡ Some u → held_by (item_at rs i) w ≡ udp_holds u w
 held_udp w rs i u found =
     let swap = held_in-udp_swap w rs i u (Closed (udp_side u)) found in was_held w rs i (Udp (Closed (udp_side u))) (udp_holds u w) refl (omega (arith, swap))
 

@@ -8,7 +8,7 @@ use Rattle.wasi_world.specs.Asks.{Asks, Give}
 use Rattle.wasi_records.specs.declared.socket.TcpRecord.{TcpRecord}
 use Rattle.wasi_records.specs.Stops.{Code, Stop, StopOf, Trap, code_stop}
 use Rattle.host_store.specs.declared.store.StandingCall.{StandingCall}
-use Rattle.host_store.specs.Block.{Does, Look, Call, Line, need, last}
+use Rattle.host_store.specs.Block.{Does, Look, Call, Line, need, last, ◌>>=◌, ◌>>◌}
 use Rattle.host_store.specs.Standing.{stood}
 use Rattle.host_store.specs.Store.{Records, with_socket}
 use Rattle.wasi_addr.specs.declared.p2.ErrorCode.{ErrorCode as P2Code}

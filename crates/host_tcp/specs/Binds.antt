@@ -17,8 +17,8 @@ use Rattle.host_store.specs.declared.kind.Interface.{Interface}
 use Rattle.host_store.specs.declared.kind.Interface.TheVariants.{P2, P3}
 use Rattle.host_store.specs.declared.store.StandingCall.{StandingCall}
 use Rattle.host_store.specs.declared.store.StandingCall.TheVariants.{Bind}
-use Rattle.host_store.specs.Block.{Does, Call}
-use Rattle.host_store.specs.Lines.{tcp_at}
+use Rattle.host_store.specs.Block.{Does, Call, ◌>>=◌}
+use Rattle.host_store.specs.Lines.{tcp_at, Answered, keeps}
 use Rattle.host_store.specs.Standing.{call_place}
 use Rattle.host_store.specs.Store.{Records, with_socket}
 

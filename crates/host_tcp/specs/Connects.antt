@@ -16,7 +16,7 @@ use Rattle.wasi_records.specs.Stops.{Code}
 use Rattle.host_store.specs.declared.beside.BesideCall.TheVariants.{Connect}
 use Rattle.host_store.specs.Beside.{beside_as, beside_polled, besided}
 use Rattle.host_store.specs.Lines.{Answered, tcp_at}
-use Rattle.host_store.specs.Block.{Does, Call, last, need}
+use Rattle.host_store.specs.Block.{Does, Call, last, need, ◌>>=◌, ◌>>◌}
 use Rattle.host_store.specs.Store.{Records, with_socket}
 
 -- == on the record of a socket, whose state alone keeps the operation

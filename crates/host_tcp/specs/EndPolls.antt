@@ -17,7 +17,7 @@ use Rattle.wasi_records.specs.Slots.{StreamEnd}
 use Rattle.wasi_records.specs.Stops.{StopOf}
 use Rattle.host_store.specs.BaseStops.{BaseStop}
 use Rattle.host_store.specs.declared.kind.ConnectionEnd.{ConnectionEnd}
-use Rattle.host_store.specs.Block.{Does, Line, Read, Call, give}
+use Rattle.host_store.specs.Block.{Does, Line, Read, Call, give, ◌>>=◌, ◌>>◌}
 use Rattle.host_tcp.specs.ConnectionEnds.{close_end}
 use Rattle.host_store.specs.Lines.{same_stop}
 use Rattle.host_store.specs.Store.{Records}

@@ -21,7 +21,7 @@ use Rattle.host_store.specs.declared.store.StandingCall.TheVariants.{Listen}
 use Rattle.host_store.specs.BaseStops.{trap_of}
 use Rattle.host_store.specs.Lines.{Answered, keeps, in_store, tabling, tcp_at}
 use Rattle.host_tcp.specs.Binds.{bind_told, stands_of}
-use Rattle.host_store.specs.Block.{Does, Look, Read, Call, give, last, need}
+use Rattle.host_store.specs.Block.{Does, Look, Read, Call, give, last, need, ◌>>=◌, ◌>>◌}
 use Rattle.host_store.specs.Kinds.{make_asks}
 use Rattle.host_store.specs.Machine.{side_at, tcp3_at}
 use Rattle.host_store.specs.Store.{Records, with_record, with_socket}

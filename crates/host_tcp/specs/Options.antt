@@ -9,7 +9,7 @@ use Rattle.wasi_tcp.specs.Shape.{Socket}
 use Rattle.wasi_tcp.specs.Options.{get_option_asks, set_option_asks, set_backlog_asks}
 use Rattle.wasi_records.specs.declared.socket.TcpRecord.{TcpRecord}
 use Rattle.wasi_records.specs.Stops.{Stop, Trap}
-use Rattle.host_store.specs.Store.{Records, put_back}
+use Rattle.host_store.specs.Store.{Records, put_back, code_told}
 use Rattle.wasi_records.specs.Sockets.{inner_answered}
 
 -- what it answers; the records stay as they were

@@ -16,6 +16,7 @@ use Rattle.host_store.specs.Store.{Records, with_udp}
 use Rattle.host_udp.specs.UdpCalls.{udp_left}
 use Rattle.host_store.proofs.KnownSides.{knows_then}
 use Rattle.wasi_records.proofs.UdpLookups.{udp_put_same}
+use Rattle.host_store.proofs.GivenBack.{held_gone, given_back_put, held_udp}
 
 -- == UDP sockets
 set_again : (rs : List Record) (i : ℕ) (x : Record) → slice_set (slice_set rs i x) i x ≡ slice_set rs i x

@@ -25,8 +25,8 @@ use Rattle.host_store.specs.declared.beside.Beside.{Beside}
 use Rattle.host_store.specs.declared.beside.BesideCall.{BesideCall}
 use Rattle.host_store.specs.declared.beside.BesideCall.TheVariants.{Send, Receive}
 use Rattle.host_store.specs.BaseStops.{BaseStop}
-use Rattle.host_store.specs.Beside.{beside_as, beside_of, beside_with, unbeside}
-use Rattle.host_store.specs.Block.{Does, Line, Look, Call}
+use Rattle.host_store.specs.Beside.{beside_as, beside_of, beside_with, unbeside, has_datagram}
+use Rattle.host_store.specs.Block.{Does, Line, Look, Call, ◌>>=◌}
 use Rattle.host_store.specs.Store.{Records, with_open_udp}
 use Rattle.host_udp.specs.UdpCalls.{release_udp_at}
 

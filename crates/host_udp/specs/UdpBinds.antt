@@ -17,9 +17,10 @@ use Rattle.host_store.specs.declared.kind.Interface.{Interface}
 use Rattle.host_store.specs.declared.kind.Interface.TheVariants.{P2, P3}
 use Rattle.host_store.specs.declared.store.StandingCall.{StandingCall}
 use Rattle.host_store.specs.declared.store.StandingCall.TheVariants.{UdpBind}
-use Rattle.host_store.specs.Block.{Does, Look, Call}
+use Rattle.host_store.specs.Block.{Does, Look, Call, ◌>>=◌}
 use Rattle.host_store.specs.Standing.{call_place}
 use Rattle.host_store.specs.Store.{Records, with_open_udp}
+use Rattle.host_store.specs.Lines.{Answered, keeps}
 
 -- == of a UDP socket: the same
 abbrev pub udp_bound_as : Interface → Answer (Unit {0}) → OpenUdp → OpenUdp

@@ -23,7 +23,7 @@ use Rattle.wasi_records.specs.Datagrams.{has_streams}
 use Rattle.host_store.specs.GivingBack.{given_back}
 use Rattle.wasi_records.specs.Stops.{Stop, Code, Trap, code_stop}
 use Rattle.wasi_records.specs.Names.{own_of}
-use Rattle.host_store.specs.Store.{code_told, Records}
+use Rattle.host_store.specs.Store.{code_told, Records, with_udp, with_open_udp}
 use Rattle.host_store.specs.Standing.{allowed_answer, call_place, stood}
 use Rattle.wasi_records.specs.Udp.{with_udp_progress, is_udp_idle, is_udp_bound, begin_udp_bind_asks, udp_local_asks, close_udp_asks}
 

@@ -12,7 +12,7 @@ use Rattle.wasi_records.specs.Stops.{Code}
 use Rattle.host_store.specs.declared.store.StandingCall.TheVariants.{UdpConnect3}
 use Rattle.host_store.specs.Lines.{keeps}
 use Rattle.host_udp.specs.UdpBinds.{udp_stands_of}
-use Rattle.host_store.specs.Block.{Does, Look, Call, need}
+use Rattle.host_store.specs.Block.{Does, Look, Call, need, ◌>>=◌, ◌>>◌}
 use Rattle.host_store.specs.Store.{Records, with_open_udp}
 
 -- a socket of 0.3 has no datagram streams

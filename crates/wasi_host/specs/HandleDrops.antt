@@ -21,6 +21,7 @@ use Rattle.host_udp.specs.DatagramCalls.{drop_incoming_at, drop_outgoing_at}
 use Rattle.host_lookups.specs.NameLookupCalls.{drop_lookup_at}
 use Rattle.host_streams.specs.PlainStreams.{drop_plain_input, drop_plain_output}
 use Rattle.host_udp.specs.UdpCalls.{release_udp_at}
+use Rattle.host_store.specs.Machine.{with_store}
 
 -- == a handle goes
 abbrev pub answered : {A : Type 0} → A × Machine → Result A Stop × Machine

@@ -16,6 +16,7 @@ use Rattle.host_store.specs.Readiness.{ready_at, ready_ids_at}
 use Rattle.host_udp.specs.DatagramCalls.{incoming_names, outgoing_ready, ready_incoming_at}
 use Rattle.host_lookups.specs.NameLookupCalls.{lookup_ready}
 use Rattle.host_udp.specs.UdpCreates.{udp_side_at}
+use Rattle.host_store.specs.Machine.{with_table, with_store, no_such_handle, side_at}
 
 -- == pollables
 -- the network socket of what is watched, by which its pollables are marked

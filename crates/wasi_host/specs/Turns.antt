@@ -3,6 +3,7 @@ use Rattle.wasi_world.specs.Asks.{Asks, Give, bind}
 use Rattle.host_store.specs.declared.machine.Machine.{Machine}
 pub use Rattle.wasi_records.specs.Names.{own_of}
 use Rattle.host_store.specs.Jobs.{turn_store_asks}
+use Rattle.host_store.specs.Machine.{with_store}
 
 -- == jobs
 abbrev pub turn_machine_asks : Machine → Asks (Unit {0} × Machine)
