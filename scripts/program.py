@@ -68,7 +68,11 @@ def main(name, crate, minutes, *words):
         if not words:
             return
     elif not built:
-        print(f"not proved here; ./{name} --build proves and builds it, about {minutes} minutes", file=sys.stderr, flush=True)
+        print(
+            f"not proved here, so it runs unproved; ./{name} --build proves and builds it, about {minutes} minutes",
+            file=sys.stderr,
+            flush=True,
+        )
         program = unproved(name, crate)
     os.execv(program, [name, *words])
 
