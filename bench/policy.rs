@@ -1,5 +1,5 @@
 // What rules decide, by a look at each in turn: the program that bench/policy times beside this repository's.
-// Its words are those of policy_bench: a family and how many addresses are asked about. It prints how many nanoseconds
+// Its words are those behind `benches policy`: a family and how many addresses are asked about. It prints how many nanoseconds
 // reading took, how many all questions took together, and the sum of the lines of the rules that decided.
 use std::time::Instant;
 

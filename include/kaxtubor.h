@@ -290,7 +290,7 @@ static inline uint32_t kx_answer(kx_host *host, uint64_t number, bool yes)
 }
 
 /* Writes as much of the log as fits and wasn't read yet; *wrote is 0 at its end. With a last line
- * `end` it is a log for ./recorder. */
+ * `end` it is a log for ./kaxtubor replay. */
 static inline uint32_t kx_log(kx_host *host, char *out, size_t cap, size_t *wrote)
 {
     uint32_t status = kx_tested(out, cap);

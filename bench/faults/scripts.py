@@ -37,7 +37,7 @@ def cases(path):
 
 def files():
     """Returns the files of transcripts, those with the most lines first."""
-    return sorted(glob.glob(f"{TOP}/crates/transcripts_cli/data/*.txt"), key=lambda it: read(it).count(b"\n"), reverse=True)
+    return sorted(glob.glob(f"{TOP}/crates/kaxtubor/data/*.txt"), key=lambda it: read(it).count(b"\n"), reverse=True)
 
 
 def longest(count):

@@ -1,8 +1,8 @@
 #!/usr/bin/env python3
-"""Runs ./live against peers in python3, over loopback addresses alone, and says what was seen. Each run is recorded, and
-./recorder replays it.
+"""Runs `kaxtubor live` against peers in python3, over loopback addresses alone, and says what was seen. Each run is
+recorded, and `kaxtubor replay` replays it.
 
-    examples/live/peers.py [LIVE..]     LIVE: the words that run the program; ./live at the top without
+    examples/live/peers.py [PROGRAM..]     PROGRAM: the words that run the program; ./kaxtubor at the top without
 """
 
 import os
@@ -16,8 +16,8 @@ import threading
 import time
 
 TOP = os.path.dirname(os.path.dirname(os.path.dirname(os.path.abspath(__file__))))
-LIVE = sys.argv[1:] or [os.path.join(TOP, "live")]
-RECORDER = os.path.join(TOP, "recorder")
+PROGRAM = sys.argv[1:] or [os.path.join(TOP, "kaxtubor")]
+LIVE = [*PROGRAM, "live"]
 # How long a peer waits before it gives up, in seconds.
 PATIENCE = 600
 
@@ -42,7 +42,7 @@ def live(lines, *ports):
     with tempfile.TemporaryDirectory() as folder:
         log = os.path.join(folder, "log.txt")
         replies = ran([*LIVE, "--record", log, "100000", *map(str, ports)], text)
-        if ran([RECORDER, "replay", "100000"], text, folder) != replies:
+        if ran([*PROGRAM, "replay", "100000"], text, folder) != replies:
             raise SystemExit(f"the replay of {lines} has other replies than {replies}")
     return replies.splitlines()
 

@@ -1,4 +1,4 @@
-//! What the program `policy` does with its words.
+//! What `kaxtubor policy` does with its words.
 #![tactic(auto)]
 
 pub mod main_words;

@@ -11,7 +11,7 @@ use world_text::fields::number;
 /// How the program ended.
 #[derive(Clone, Copy, Debug, PartialEq, Eq)]
 pub enum PolicyStatus {
-    /// As the program `sockets` ends; a bad line of questions is a bad step.
+    /// As `kaxtubor run` ends; a bad line of questions is a bad step.
     Of(Status),
     /// A line of the rules isn't in their grammar.
     BadRules,

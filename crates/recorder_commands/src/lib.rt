@@ -1,5 +1,5 @@
-//! The words of the program `recorder`, and what it does with them: it runs a script and writes the
-//! log of the run, runs a script on the answers of such a log, or draws one.
+//! The words `record`, `replay` and `draw`, and what is done with them: a script is run and the log
+//! of the run is written, a script is run on the answers of such a log, or one is drawn.
 #![tactic(auto)]
 
 pub mod draw;

@@ -49,7 +49,7 @@ fn do_command<C: Source, L: Source, M: Sink, S: Source, K: Sink>(
 }
 
 /// Does what the program's words say. `record LIMIT` runs the script that the source gives, of at
-/// most LIMIT bytes, over the scenario's world, as `run LIMIT` of the program `sockets` does, and
+/// most LIMIT bytes, over the scenario's world, as `kaxtubor run LIMIT` does, and
 /// then writes the log of the run. `replay LIMIT` reads a log, and runs the script on its answers:
 /// its replies go to the sink where the run asks just what is recorded, and else nothing (status
 /// 15). `draw` and `draw FROM TO` read a log, and write a picture of it, or of these lines of its

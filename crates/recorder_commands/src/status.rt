@@ -12,7 +12,7 @@ use world_text::fields::number;
 /// How the program ended.
 #[derive(Clone, Copy, Debug, PartialEq, Eq)]
 pub enum RecorderStatus {
-    /// As the program `sockets` ends.
+    /// As `kaxtubor run` ends.
     Of(Status),
     /// A line of the log isn't in its grammar.
     BadLog,

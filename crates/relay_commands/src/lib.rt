@@ -1,4 +1,4 @@
-//! The words of the program `relay`, and what it does with them: it relays connections over the
+//! The words of `kaxtubor relay`, and what it does with them: it relays connections over the
 //! network that a scenario plans, or over this machine's own.
 #![tactic(auto)]
 

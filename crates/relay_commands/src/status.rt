@@ -10,7 +10,7 @@ use wasi_session::StepError;
 /// How the program ended.
 #[derive(Clone, Copy, Debug, PartialEq, Eq)]
 pub enum RelayStatus {
-    /// As the program `sockets` ends.
+    /// As `kaxtubor run` ends.
     Of(Status),
     /// A call of the setup was refused.
     SetupRefused,

@@ -1,4 +1,4 @@
--- What the words of the program `sockets` ask for.
+-- What the words `run`, `pump`, `gen` and `gen3` ask for.
 use Rattle.std.specs.Prelude.{ℕ, ◌⊎◌, if◌then◌else◌, bytes_eq, codes, List, [], ◌∷◌, Option, Some, None, option_map}
 use Rattle.std.specs.Option.{option_and_then}
 use Rattle.world_text.specs.Fields.{number_in}

@@ -1,4 +1,4 @@
--- What the program `sockets` makes of its words, its scenario and its script.
+-- What the program makes of the words `run`, `pump`, `gen` and `gen3`, its scenario and its script.
 use Rattle.std.specs.Prelude.{◌≡◌, ℕ, ◌⊎◌, ◌↔◌, List, [], Option, Some, None, Result, Ok, Err}
 use Rattle.wasi_world.specs.declared.call.Entry.{Entry}
 use Rattle.wasi_world.specs.declared.outcome.WasiSocketsCtx.{WasiSocketsCtx}

@@ -1,4 +1,4 @@
-//! What the words of the program `sockets` ask for.
+//! What the words `run`, `pump`, `gen` and `gen3` ask for.
 
 ghost use Rattle.std.specs.Prelude.{◌≡◌, map, string_bytes};
 ghost use Rattle.wasi_commands.specs.Commands.{run_in, pump_in, limited_in, drawn_in};

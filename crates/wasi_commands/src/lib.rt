@@ -1,5 +1,5 @@
-//! The words of the program `sockets`, and what it does with them: it runs a script, pumps, or runs
-//! a generated script.
+//! The words `run`, `pump`, `gen` and `gen3`, and what is done with them: a script is run, bytes are
+//! pumped, or a generated script is run.
 #![tactic(auto)]
 
 pub mod commands;

@@ -1,5 +1,0 @@
-use Rattle.session_example.proofs.Running.{Running}
-use Rattle.session_example.proofs.guest.run_guest.Given as goal
-
-abbrev pub invariant-loop-call : goal.invariant-loop-call
-invariant-loop-call g l = Running l.session (g.W.World.seen l.fn.world)

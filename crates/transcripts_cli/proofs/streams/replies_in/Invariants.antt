@@ -1,5 +1,0 @@
-use Rattle.std.proofs.Common.{length}
-use Rattle.transcripts_cli.proofs.streams.replies_in.Given as goal
-
-abbrev pub decreases-lines : goal.decreases-lines
-decreases-lines l = length l.lines

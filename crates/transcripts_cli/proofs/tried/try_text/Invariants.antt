@@ -1,5 +1,0 @@
-use Rattle.std.proofs.Common.{length}
-use Rattle.transcripts_cli.proofs.tried.try_text.Given as goal
-
-abbrev pub decreases-cases : goal.decreases-cases
-decreases-cases l = length l.lines
