@@ -2,9 +2,9 @@
 
 usage: tests.py [CRATE..]     (scripts/test calls it; without a name it takes every crate)
 
-A program runs once on the args, stdin, stdout, status and data/ of its crate, and once on those of each folder of its
-runs/, whose other files lie where it runs. It has to write that stdout and end with that status (0 where there is none).
-`kaxtubor` also tries a fault at each call of the network, in the examples and in the longest files of transcripts.
+A program runs once on the args, stdin, stdout, status and data/ of its crate, and once on those of each folder of
+its runs/, whose other files lie where it runs. It has to write that stdout and end with that status, or with 0 where
+there is none. `kaxtubor` also tries a fault at each call of the network, in the examples and in all transcripts.
 
 Each crate's programs are built by scripts/unproved, as many side by side as processors and memory allow.
 """
@@ -22,7 +22,7 @@ from crates import TOP, below, is_program, needs, sources
 
 UNPROVED = f"{TOP}/scripts/unproved"
 # What a run may take, and each test.
-RUN_SECONDS = 300
+RUN_SECONDS = 600
 TEST_SECONDS = 60
 # What a build takes of memory at most, with room to spare.
 BUILD_BYTES = 1_800_000_000
@@ -66,7 +66,8 @@ def has_tests(crate):
 
 def build(crate, *flags):
     """Returns the path of the crate's program, or of its tests, and why there is none."""
-    done = subprocess.run([UNPROVED, crate, *flags], capture_output=True, text=True, errors="replace", check=False)
+    words = [UNPROVED, crate, "--optimized", *flags]
+    done = subprocess.run(words, capture_output=True, text=True, errors="replace", check=False)
     return done.stdout.strip(), done.stderr.strip()[-4000:] if done.returncode else ""
 
 
