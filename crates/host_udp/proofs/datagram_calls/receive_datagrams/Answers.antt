@@ -24,11 +24,11 @@ returns-in_err-push-clause-sides g c = λ k.
 pub returns-clause-asked : goal.returns-clause-asked
 returns-clause-asked g c =
     let store : Records = view c.store.inside in
-    let recs : c.if-not-before.self-inside.records.items ≡ open_put store.records c.args.place c.receive_datagrams-received.new.self = elim c.if-not-before.branch [ then-not-before w ↦ rw w.self-inside-is refl | else-not-before w ↦ rw w.self-inside-is refl ] in
-    let pushed : c.if-not-before.self-inside.jobs.items ≡ store.jobs ++ Receive c.args.place ∷ [] = elim c.if-not-before.branch [ then-not-before w ↦ rw w.self-inside-is c.in_ok-push.ensures.ok | else-not-before w ↦ rw w.self-inside-is c.in_ok-push.ensures.ok ] in
-    let stands : c.if-not-before.self-inside.standing ≡ store.standing = elim c.if-not-before.branch [ then-not-before w ↦ rw w.self-inside-is refl | else-not-before w ↦ rw w.self-inside-is refl ] in
-    let besides : c.if-not-before.self-inside.beside ≡ store.beside = elim c.if-not-before.branch [ then-not-before w ↦ rw w.self-inside-is refl | else-not-before w ↦ rw w.self-inside-is refl ] in
-    let limits : c.if-not-before.self-inside.limits.items ≡ store.limits = elim c.if-not-before.branch [ then-not-before w ↦ rw w.self-inside-is refl | else-not-before w ↦ rw w.self-inside-is refl ] in
+    let recs : c.if-not-before.store-inside.records.items ≡ open_put store.records c.args.place c.receive_datagrams-received.new.self = elim c.if-not-before.branch [ then-not-before w ↦ rw w.store-inside-is refl | else-not-before w ↦ rw w.store-inside-is refl ] in
+    let pushed : c.if-not-before.store-inside.jobs.items ≡ store.jobs ++ Receive c.args.place ∷ [] = elim c.if-not-before.branch [ then-not-before w ↦ rw w.store-inside-is c.in_ok-push.ensures.ok | else-not-before w ↦ rw w.store-inside-is c.in_ok-push.ensures.ok ] in
+    let stands : c.if-not-before.store-inside.standing ≡ store.standing = elim c.if-not-before.branch [ then-not-before w ↦ rw w.store-inside-is refl | else-not-before w ↦ rw w.store-inside-is refl ] in
+    let besides : c.if-not-before.store-inside.beside ≡ store.beside = elim c.if-not-before.branch [ then-not-before w ↦ rw w.store-inside-is refl | else-not-before w ↦ rw w.store-inside-is refl ] in
+    let limits : c.if-not-before.store-inside.limits.items ≡ store.limits = elim c.if-not-before.branch [ then-not-before w ↦ rw w.store-inside-is refl | else-not-before w ↦ rw w.store-inside-is refl ] in
     let began : c.if-not-before.begins ≡ begins_receive c.in-Some.socket.now c.receive_datagrams-received.new.self = elim c.if-not-before.branch [ then-not-before w ↦ begins_now _ _ _ (sym c.receives-before.ensures ∙ w.if-not-before.true) (w.begins-is ∙ w.receives-begins.ensures) | else-not-before w ↦ begins_none _ _ _ (sym c.receives-before.ensures ∙ w.if-not-before.false) (w.begins-is ∙ ap not w.if-not-before.false) ] in
     rw (← c.store.view_is, open_found c.store.inside.records.items c.args.place c.in-Some.socket c.in-Some.ensures.item, recs, stands, besides, limits)
     (asks_as (job_noted store c.args.place c.receive_datagrams-received.new.self (Receive c.args.place) c.if-not-before.begins (begins_receive c.in-Some.socket.now c.receive_datagrams-received.new.self) store.jobs c.keep_job.new.jobs.items (c.keep_job.ensures store.jobs (Receive c.args.place) pushed) refl began)
@@ -37,7 +37,7 @@ returns-clause-asked g c =
 pub returns-clause-sides : goal.returns-clause-sides
 returns-clause-sides g c = λ k.
     let store : Records = view c.store.inside in
-    let recs : c.if-not-before.self-inside.records.items ≡ open_put store.records c.args.place c.receive_datagrams-received.new.self = elim c.if-not-before.branch [ then-not-before w ↦ rw w.self-inside-is refl | else-not-before w ↦ rw w.self-inside-is refl ] in
+    let recs : c.if-not-before.store-inside.records.items ≡ open_put store.records c.args.place c.receive_datagrams-received.new.self = elim c.if-not-before.branch [ then-not-before w ↦ rw w.store-inside-is refl | else-not-before w ↦ rw w.store-inside-is refl ] in
     knows_none store _ c.receive_datagrams-received.ensures.none (ap held_in recs ∙ held_in-open c.store.inside.records.items c.args.place c.in-Some.socket.now c.receive_datagrams-received.new.self (open_found c.store.inside.records.items c.args.place c.in-Some.socket c.in-Some.ensures.item) c.receive_datagrams-received.ensures.side) (rw (← c.store.view_is) at k)
 
 pub returns-in_err-push-clause-lost : goal.returns-in_err-push-clause-lost
@@ -49,11 +49,11 @@ returns-in_err-push-clause-lost g c =
 pub returns-clause-lost : goal.returns-clause-lost
 returns-clause-lost g c =
     let store : Records = view c.store.inside in
-    let recs : c.if-not-before.self-inside.records.items ≡ open_put store.records c.args.place c.receive_datagrams-received.new.self = elim c.if-not-before.branch [ then-not-before w ↦ rw w.self-inside-is refl | else-not-before w ↦ rw w.self-inside-is refl ] in
-    let pushed : c.if-not-before.self-inside.jobs.items ≡ store.jobs ++ Receive c.args.place ∷ [] = elim c.if-not-before.branch [ then-not-before w ↦ rw w.self-inside-is c.in_ok-push.ensures.ok | else-not-before w ↦ rw w.self-inside-is c.in_ok-push.ensures.ok ] in
-    let stands : c.if-not-before.self-inside.standing ≡ store.standing = elim c.if-not-before.branch [ then-not-before w ↦ rw w.self-inside-is refl | else-not-before w ↦ rw w.self-inside-is refl ] in
-    let besides : c.if-not-before.self-inside.beside ≡ store.beside = elim c.if-not-before.branch [ then-not-before w ↦ rw w.self-inside-is refl | else-not-before w ↦ rw w.self-inside-is refl ] in
-    let limits : c.if-not-before.self-inside.limits.items ≡ store.limits = elim c.if-not-before.branch [ then-not-before w ↦ rw w.self-inside-is refl | else-not-before w ↦ rw w.self-inside-is refl ] in
+    let recs : c.if-not-before.store-inside.records.items ≡ open_put store.records c.args.place c.receive_datagrams-received.new.self = elim c.if-not-before.branch [ then-not-before w ↦ rw w.store-inside-is refl | else-not-before w ↦ rw w.store-inside-is refl ] in
+    let pushed : c.if-not-before.store-inside.jobs.items ≡ store.jobs ++ Receive c.args.place ∷ [] = elim c.if-not-before.branch [ then-not-before w ↦ rw w.store-inside-is c.in_ok-push.ensures.ok | else-not-before w ↦ rw w.store-inside-is c.in_ok-push.ensures.ok ] in
+    let stands : c.if-not-before.store-inside.standing ≡ store.standing = elim c.if-not-before.branch [ then-not-before w ↦ rw w.store-inside-is refl | else-not-before w ↦ rw w.store-inside-is refl ] in
+    let besides : c.if-not-before.store-inside.beside ≡ store.beside = elim c.if-not-before.branch [ then-not-before w ↦ rw w.store-inside-is refl | else-not-before w ↦ rw w.store-inside-is refl ] in
+    let limits : c.if-not-before.store-inside.limits.items ≡ store.limits = elim c.if-not-before.branch [ then-not-before w ↦ rw w.store-inside-is refl | else-not-before w ↦ rw w.store-inside-is refl ] in
     let began : c.if-not-before.begins ≡ begins_receive c.in-Some.socket.now c.receive_datagrams-received.new.self = elim c.if-not-before.branch [ then-not-before w ↦ begins_now _ _ _ (sym c.receives-before.ensures ∙ w.if-not-before.true) (w.begins-is ∙ w.receives-begins.ensures) | else-not-before w ↦ begins_none _ _ _ (sym c.receives-before.ensures ∙ w.if-not-before.false) (w.begins-is ∙ ap not w.if-not-before.false) ] in
     rw (← c.store.view_is, open_found c.store.inside.records.items c.args.place c.in-Some.socket c.in-Some.ensures.item, recs, stands, besides, limits)
     (taken_lost _ _ c.receive_datagrams-received.result c.args.most c.args.ids.now c.args.place store _ c.in-Some.socket.now c.receive_datagrams-received.new.self
