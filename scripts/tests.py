@@ -31,7 +31,8 @@ WORDS = ("args", "stdin", "stdout", "status")
 # The program that tries faults, and what tries them by it.
 FAULTS = ("kaxtubor", f"{TOP}/bench/faults/network")
 IS_TEST = re.compile(rb"^\s*#\[test\]", re.M)
-OF_TEST = re.compile(r"^test (\S+) \.\.\. (.*)$", re.M)
+# A test's name, how it ended, and indented what it said.
+OF_TEST = re.compile(r"^test (\S+) \.\.\. (.*)\n((?:    .*\n)*)", re.M)
 
 
 class Came:
@@ -131,12 +132,10 @@ def run_tests(crate, came):
     with tempfile.TemporaryDirectory(prefix="kaxtubor-test-") as folder:
         done = subprocess.run(runner, capture_output=True, text=True, errors="replace", cwd=folder, check=False)
     found = OF_TEST.findall(done.stdout)
-    for name, end in found:
-        came.judge(name, "" if end == "ok" else end)
-    if not found or (done.returncode and all(end == "ok" for _, end in found)):
+    for name, end, said in found:
+        came.judge(name, "" if end == "ok" else f"{end}\n{said[-2000:].rstrip()}")
+    if done.returncode and not came.failures or not found:
         came.judge("tests", f"{done.stdout[-2000:]}{done.stderr[-2000:]}")
-    elif done.returncode:
-        came.failures.append(f"{done.stdout[-2000:]}{done.stderr[-2000:]}")
 
 
 def run_crate(job):
