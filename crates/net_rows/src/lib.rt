@@ -1,4 +1,5 @@
-//! Tests of the network of the system's sockets, over this machine's loopback addresses.
+//! Tests of the network of the system's sockets, over this machine's loopback addresses: by its own
+//! calls, and by scripts that connect to themselves.
 #![tactic(auto)]
 
 #[cfg(test)]
@@ -16,6 +17,12 @@ mod many;
 #[cfg(test)]
 mod names;
 #[cfg(test)]
+mod recorded;
+#[cfg(test)]
 mod refusals;
 #[cfg(test)]
+mod ruled;
+#[cfg(test)]
 mod same;
+#[cfg(test)]
+mod scripts;

@@ -1,8 +1,0 @@
-use Rattle.wasi_reader.specs.Names.{ledgers_of}
-use Rattle.reader_rows.proofs.play.play.Given as goal
-
-abbrev pub ghosts-play_by-N-Names : goal.ghosts-play_by-N-Names
-ghosts-play_by-N-Names g a = record { line = a.parts.line }
-
-abbrev pub ghosts-play_by-N-LedgerNames : goal.ghosts-play_by-N-LedgerNames
-ghosts-play_by-N-LedgerNames g a = record { ledgers = ledgers_of a.parts }

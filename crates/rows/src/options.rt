@@ -1,0 +1,86 @@
+//! Cases of calls that no script makes: options of sockets that are read, and the views of an
+//! embedder by the number of a context.
+
+ghost use Rattle.std.specs.Prelude.{◌≡◌, false};
+ghost use Rattle.world_scripted.specs.Scripted.{seen_by};
+
+use crate::case::{Case, Stream};
+use crate::guest::{Guest, line};
+use host_store::{NamedId, WasiCtxNamedView, WasiSocketsView};
+use std::alloc::Global;
+use wasi_addr::SocketAddressFamily;
+use wasi_p2::{SocketError, convert_error_code, tcp, udp};
+use wasi_replay::fields;
+use wasi_world::{Answer, Handle, Opt};
+use world_scripted::ScriptedWorld;
+use world_text::fields::Fields;
+
+/// A guest, and its network, which has not ended.
+#[derive(Drop)]
+struct Calls {
+    guest: Guest,
+    world: ScriptedWorld,
+    ghost open: { (seen_by world).ended ≡ false },
+}
+
+impl Calls {
+    /// Makes a TCP socket in the view of a context.
+    fn make_tcp(&mut self, step: u32, context: u32) -> Result<Handle, SocketError> {
+        let mut named = WasiCtxNamedView(&mut self.guest);
+        let view = &mut named.at(NamedId(context));
+        let family = SocketAddressFamily::Ipv4;
+        tcp::create_tcp_socket(view, &mut self.world, &mut line(step), family)
+    }
+
+    /// Makes a UDP socket.
+    fn make_udp(&mut self, step: u32) -> Result<Answer<Handle>, SocketError> {
+        let view = &mut self.guest.sockets();
+        let family = SocketAddressFamily::Ipv4;
+        udp::create_udp_socket(view, &mut self.world, &mut line(step), family)
+    }
+
+    /// Reads an option of the TCP socket 1, or of the UDP socket 2.
+    fn get(&mut self, step: u32, kind: &str, option: Opt) -> Result<u64, SocketError> {
+        let (view, world, ids) = (&mut self.guest.sockets(), &mut self.world, &mut line(step));
+        match kind {
+            "tcp" => tcp::get_option(view, world, ids, 1, option),
+            _ => udp::get_option(view, world, ids, 2, option),
+        }
+    }
+}
+
+/// `options`: the value of each option that a line of the input names behind `tcp` or `udp`, and the
+/// length of the log.
+pub fn options(alloc: Global, case: &Case) -> anyhow::Result<String> {
+    let (world, _) = ScriptedWorld::parse(alloc, case.text(Stream::Scenario))?;
+    let guest = Guest::new(alloc);
+    let mut calls = Calls { guest, world };
+    calls.make_tcp(1, 7)?;
+    calls.make_udp(2)?;
+    let mut text = String::new(alloc);
+    let mut step = 2u32;
+    for line in case.input().lines() {
+        step = step.saturating_add(1);
+        let mut fields = Fields::of(line.as_bytes());
+        if let (Some(kind), Some(option)) = (fields.word(), fields::option(&mut fields)) {
+            let value = calls.get(step, kind, option);
+            text.push_str(format!(in alloc; "{line} {value:?}\n")?.as_str())?;
+        }
+    }
+    let entries = calls.world.entries().len();
+    text.push_str(format!(in alloc; "log {entries}\n")?.as_str())?;
+    Ok(text)
+}
+
+/// `views NUMBER`: what a call in the view of the context with this number returns: its handle, or
+/// the code that a guest is told.
+pub fn views(alloc: Global, case: &Case) -> anyhow::Result<String> {
+    let (world, _) = ScriptedWorld::parse(alloc, case.text(Stream::Scenario))?;
+    let guest = Guest::new(alloc);
+    let mut calls = Calls { guest, world };
+    let context = case.word(1).parse().unwrap_or(0);
+    match calls.make_tcp(1, context) {
+        Ok(handle) => Ok(format!(in alloc; "{handle}\n")?),
+        Err(error) => Ok(format!(in alloc; "{:?}\n", convert_error_code(error))?),
+    }
+}
