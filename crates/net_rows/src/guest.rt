@@ -1,22 +1,34 @@
-//! One who asks the network, and has each answer as a text.
+//! One who asks the network by lines of text.
+//!
+//! `N CALL = ANSWER` makes a call, as logs write it, of the operation of line N, and wants this
+//! answer: an address by its port alone, of an arrival and of names nothing but that word.
+//! `write N BYTES = ANSWER` offers bytes. `port N` asks where the network socket of line N is bound;
+//! from then on `{N}` stands for that port. `readable N` and `writable N` look until there is
+//! something to read, the end or a fault, or until there is room. `fill N` writes until there is no
+//! more room, and `drain N` reads as many bytes as were taken.
 
-ghost use Rattle.std.specs.Prelude.{◌≡◌, ◌≤◌, ◌<◌, ◌^◌, false, length, IfOk};
-ghost use Rattle.wasi_world.specs.Fits.{IsPlain};
+ghost use Rattle.std.specs.Prelude.{◌≡◌, ◌≤◌, ◌<◌, ◌^◌, false, length};
 ghost use Rattle.wasi_net.specs.Net.{seen_by};
 
 use std::alloc::{AllocError, Global};
 use std::net::Net;
 use std::test::Fail;
-use wasi_addr::{IpSocketAddress, Ipv4SocketAddress, SocketAddrUse, SocketAddressFamily};
+use wasi_addr::{IpSocketAddress, Ipv4SocketAddress};
 use wasi_net::{Allowed, Hosts, Linux, SystemWorld};
+use wasi_replay::call::call;
 use wasi_world::{Call, OpId, Sock, Told, Waits, World};
 use world_text::digits::push_octets;
+use world_text::fields::Fields;
 
-/// A network that has not ended.
+/// A network that has not ended, and what is known of it.
 #[derive(Drop)]
 pub struct Guest {
     alloc: Global,
     world: SystemWorld<Linux>,
+    /// The ports of the network sockets of the first lines.
+    ports: [u16; 8],
+    /// How many bytes were taken and not read.
+    taken: u64,
     ghost open: { (seen_by world).ended ≡ false },
 }
 
@@ -31,14 +43,14 @@ pub fn line(step: u32) -> OpId {
     OpId { step, part: 0 }
 }
 
-pub fn loopback(port: u16) -> IpSocketAddress {
-    IpSocketAddress::Ipv4(Ipv4SocketAddress {
-        port,
-        address: (127, 0, 0, 1),
-    })
+/// A word, and bytes behind it.
+fn with_bytes(alloc: Global, word: &str, bytes: &[u8]) -> Result<String, AllocError> {
+    let mut text = word.to_string(alloc)?;
+    push_octets(&mut text, bytes)?;
+    Ok(text)
 }
 
-/// The text of an answer. An address is reported by its port.
+/// The text of an answer.
 fn told_text(alloc: Global, told: &Told) -> Result<String, AllocError> {
     match told {
         Told::Pending => "pending".to_string(alloc),
@@ -48,17 +60,9 @@ fn told_text(alloc: Global, told: &Told) -> Result<String, AllocError> {
         Told::Code(code) => format!(in alloc; "{code}"),
         Told::Addr(addr) => format!(in alloc; "port {}", addr.port()),
         Told::Arrived(_) => "arrived".to_string(alloc),
-        Told::Bytes(bytes) => {
-            let mut text = "bytes ".to_string(alloc)?;
-            push_octets(&mut text, bytes.as_slice())?;
-            Ok(text)
-        }
+        Told::Bytes(bytes) => with_bytes(alloc, "bytes ", bytes.as_slice()),
         Told::Took(bytes) => format!(in alloc; "took {}", bytes.len()),
-        Told::Datagram(bytes, _) => {
-            let mut text = "datagram ".to_string(alloc)?;
-            push_octets(&mut text, bytes.as_slice())?;
-            Ok(text)
-        }
+        Told::Datagram(bytes, _) => with_bytes(alloc, "datagram ", bytes.as_slice()),
         Told::Value(value) => format!(in alloc; "value {value}"),
         Told::Names(_) => "names".to_string(alloc),
     }
@@ -66,163 +70,141 @@ fn told_text(alloc: Global, told: &Told) -> Result<String, AllocError> {
 
 impl Guest {
     /// Over a network where these ports are allowed.
-    pub fn new<R: Net + Drop>(rt: R, alloc: Global, ports: Vec<u16>) -> Guest {
-        let (allowed, hosts) = (Allowed::loopback(ports), Hosts::none(alloc));
-        Guest {
+    pub fn new<R: Net>(rt: &R, alloc: Global, ports: &[u16]) -> Result<Guest, AllocError> {
+        let (allowed, hosts) = (Allowed::loopback(ports.to_vec(alloc)?), Hosts::none(alloc));
+        Ok(Guest {
             alloc,
-            world: SystemWorld::new(Linux::new(&rt), alloc, allowed, hosts),
+            world: SystemWorld::new(Linux::new(rt), alloc, allowed, hosts),
+            ports: [0; 8],
+            taken: 0,
+        })
+    }
+
+    /// Makes a call.
+    fn ask(&mut self, op: OpId, call: Call) -> Result<Told, Fail> {
+        match call {
+            Call::Send { sock, addr, bytes } => {
+                Ok(self.world.send(op, sock, addr, bytes.as_slice())?)
+            }
+            Call::Write { .. } => Err(Fail::new("bytes are offered by `write`")),
+            plain => Ok(self.world.call(op, plain)?),
         }
     }
 
-    fn tell(&mut self, op: OpId, call: Call) -> Result<Told, AllocError>
-        requires { IsPlain call }
-    {
-        self.world.call(op, call)
-    }
-
-    /// Fails where the answer is another than this text.
-    fn compare(&self, told: Told, text: &str) -> Result<(), Fail> {
-        let told = told_text(self.alloc, &told)?;
-        if told.as_str() == text {
-            return Ok(());
+    /// Offers bytes.
+    fn write(&mut self, sock: Sock, bytes: &[u8]) -> Result<Told, Fail> {
+        if bytes.is_empty() || bytes.len() > 65_536 {
+            return Err(Fail::new("some bytes are offered"));
         }
-        Err(Fail::new(format_args!("{told} in place of {text}")))
+        Ok(self.world.write(sock, sock, bytes)?)
     }
 
-    /// Makes a call of this operation, and fails where another answer than this is given.
-    pub fn expects(&mut self, op: OpId, call: Call, text: &str) -> Result<(), Fail>
-        requires { IsPlain call }
-    {
-        let told = self.tell(op, call)?;
-        self.compare(told, text)
-    }
-
-    /// Waits until a call that was pending may go on.
-    pub fn wait(&mut self) -> bool {
-        self.world.wait(WAIT)
-    }
-
-    /// Looks until there is something to read, the end or a fault, and fails where nothing comes.
-    pub fn readable(&mut self, sock: Sock) -> Result<(), Fail> {
+    /// Makes a call until it is done, and fails where it stays pending.
+    fn looks(&mut self, sock: Sock, is_read: bool) -> Result<(), Fail> {
         for _ in 0..TRIES {
-            if let Told::Done = self.tell(sock, Call::ReadReady { sock })? {
+            let look = if is_read {
+                Call::ReadReady { sock }
+            } else {
+                Call::WriteReady { sock }
+            };
+            if let Told::Done = self.ask(sock, look)? {
                 return Ok(());
             }
-            self.wait();
+            self.world.wait(WAIT);
         }
-        Err(Fail::new("nothing comes"))
+        Err(Fail::new("nothing comes, or there is no room"))
     }
 
-    /// Looks until there is room to write, and fails where none comes.
-    pub fn writable(&mut self, sock: Sock) -> Result<(), Fail> {
-        for _ in 0..TRIES {
-            if let Told::Done = self.tell(sock, Call::WriteReady { sock })? {
+    /// Writes until the system has no more room.
+    fn fill(&mut self, sock: Sock) -> Result<(), Fail> {
+        for _ in 0..1000 {
+            let Told::Took(bytes) = self.write(sock, &[7; 4096])? else {
+                return Ok(());
+            };
+            self.taken = self.taken.saturating_add(bytes.len() as u64);
+        }
+        Err(Fail::new("there is always room"))
+    }
+
+    /// Reads as many bytes as were taken.
+    fn drain(&mut self, sock: Sock) -> Result<(), Fail> {
+        for _ in 0..10_000 {
+            if self.taken == 0 {
                 return Ok(());
             }
-            self.wait();
+            self.looks(sock, true)?;
+            if let Told::Bytes(bytes) = self.ask(sock, Call::Read { sock, size: 65_536 })? {
+                self.taken = self.taken.saturating_sub(bytes.len() as u64);
+            }
         }
-        Err(Fail::new("there is no room"))
+        Err(Fail::new("bytes were lost"))
     }
 
-    /// Takes the next arrival in hand.
-    pub fn accept(&mut self, op: OpId, sock: Sock) -> Result<(), Fail> {
-        self.readable(sock)?;
-        self.expects(op, Call::Accept { sock }, "arrived")
-    }
-
-    /// Writes, and fails where another answer than this is given.
-    pub fn writes(&mut self, sock: Sock, bytes: &[u8], text: &str) -> Result<(), Fail>
-        requires some { 1 ≤ length bytes.now }
-        requires short { length bytes.now < 2 ^ 32 }
-    {
-        let told = self.world.write(sock, sock, bytes)?;
-        self.compare(told, text)
-    }
-
-    /// Sends a datagram to the port, and fails where another answer than this is given.
-    pub fn sends(&mut self, sock: Sock, port: u16, bytes: &[u8], text: &str) -> Result<(), Fail> {
-        let told = self.world.send(sock, sock, loopback(port), bytes)?;
-        self.compare(told, text)
-    }
-
-    pub fn check(
-        &mut self,
-        usage: SocketAddrUse,
-        addr: IpSocketAddress,
-        text: &str,
-    ) -> Result<(), Fail> {
-        let ctx = 0;
-        self.expects(line(1), Call::Check { ctx, addr, usage }, text)
-    }
-
-    /// Makes a network socket.
-    pub fn create(&mut self, sock: Sock) -> Result<(), Fail> {
-        let family = SocketAddressFamily::Ipv4;
-        self.expects(sock, Call::TcpCreate { ctx: 0, family }, "done")
-    }
-
-    /// The port that a socket is bound to.
-    pub fn port(&mut self, sock: Sock) -> Result<u16, Fail> {
-        match self.tell(sock, Call::Local { sock })? {
-            Told::Addr(addr) => Ok(addr.port()),
-            _ => Err(Fail::new("a bound socket has an address")),
+    /// Keeps the port that a network socket is bound to.
+    fn keep_port(&mut self, sock: Sock) -> Result<(), Fail> {
+        let told = self.ask(sock, Call::Local { sock })?;
+        match (told, self.ports.get_mut(sock.step as usize)) {
+            (Told::Addr(addr), Some(port)) => *port = addr.port(),
+            _ => return Err(Fail::new("a bound socket has an address")),
         }
+        Ok(())
     }
 
-    /// Makes a listener, and returns its port.
-    pub fn listen(&mut self, sock: Sock, port: u16) -> Result<u16, Fail> {
-        self.create(sock)?;
-        let addr = loopback(port);
-        self.expects(sock, Call::Bind { sock, addr }, "done")?;
-        self.expects(sock, Call::Listen { sock, backlog: 1 }, "done")?;
-        self.port(sock)
-    }
-
-    /// Makes a UDP socket that is bound to a port of its own, and returns that.
-    pub fn udp(&mut self, sock: Sock) -> Result<u16, Fail> {
-        let family = SocketAddressFamily::Ipv4;
-        self.expects(sock, Call::UdpCreate { ctx: 0, family }, "done")?;
-        let addr = loopback(0);
-        self.expects(sock, Call::UdpBind { sock, addr }, "done")?;
-        self.port(sock)
-    }
-
-    /// Makes a network socket and connects it to the port; fails where another answer than this is
-    /// given.
-    pub fn connect(&mut self, sock: Sock, port: u16, text: &str) -> Result<(), Fail> {
-        self.create(sock)?;
-        let addr = loopback(port);
-        self.expects(sock, Call::Connect { sock, addr }, text)
-    }
-
-    /// A listener of line 1, a connection to it of line 2, and its other end of line 3.
-    pub fn connection(&mut self) -> Result<(), Fail> {
-        let sock = line(1);
-        let port = self.listen(sock, 0)?;
-        self.connect(line(2), port, "done")?;
-        self.accept(line(3), sock)?;
-        let peer = loopback(port);
-        self.expects(line(3), Call::Hand { sock, peer }, "done")
-    }
-
-    /// How many bytes a write took.
-    pub fn write(&mut self, sock: Sock, bytes: &[u8]) -> Result<u64, Fail>
-        requires some { 1 ≤ length bytes.now }
-        requires short { length bytes.now < 2 ^ 32 }
-    {
-        match self.world.write(sock, sock, bytes)? {
-            Told::Took(bytes) => Ok(bytes.len() as u64),
-            _ => Ok(0),
+    /// A line in which the ports stand.
+    fn filled_in(&self, line: &str) -> Result<String, AllocError> {
+        let mut text = line.to_string(self.alloc)?;
+        for (step, port) in self.ports.iter().enumerate() {
+            let name = format!(in self.alloc; "{{{step}}}")?;
+            let port = format!(in self.alloc; "{port}")?;
+            text = text.replace(self.alloc, name.as_str(), port.as_str())?;
         }
+        Ok(text)
     }
 
-    /// How many bytes a read gave, once the network socket was looked at.
-    pub fn read(&mut self, sock: Sock) -> Result<u64, Fail> {
-        self.readable(sock)?;
-        match self.tell(sock, Call::Read { sock, size: 65_536 })? {
-            Told::Bytes(bytes) => Ok(bytes.len() as u64),
-            _ => Ok(0),
+    /// Does what a line says, which begins with this word; the answer where it wants one.
+    fn does(&mut self, word: &str, fields: &mut Fields<'_>) -> Result<Option<Told>, Fail> {
+        let alloc = self.alloc;
+        if let Ok(step) = word.parse::<u32>() {
+            let Some(call) = call(alloc, fields)? else {
+                return Err(Fail::new("no call"));
+            };
+            return Ok(Some(self.ask(line(step), call)?));
         }
+        let sock = line(fields.u32().unwrap_or(0));
+        match word {
+            "port" => self.keep_port(sock)?,
+            "readable" => self.looks(sock, true)?,
+            "writable" => self.looks(sock, false)?,
+            "fill" => self.fill(sock)?,
+            "drain" => self.drain(sock)?,
+            _ => {
+                let Some(bytes) = fields.octets(alloc)? else {
+                    return Err(Fail::new("no bytes"));
+                };
+                return Ok(Some(self.write(sock, bytes.as_slice())?));
+            }
+        }
+        Ok(None)
+    }
+
+    /// Does what each line of a text says, and fails where another answer than its own is given.
+    pub fn plays(&mut self, text: &str) -> Result<(), Fail> {
+        for line in text.lines() {
+            let line = self.filled_in(line)?;
+            let (ask, wanted) = line
+                .as_str()
+                .split_once(" = ")
+                .unwrap_or((line.as_str(), ""));
+            let mut fields = Fields::of(ask.as_bytes());
+            let word = fields.word().unwrap_or("");
+            if let Some(told) = self.does(word, &mut fields)? {
+                let told = told_text(self.alloc, &told)?;
+                if told.as_str() != wanted {
+                    return Err(Fail::new(format_args!("{told} in place of {line}")));
+                }
+            }
+        }
+        Ok(())
     }
 
     /// How many codes were reported.
@@ -232,10 +214,7 @@ impl Guest {
 
     /// Ends the run with this network socket open, and returns how many were closed.
     pub fn end(self, sock: Sock) -> u64 {
-        let Guest {
-            alloc: _,
-            mut world,
-        } = self;
+        let Guest { mut world, .. } = self;
         world.end();
         world.close_after_end(sock);
         world.closed_after_end()

@@ -3,23 +3,13 @@
 #![tactic(auto)]
 
 #[cfg(test)]
-mod checks;
-#[cfg(test)]
-mod connections;
-#[cfg(test)]
-mod datagrams;
+mod calls;
 #[cfg(test)]
 mod guest;
-#[cfg(test)]
-mod listeners;
-#[cfg(test)]
-mod many;
 #[cfg(test)]
 mod names;
 #[cfg(test)]
 mod recorded;
-#[cfg(test)]
-mod refusals;
 #[cfg(test)]
 mod ruled;
 #[cfg(test)]
