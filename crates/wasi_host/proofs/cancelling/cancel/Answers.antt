@@ -13,20 +13,20 @@ returns-in_default-clause-asked g c =
     rw (← c.take.ensures.taken, c.in_default.is)
     (asks_gives (with_store (state_of c.args.view.now)) (rw (rw c.in_default.is at c.take.ensures.none) at c.cancel_beside.ensures.asked))
 
-pub returns-in_err-cancel-clause-asked : goal.returns-in_err-cancel-clause-asked
-returns-in_err-cancel-clause-asked g c =
+pub returns-in_err-give_up-clause-asked : goal.returns-in_err-give_up-clause-asked
+returns-in_err-give_up-clause-asked g c =
     rw (← c.take.ensures.taken, c.in-Some.is)
-    (asks_exit _ _ c.from_residual.ensures.1 (rw (c.take.ensures.some (rw c.in-Some.is refl)) at c.in_err-cancel.ensures.asked).err)
+    (asks_exit _ _ c.from_residual.ensures.1 (rw (c.take.ensures.some (rw c.in-Some.is refl)) at c.in_err-give_up.ensures.asked).err)
 
 pub returns-clause-asked : goal.returns-clause-asked
 returns-clause-asked g c =
     rw (← c.take.ensures.taken, c.in-Some.is)
-    (asks_end _ (rw (c.take.ensures.some (rw c.in-Some.is refl)) at c.in_ok-cancel.ensures.asked).ok refl)
+    (asks_end _ (rw (c.take.ensures.some (rw c.in-Some.is refl)) at c.in_ok-give_up.ensures.asked).ok refl)
 
-pub returns-in_err-cancel-clause-left : goal.returns-in_err-cancel-clause-left
-returns-in_err-cancel-clause-left g c =
+pub returns-in_err-give_up-clause-left : goal.returns-in_err-give_up-clause-left
+returns-in_err-give_up-clause-left g c =
     rw (← c.take.ensures.taken, c.in-Some.is)
-    (on_err _ (ap (λ (store : Records). let m : Machine = record (state_of c.args.view.now) { store = store } in m) (rw (c.take.ensures.some (rw c.in-Some.is refl)) at c.in_err-cancel.ensures.left)))
+    (on_err _ (ap (λ (store : Records). let m : Machine = record (state_of c.args.view.now) { store = store } in m) (rw (c.take.ensures.some (rw c.in-Some.is refl)) at c.in_err-give_up.ensures.left)))
 
-pub returns-in_err-cancel-clause-unasked : goal.returns-in_err-cancel-clause-unasked
-returns-in_err-cancel-clause-unasked g c = on_err _ c.in_err-cancel.ensures.unasked
+pub returns-in_err-give_up-clause-unasked : goal.returns-in_err-give_up-clause-unasked
+returns-in_err-give_up-clause-unasked g c = on_err _ c.in_err-give_up.ensures.unasked
