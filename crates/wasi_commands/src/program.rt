@@ -13,6 +13,8 @@ ghost use Rattle.wasi_commands.specs.Program.{GeneratedEnds};
 ghost use Rattle.wasi_commands.specs.Completeness.{ProgramCompletes};
 
 use crate::commands::{Command, command_in};
+use drawn_scripts::counts::run_generated;
+use drawn_scripts::drawn::Drawn;
 use std::alloc::Global;
 use std::sync::Wait;
 use std::thread::Threads;
@@ -20,8 +22,6 @@ use wasi_program::Status;
 use wasi_program::scenario::{Scenario, Unread, parse_scenario, read_scenario};
 use wasi_program::status::bad_line;
 use wasi_pump::{PumpError, pump};
-use drawn_scripts::counts::run_generated;
-use drawn_scripts::drawn::Drawn;
 use wasi_run::run_script;
 use wasi_spawn::Spawner;
 use wasi_world::{Entry, WasiSocketsCtx};

@@ -11,9 +11,9 @@ ghost use Rattle.wasi_machine.specs.Machine.{stream_result_reply, slot_reply, lo
 ghost use Rattle.wasi_p3.specs.Stops.{ends_as, IsStopOf};
 ghost use Rattle.wasi_steps.specs.Reply.{word_of_p3, word_of_lookup};
 
+use host_store::{CallError, LookupError};
 use std::alloc::{AllocError, Global};
 use wasi_addr::{ErrorCode, p2, p3};
-use host_store::{CallError, LookupError};
 use wasi_host::Outcome;
 use wasi_records::{SocketError, StreamResult};
 use wasi_steps::{CodeWord, IntoFields, Reply};

@@ -15,8 +15,8 @@ ghost use Rattle.wasi_session.specs.Did.{Did, DidNext, may_step, is_over_after};
 use crate::error::StepError;
 use std::alloc::Global;
 use std::marker::Model;
-use wasi_decides::Decides;
 use wasi_calls::Progress;
+use wasi_decides::Decides;
 use wasi_steps::{Reply, Step};
 use wasi_world::{Waits, WasiSocketsCtx, World};
 

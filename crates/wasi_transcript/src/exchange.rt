@@ -10,10 +10,10 @@ ghost use Rattle.wasi_transcript.specs.Done.{LineDone};
 
 use std::alloc::{AllocError, Global};
 use std::fmt::Write;
-use wasi_steps::parse::parse_step;
-use wasi_steps::reply::reply_text;
 use wasi_calls::Progress;
 use wasi_steps::Reply;
+use wasi_steps::parse::parse_step;
+use wasi_steps::reply::reply_text;
 use wasi_world::{Entry, WasiSocketsCtx};
 use world_scripted::ScriptedWorld;
 use world_text::EntryText;
