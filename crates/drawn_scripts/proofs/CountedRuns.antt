@@ -1,5 +1,6 @@
 -- The run of a generated script, by how it ended.
-use Rattle.wasi_run.proofs.Words.{◌⊎◌, ◌≡◌, ℕ, List, [], ◌∷◌, length, Result, Ok, inl, inr, refl, ◌∙◌, WasiSocketsCtx, Seen, Reading, Writing, RunError}
+use Rattle.wasi_run.proofs.Words.{◌⊎◌, ◌≡◌, ℕ, List, [], ◌∷◌, length, Result, Ok, inl, inr, refl, ◌∙◌, WasiSocketsCtx, Seen, Reading, Writing}
+use Rattle.wasi_run.specs.declared.error.RunError.{RunError}
 use Rattle.world_scripted.specs.Queued.{no_answers}
 use Rattle.world_scripted.specs.Scripted.{at_start}
 use Rattle.wasi_world.specs.Contexts.{free_context}

@@ -1,6 +1,9 @@
 -- A valid script from a source without faults, into a sink that refuses nothing at first, ends with no other error than
 -- out of memory and a write that failed.
-use Rattle.wasi_run.proofs.Words.{◌⊎◌, ◌≡◌, ℕ, List, length, Result, Ok, Err, inl, inr, refl, sym, arith, WasiSocketsCtx, Seen, Rose, Reading, Writing, SameCounts, CountRose, LinesEnd, RunError, Memory, WriteFault, Counted}
+use Rattle.wasi_run.proofs.Words.{◌⊎◌, ◌≡◌, ℕ, List, length, Result, Ok, Err, inl, inr, refl, sym, arith, WasiSocketsCtx, Seen, Rose, Reading, Writing, SameCounts, CountRose, Counted}
+use Rattle.wasi_run.specs.declared.error.RunError.{RunError}
+use Rattle.wasi_run.specs.declared.error.RunError.TheVariants.{Memory, WriteFault}
+use Rattle.wasi_run.specs.declared.lines.LinesEnd.{LinesEnd}
 use Rattle.wasi_run.specs.declared.lines.LinesEnd.TheVariants as lines
 use Rattle.wasi_run.specs.Script.{Answers, RanScript, IsValid, IsOkOrMemory, Completes}
 use Rattle.drawn_scripts.specs.Counted.{unread, unwritten, IsOwn}
