@@ -110,6 +110,11 @@ pub fn number(word: &str) -> usize {
     word.parse().unwrap_or(0)
 }
 
+/// The number of 32 bits that a word is; 0 for another word.
+pub fn short_number(word: &str) -> u32 {
+    word.parse().unwrap_or(0)
+}
+
 /// The stream of this name.
 fn stream_of(name: &str) -> Stream {
     match name {
@@ -186,13 +191,13 @@ impl Case {
     fn set(&mut self, first: &str, rest: &str) -> Result<(), AllocError> {
         let (word, others) = rest.split_once(' ').unwrap_or((rest, ""));
         match first {
-            "fail" => self.fails.push((stream_of(word), number(others) as u32))?,
+            "fail" => self.fails.push((stream_of(word), short_number(others)))?,
             "try" => {
                 let (from, to) = others.split_once(' ').unwrap_or((others, others));
                 self.tries = Some(Tries {
                     what: tried_of(word),
-                    first: number(from) as u32,
-                    last: number(to) as u32,
+                    first: short_number(from),
+                    last: short_number(to),
                 });
             }
             "takes" => self.takes = Some(number(word)),

@@ -28,7 +28,9 @@ fn push_entry(text: &mut String, alloc: Global, front: &str, entry: &Entry) -> a
 /// `policy ..`: what was written, the status and the bad line, the checks that were denied, each
 /// with its place, and the calls that were handed on.
 pub fn policy(alloc: Global, case: &Case) -> anyhow::Result<String> {
-    let (_, words) = case.words.split_first().unwrap();
+    let Some((_, words)) = case.words.split_first() else {
+        return Ok(String::new(alloc));
+    };
     let done = policy_main(
         alloc,
         words,

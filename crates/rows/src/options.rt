@@ -6,7 +6,7 @@ ghost use Rattle.world_scripted.specs.Scripted.{seen_by};
 
 use crate::case::{Case, Stream};
 use crate::guest::{Guest, line};
-use host_store::{NamedId, WasiCtxNamedView, WasiSocketsView};
+use host_store::{NamedId, WasiCtxNamedView, WasiSocketsCtxView, WasiSocketsView};
 use std::alloc::Global;
 use wasi_addr::SocketAddressFamily;
 use wasi_p2::{SocketError, convert_error_code, tcp, udp};
@@ -23,13 +23,21 @@ struct Calls {
     ghost open: { (seen_by world).ended ≡ false },
 }
 
+/// Makes a TCP socket in a view.
+fn make_tcp(
+    view: &mut WasiSocketsCtxView<'_>,
+    world: &mut ScriptedWorld,
+) -> Result<Handle, SocketError>
+    requires { (seen_by world.old).ended ≡ false }
+    ensures { (seen_by world.new).ended ≡ false }
+{
+    tcp::create_tcp_socket(view, world, &mut line(1), SocketAddressFamily::Ipv4)
+}
+
 impl Calls {
-    /// Makes a TCP socket in the view of a context.
-    fn make_tcp(&mut self, step: u32, context: u32) -> Result<Handle, SocketError> {
-        let mut named = WasiCtxNamedView(&mut self.guest);
-        let view = &mut named.at(NamedId(context));
-        let family = SocketAddressFamily::Ipv4;
-        tcp::create_tcp_socket(view, &mut self.world, &mut line(step), family)
+    /// Makes a TCP socket.
+    fn make_tcp(&mut self) -> Result<Handle, SocketError> {
+        make_tcp(&mut self.guest.sockets(), &mut self.world)
     }
 
     /// Makes a UDP socket.
@@ -55,7 +63,7 @@ pub fn options(alloc: Global, case: &Case) -> anyhow::Result<String> {
     let (world, _) = ScriptedWorld::parse(alloc, case.text(Stream::Scenario))?;
     let guest = Guest::new(alloc);
     let mut calls = Calls { guest, world };
-    calls.make_tcp(1, 7)?;
+    calls.make_tcp()?;
     calls.make_udp(2)?;
     let mut text = String::new(alloc);
     let mut step = 2u32;
@@ -72,14 +80,17 @@ pub fn options(alloc: Global, case: &Case) -> anyhow::Result<String> {
     Ok(text)
 }
 
-/// `views NUMBER`: what a call in the view of the context with this number returns: its handle, or
-/// the code that a guest is told.
+/// `views NUMBER`: what a call in the view of the context with this number, 7 or 9, returns: its
+/// handle, or the code that a guest is told.
 pub fn views(alloc: Global, case: &Case) -> anyhow::Result<String> {
-    let (world, _) = ScriptedWorld::parse(alloc, case.text(Stream::Scenario))?;
-    let guest = Guest::new(alloc);
-    let mut calls = Calls { guest, world };
-    let context = case.word(1).parse().unwrap_or(0);
-    match calls.make_tcp(1, context) {
+    let (mut world, _) = ScriptedWorld::parse(alloc, case.text(Stream::Scenario))?;
+    let mut guest = Guest::new(alloc);
+    let made = if case.word(1) == "9" {
+        make_tcp(&mut WasiCtxNamedView(&mut guest).at(NamedId(9)), &mut world)
+    } else {
+        make_tcp(&mut WasiCtxNamedView(&mut guest).at(NamedId(7)), &mut world)
+    };
+    match made {
         Ok(handle) => Ok(format!(in alloc; "{handle}\n")?),
         Err(error) => Ok(format!(in alloc; "{:?}\n", convert_error_code(error))?),
     }

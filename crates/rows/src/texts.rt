@@ -1,6 +1,6 @@
 //! Cases of host names, shown lines, drawn scripts and the texts of replies.
 
-use crate::case::{Case, Stream, number};
+use crate::case::{Case, Stream, number, short_number};
 use drawn_scripts::drawn::Drawn;
 use drawn_scripts::generate::generate;
 use std::alloc::{AllocError, Global};
@@ -52,8 +52,8 @@ pub fn line(alloc: Global, case: &mut Case) -> anyhow::Result<String> {
 
 /// `drawn SEED STEPS`: a script of calls of 0.2 that is drawn.
 pub fn drawn(alloc: Global, case: &Case) -> anyhow::Result<String> {
-    let (seed, steps) = (number(case.word(1)), number(case.word(2)));
-    let script = generate(alloc, Drawn::OfTwo, seed as u64, steps as u32)?;
+    let (seed, steps) = (number(case.word(1)), short_number(case.word(2)));
+    let script = generate(alloc, Drawn::OfTwo, seed as u64, steps)?;
     Ok(String::from_utf8_lossy(alloc, script.as_slice())?)
 }
 
