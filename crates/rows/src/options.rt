@@ -34,6 +34,32 @@ fn make_tcp(
     tcp::create_tcp_socket(view, world, &mut line(1), SocketAddressFamily::Ipv4)
 }
 
+/// Reads an option of the TCP socket 1.
+fn get_tcp(
+    view: &mut WasiSocketsCtxView<'_>,
+    world: &mut ScriptedWorld,
+    step: u32,
+    option: Opt,
+) -> Result<u64, SocketError>
+    requires { (seen_by world.old).ended ≡ false }
+    ensures { (seen_by world.new).ended ≡ false }
+{
+    tcp::get_option(view, world, &mut line(step), 1, option)
+}
+
+/// Reads an option of the UDP socket 2.
+fn get_udp(
+    view: &mut WasiSocketsCtxView<'_>,
+    world: &mut ScriptedWorld,
+    step: u32,
+    option: Opt,
+) -> Result<u64, SocketError>
+    requires { (seen_by world.old).ended ≡ false }
+    ensures { (seen_by world.new).ended ≡ false }
+{
+    udp::get_option(view, world, &mut line(step), 2, option)
+}
+
 impl Calls {
     /// Makes a TCP socket.
     fn make_tcp(&mut self) -> Result<Handle, SocketError> {
@@ -49,11 +75,10 @@ impl Calls {
 
     /// Reads an option of the TCP socket 1, or of the UDP socket 2.
     fn get(&mut self, step: u32, kind: &str, option: Opt) -> Result<u64, SocketError> {
-        let (view, world, ids) = (&mut self.guest.sockets(), &mut self.world, &mut line(step));
-        match kind {
-            "tcp" => tcp::get_option(view, world, ids, 1, option),
-            _ => udp::get_option(view, world, ids, 2, option),
+        if kind == "tcp" {
+            return get_tcp(&mut self.guest.sockets(), &mut self.world, step, option);
         }
+        get_udp(&mut self.guest.sockets(), &mut self.world, step, option)
     }
 }
 
