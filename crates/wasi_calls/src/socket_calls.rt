@@ -8,16 +8,16 @@ ghost use Rattle.wasi_machine.specs.Machine.{first_ids, call_asks};
 ghost use Rattle.wasi_calls.specs.Groups.{group_of};
 ghost use Rattle.wasi_calls.specs.declared.groups.CallGroup.{CallGroup};
 ghost use Rattle.std.specs.Result.{result_map_both};
-ghost use Rattle.wasi_records.specs.Stops.{host_outcome};
+ghost use Rattle.record_common.specs.Stops.{host_outcome};
 ghost use Rattle.wasi_machine.specs.Machine.{without_code};
 
 use crate::settings::{set, udp_opt, udp_setting};
 use host_store::WasiSocketsCtxView;
+use record_common::SocketError;
 use std::alloc::{AllocError, Global};
 use wasi_addr::p2;
 use wasi_machine::replies::{answer_reply, reply_of};
 use wasi_p2::{ip_name_lookup, tcp, udp};
-use wasi_records::SocketError;
 use wasi_steps::{GuestCall, NoCode, Reply};
 use wasi_world::{Ids, World};
 

@@ -7,12 +7,12 @@ ghost use Rattle.host_store.specs.Views.{SameView, state_of};
 ghost use Rattle.wasi_machine.specs.Machine.{first_ids, call_asks};
 ghost use Rattle.wasi_calls.specs.Groups.{group_of};
 ghost use Rattle.wasi_calls.specs.declared.groups.CallGroup.{CallGroup};
-ghost use Rattle.wasi_records.specs.Stops.{fault_outcome, host_outcome};
+ghost use Rattle.record_common.specs.Stops.{fault_outcome, host_outcome};
 
 use host_store::WasiSocketsCtxView;
+use record_common::SocketError;
 use std::alloc::{AllocError, Global};
 use wasi_machine::replies::{answer_reply, blocked_reply, reply_of, stream_reply_of};
-use wasi_records::SocketError;
 use wasi_steps::{GuestCall, Reply};
 use wasi_streams::Fault;
 use wasi_world::{Ids, World};

@@ -3,17 +3,17 @@ use Rattle.wasi_causes.proofs.Words.{◌≡◌, Bool, true, false, if◌then◌e
 use Rattle.wasi_machine.specs.Machine.{first_ids}
 use Rattle.wasi_records.specs.Records.{tcp2_at, udp2_at, open_at, lookup_at, input_pipe_at, output_pipe_at}
 use Rattle.host_lookups.specs.NameLookupCalls.{drop_lookup_at}
-use Rattle.wasi_records.specs.declared.name_lookup.Lookup.{Lookup}
+use Rattle.lookup_records.specs.declared.name_lookup.Lookup.{Lookup}
 use Rattle.host_store.specs.declared.kind.Kind.TheVariants as kinds
-use Rattle.wasi_records.specs.Datagrams.{sends as still_sends}
+use Rattle.udp_records.specs.Datagrams.{sends as still_sends}
 use Rattle.host_udp.specs.DatagramCalls.{drop_incoming_at, drop_outgoing_at, drop_outgoing_by, without_receives}
-use Rattle.wasi_records.specs.declared.udp.OpenUdp.{OpenUdp}
-use Rattle.wasi_records.specs.Udp.{close_udp_asks}
+use Rattle.udp_records.specs.declared.udp.OpenUdp.{OpenUdp}
+use Rattle.udp_records.specs.Udp.{close_udp_asks}
 use Rattle.host_udp.specs.UdpCalls.{release_udp_at, udp_closed}
 use Rattle.host_store.specs.Store.{with_open_udp}
 use Rattle.host_store.specs.declared.kind.Kind.TheVariants.{Udp2, Incoming, Outgoing}
-use Rattle.wasi_records.specs.declared.udp.UdpRecord.{UdpRecord}
-use Rattle.wasi_records.specs.declared.udp.UdpRecord.TheVariants as udp
+use Rattle.udp_records.specs.declared.udp.UdpRecord.{UdpRecord}
+use Rattle.udp_records.specs.declared.udp.UdpRecord.TheVariants as udp
 use Rattle.wasi_causes.specs.Udp.{putting_udp, udp_given_up, udp_left}
 use Rattle.wasi_causes.proofs.GivenBack.{no_job, put_gone}
 use Rattle.host_udp.specs.UdpCalls as calls
@@ -27,17 +27,17 @@ use Rattle.wasi_causes.proofs.HeldUdp.{closes}
 use Rattle.host_store.specs.Beside.{has_datagram}
 use Rattle.host_udp.specs.SocketDatagrams.{is_udp_held, let_udp_go, udp_goes, without_udp_handle}
 use Rattle.host_udp.specs.SocketDatagrams as udp_held
-use Rattle.wasi_records.specs.Records.{open_of}
-use Rattle.wasi_records.specs.Udp.{without_udp_socket}
+use Rattle.udp_records.specs.Udp.{open_of}
+use Rattle.udp_records.specs.Udp.{without_udp_socket}
 use Rattle.wasi_walks.proofs.walks.Udp.{open_is}
 use Rattle.wasi_causes.specs.Outcomes.{Outcome, AreLike}
-use Rattle.wasi_records.specs.Holding.{drop_listener_asks, drop_socket_asks, is_held, let_go_by, without_socket}
+use Rattle.tcp_records.specs.Holding.{drop_listener_asks, drop_socket_asks, is_held, let_go_by, without_socket}
 use Rattle.host_tcp.specs.Dropping.{left_so, let_go_at}
 use Rattle.host_store.specs.Kinds.{none_in, outgoing_of}
-use Rattle.wasi_records.specs.Listening.{with_listening}
-use Rattle.wasi_records.specs.Shutdowns.{with_streams}
+use Rattle.tcp_records.specs.Listening.{with_listening}
+use Rattle.tcp_records.specs.Shutdowns.{with_streams}
 use Rattle.host_tcp.specs.TcpCalls.{shut_put}
-use Rattle.wasi_records.specs.declared.tcp_listening.Listening.TheVariants as listening
+use Rattle.tcp_records.specs.declared.tcp_listening.Listening.TheVariants as listening
 use Rattle.wasi_steps.specs.declared.reply.CodeWord.TheVariants as word
 use Rattle.wasi_steps.specs.declared.reply.Reply.TheVariants as reply
 use Rattle.wasi_steps.specs.declared.guest_call.GuestCall.TheVariants as guest
@@ -55,8 +55,8 @@ use Rattle.wasi_causes.proofs.streams.EndsClosed.{read_end_goes, write_end_goes}
 use Rattle.wasi_causes.specs.P3Streams.{IsLetGo, ReadEndGoes, WriteEndGoes}
 use Rattle.host_tcp.specs.ConnectionEnds.{drop_slot_in}
 use Rattle.host_store.specs.declared.kind.ConnectionEnd.{ConnectionEnd}
-use Rattle.wasi_records.specs.Slots.{slot_at}
-use Rattle.wasi_records.specs.declared.slot.Slot.{Slot}
+use Rattle.wasi_records.specs.Records.{slot_at}
+use Rattle.tcp_records.specs.declared.slot.Slot.{Slot}
 use Rattle.wasi_causes.proofs.Releases.{Released, listening_up, releases, shuts}
 
 none_there : (hs : List ℕ) → none_in hs ≡ true → hs ≡ []

@@ -1,12 +1,12 @@
 -- A subscription, and a look at a pollable.
 use Rattle.wasi_causes.specs.Plain.{WatchesPlain}
 use Rattle.wasi_records.specs.Records.{tcp2_at, open_at, lookup_at}
-use Rattle.wasi_records.specs.NameLookup.{looks_on}
+use Rattle.lookup_records.specs.NameLookup.{looks_on}
 use Rattle.host_lookups.specs.NameLookupCalls.{lookup_ready}
 use Rattle.wasi_causes.specs.Lookups.{WatchesLookup}
 use Rattle.host_udp.specs.DatagramCalls.{begins_receive, outgoing_ready, ready_incoming_at, with_receive}
-use Rattle.wasi_records.specs.Receiving.{look_incoming, receives}
-use Rattle.wasi_records.specs.declared.udp.OpenUdp.{OpenUdp}
+use Rattle.udp_records.specs.Receiving.{look_incoming, receives}
+use Rattle.udp_records.specs.declared.udp.OpenUdp.{OpenUdp}
 use Rattle.wasi_causes.specs.Datagrams.{IsOfDatagrams, IsReceiving, WatchesIncoming, WatchesOutgoing}
 use Rattle.wasi_causes.proofs.Words.{AcceptWaits, AcceptWaitsOn, Accepting, AcceptsIn, Answer, Bool}
 use Rattle.wasi_causes.proofs.Words.{ClosedBy, ConnectWaits, End, Entry, Err, Give}
@@ -36,10 +36,10 @@ use Rattle.wasi_jobs.specs.declared.job.HostJob.TheVariants.{Receive}
 use Rattle.wasi_causes.proofs.udp_streams.Routes.{job_there}
 use Rattle.wasi_causes.specs.Udp.{WatchesUdp}
 use Rattle.wasi_host.specs.Pollables.{watched_side}
-use Rattle.wasi_records.specs.Looks.{is_over, is_done, connect_looked, accept_looked, ready_listening, ready_idle, ready_socket_by, ready_reader, ready_writer}
+use Rattle.tcp_records.specs.Looks.{is_over, is_done, connect_looked, accept_looked, ready_listening, ready_idle, ready_socket_by, ready_reader, ready_writer}
 use Rattle.host_store.specs.Readiness.{ready_record, ready_put, ready_at}
 use Rattle.host_store.specs.declared.kind.Watched.TheVariants as watched
-use Rattle.wasi_records.specs.declared.tcp_listening.Listening.TheVariants as listening
+use Rattle.tcp_records.specs.declared.tcp_listening.Listening.TheVariants as listening
 use Rattle.wasi_steps.specs.declared.guest_call.GuestCall.TheVariants as guest
 use Rattle.wasi_steps.specs.declared.step.Step.TheVariants as step
 use Rattle.wasi_tcp.specs.declared.listener.Accepting.TheVariants as accepting

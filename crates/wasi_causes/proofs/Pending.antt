@@ -51,10 +51,11 @@ use Rattle.wasi_walks.proofs.Places.{udp_sort}
 use Rattle.wasi_walks.proofs.fits.Datagrams.{FitBeside}
 use Rattle.wasi_walks.specs.Missing.{MissesOneOf, MissesWatched}
 use Rattle.wasi_records.specs.Numbered.{record_gone}
-use Rattle.wasi_records.specs.Records.{input_pipe_of, open_of, output_pipe_at, output_pipe_of, tcp2_of, udp2_at}
+use Rattle.wasi_records.specs.Records.{input_pipe_of, output_pipe_at, output_pipe_of, tcp2_of, udp2_at}
+use Rattle.udp_records.specs.Udp.{open_of}
 use Rattle.wasi_records.specs.declared.records.Record.{Record}
-use Rattle.wasi_records.specs.declared.udp.OpenUdp.{OpenUdp}
-use Rattle.wasi_records.specs.declared.udp.UdpRecord.{UdpRecord}
+use Rattle.udp_records.specs.declared.udp.OpenUdp.{OpenUdp}
+use Rattle.udp_records.specs.declared.udp.UdpRecord.{UdpRecord}
 use Rattle.host_store.specs.Beside.{beside_of}
 use Rattle.host_store.specs.Kinds.{watch_of}
 use Rattle.host_store.specs.declared.beside.Beside.{Beside}

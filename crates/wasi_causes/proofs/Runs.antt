@@ -1,7 +1,8 @@
 -- Of the machines that runs lead to: what a socket connects by is a connect, what a listener accepts by an accept, what is
 -- pending as a bind is a bind, as a listen a listen, and as a create a create; each live handle is of a record that is there, a
 -- connect in progress may be finished, and a socket that does nothing yet doesn't listen.
-use Rattle.wasi_records.specs.Records.{tcp2_at, udp2_at, open_at, open_of}
+use Rattle.wasi_records.specs.Records.{tcp2_at, udp2_at, open_at}
+use Rattle.udp_records.specs.Udp.{open_of}
 use Rattle.host_store.specs.declared.kind.Kind.TheVariants.{Tcp3, Udp2, Udp3, Listen3, Lookup, Incoming, Outgoing, PlainInput, PlainOutput, Network, ErrorValue, Receive3, Result3, Send3}
 use Rattle.host_store.specs.Kinds.{lookup_of}
 use Rattle.host_store.specs.Machine.{lookup_number}
@@ -11,12 +12,12 @@ use Rattle.wasi_causes.proofs.Words.{eq-eqb, stands_as, ◌∙◌}
 use Rattle.wasi_walks.specs.Missing.{BesideNothing, ExclusiveOnNothing}
 use Rattle.wasi_walks.specs.Waiting.{call_over, left_by}
 use Rattle.wasi_causes.specs.Lookups.{found_lookup}
-use Rattle.wasi_records.specs.declared.udp.OpenUdp.{OpenUdp}
-use Rattle.wasi_records.specs.declared.udp.UdpRecord.{UdpRecord}
-use Rattle.wasi_records.specs.declared.udp.UdpInProgress.{UdpInProgress}
+use Rattle.udp_records.specs.declared.udp.OpenUdp.{OpenUdp}
+use Rattle.udp_records.specs.declared.udp.UdpRecord.{UdpRecord}
+use Rattle.udp_records.specs.declared.udp.UdpInProgress.{UdpInProgress}
 use Rattle.wasi_causes.proofs.sockets.P3ListenPolls.{listen_polled_so}
 use Rattle.wasi_causes.specs.P3Listens.{ListenPolled, ListenerAccepts}
-use Rattle.wasi_records.specs.Holding.{has_listener}
+use Rattle.tcp_records.specs.Holding.{has_listener}
 use Rattle.wasi_walks.proofs.owners.Names.{listens_in}
 use Rattle.wasi_walks.specs.Listens.{HasNoListener}
 use Rattle.wasi_world.specs.Operation.{Operation}
@@ -25,7 +26,7 @@ use Rattle.host_store.specs.Lines.{tcp_in}
 use Rattle.host_store.specs.Kinds.{listen3_of}
 use Rattle.host_store.specs.Machine.{listen3_at, tcp3_at}
 use Rattle.wasi_walks.specs.Waiting.{IsCreating, IsUdpBinding}
-use Rattle.wasi_records.specs.declared.tcp_binding.InProgress.TheVariants.{Binding}
+use Rattle.tcp_records.specs.declared.tcp_binding.InProgress.TheVariants.{Binding}
 use Rattle.wasi_causes.proofs.Words.{AcceptsAt, AcceptsIn, Allows, Answered, Bool, CodeWord, ConnectsAt, Entry}
 use Rattle.wasi_causes.proofs.Words.{FinishRefusal, Full, Give, HasChildren, HoldsCall, IfSome, InProgress, Input, IsBinding, IsListening}
 use Rattle.wasi_causes.proofs.Words.{IsOnNothing, IsSome, IsSomeAnd, Item, Kind, Left, List, Listening, Machine}
@@ -42,7 +43,7 @@ use Rattle.wasi_causes.proofs.Words.{ℕ, ◌==◌, ◌≡◌, ◌⊎◌}
 use Rattle.wasi_causes.proofs.tables.Steps.{its_own}
 use Rattle.wasi_causes.specs.Outcomes.{InputIsThere, Traps}
 use Rattle.wasi_causes.specs.Reached.{Finishes, MayFinish, ListensLate, HasRecord, HasUdpRecord, OfItsRecord}
-use Rattle.wasi_records.specs.declared.tcp_listening.Listening.TheVariants as listening
+use Rattle.tcp_records.specs.declared.tcp_listening.Listening.TheVariants as listening
 use Rattle.host_store.specs.declared.store.StandingCall.TheVariants as standing
 use Rattle.wasi_walks.proofs.fits.Law.{Fit}
 use Rattle.wasi_walks.proofs.owners.Names.{held_udp}

@@ -19,7 +19,7 @@ use Rattle.host_store.specs.declared.store.StandingCall.{StandingCall}
 use Rattle.host_store.specs.declared.store.StandingCall.TheVariants.{Blocking}
 use Rattle.host_store.specs.Kinds.{kind_at, is_writable}
 use Rattle.host_store.specs.Machine.{input_at, own_of}
-use Rattle.wasi_records.specs.Names.{first_ids}
+use Rattle.record_common.specs.Names.{first_ids}
 use Rattle.host_streams.specs.StreamCalls.{plain_input_at}
 use Rattle.wasi_steps.specs.declared.reply.Field.{Field}
 use Rattle.wasi_steps.specs.declared.reply.Reply.{Reply}

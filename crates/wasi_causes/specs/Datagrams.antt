@@ -2,20 +2,20 @@
 use Rattle.wasi_causes.specs.Blocking.{HasItsStreams, IsShort}
 use Rattle.std.specs.Prelude.{◌≡◌, ◌⊎◌, ⊤, ℕ, ◌+◌, true, false, List, [], Option, Some, None, IsSomeAnd, IfSome}
 use Rattle.wasi_world.specs.declared.call.Entry.{Entry}
-use Rattle.wasi_records.specs.declared.datagrams.Incoming.{Incoming}
-use Rattle.wasi_records.specs.declared.datagrams.Outgoing.{Outgoing}
+use Rattle.udp_records.specs.declared.datagrams.Incoming.{Incoming}
+use Rattle.udp_records.specs.declared.datagrams.Outgoing.{Outgoing}
 use Rattle.host_store.specs.declared.kind.Kind.TheVariants as kind
 use Rattle.host_store.specs.declared.kind.Watched.{Watched}
 use Rattle.host_store.specs.declared.kind.Watched.TheVariants as watched
 use Rattle.host_store.specs.declared.machine.Machine.{Machine}
 use Rattle.host_store.specs.declared.store.StandingCall.{StandingCall}
 use Rattle.host_store.specs.declared.store.StandingCall.TheVariants as standing
-use Rattle.wasi_records.specs.declared.udp.OpenUdp.{OpenUdp}
+use Rattle.udp_records.specs.declared.udp.OpenUdp.{OpenUdp}
 use Rattle.host_udp.specs.DatagramCalls.{without_receives}
-use Rattle.wasi_records.specs.Datagrams.{has_streams, permit_of, permitted, sends}
+use Rattle.udp_records.specs.Datagrams.{has_streams, permit_of, permitted, sends}
 use Rattle.host_store.specs.Kinds.{HandleTable, kind_at, watch_of, with_handle, without_handle}
 use Rattle.host_store.specs.Machine.{tcp3_at, udp_socket_at}
-use Rattle.wasi_records.specs.Receiving.{receives}
+use Rattle.udp_records.specs.Receiving.{receives}
 use Rattle.wasi_records.specs.Records.{open_at}
 use Rattle.host_store.specs.Standing.{standing_as}
 use Rattle.host_store.specs.Store.{with_open_udp}

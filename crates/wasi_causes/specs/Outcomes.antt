@@ -60,13 +60,13 @@ use Rattle.wasi_world.specs.declared.outcome.WasiSocketsCtx.{WasiSocketsCtx}
 use Rattle.wasi_table.specs.Table.{is_full}
 use Rattle.wasi_tcp.specs.declared.writer.WriteError.TheVariants as error
 use Rattle.wasi_tcp.specs.Socket.{new_socket}
-use Rattle.wasi_records.specs.declared.name_lookup.Lookup.{Lookup}
+use Rattle.lookup_records.specs.declared.name_lookup.Lookup.{Lookup}
 use Rattle.host_lookups.specs.NameLookupCalls.{lookup_ready}
 use Rattle.host_store.specs.declared.kind.Kind.TheVariants as kind
 use Rattle.host_store.specs.declared.machine.Machine.{Machine}
 use Rattle.host_store.specs.Machine.{incoming_at, input_at, outgoing_at, output_at, own_of, receive3_at, result3_at, send3_at, socket_at, udp_socket_at}
 use Rattle.host_tcp.specs.Creates.{with_room}
-use Rattle.wasi_records.specs.Shutdowns.{with_streams}
+use Rattle.tcp_records.specs.Shutdowns.{with_streams}
 use Rattle.host_store.specs.Limits.{most_of}
 use Rattle.host_store.specs.Store.{with_record}
 use Rattle.wasi_walks.specs.Licence.{entry, Has, marks_in}
@@ -80,7 +80,7 @@ use Rattle.wasi_causes.specs.Refusals.{CreateRefusal, KnowsTcp3Bound, LocalRefus
 use Rattle.wasi_causes.specs.Reached.{FinishesAt, ListensLateAt}
 use Rattle.wasi_causes.specs.Turns.{IsOfJob}
 use Rattle.host_udp.specs.DatagramCalls.{outgoing_ready}
-use Rattle.wasi_records.specs.Names.{next_name}
+use Rattle.record_common.specs.Names.{next_name}
 use Rattle.wasi_causes.specs.SendCauses.{ReceivesSome, SendsSome, UdpReceiveRefusal, UdpSendRefusal}
 use Rattle.wasi_causes.specs.StreamCauses.{HasNewStreams, MakesStreams, UdpStreamRefusal, StreamsStand}
 use Rattle.wasi_causes.specs.Datagrams.{IsUdpSend, IsUdpStream, HasUdpStreams, IsSpent, OfIncoming, OfOutgoing, LacksRoomForBoth, MadeBoth, PermitsSend, PendingHandleIsLive, LacksRoomForStreams, IsReceiving, WatchesDatagrams, WatchesIncoming, WatchesOutgoing, OutgoingWaits}

@@ -22,16 +22,17 @@ use Rattle.wasi_tcp.specs.declared.socket.TcpState.{TcpState}
 use Rattle.wasi_tcp.specs.declared.socket.TcpState.TheVariants as state
 use Rattle.wasi_tcp.specs.declared.writer.WriteState.TheVariants as writing
 use Rattle.wasi_tcp.specs.Connecting.{with_state}
-use Rattle.wasi_records.specs.declared.slot.Slot.{Slot}
-use Rattle.wasi_records.specs.declared.slot.Slot.TheVariants.{Filled, Unfilled}
-use Rattle.wasi_records.specs.declared.socket.TcpRecord.{TcpRecord}
-use Rattle.wasi_records.specs.Ends.{ends_of, half_of, receive_half, send_half}
-use Rattle.wasi_records.specs.Halves.{with_reader, with_writer}
-use Rattle.wasi_records.specs.Holding.{is_held}
+use Rattle.tcp_records.specs.declared.slot.Slot.{Slot}
+use Rattle.tcp_records.specs.declared.slot.Slot.TheVariants.{Filled, Unfilled}
+use Rattle.tcp_records.specs.declared.socket.TcpRecord.{TcpRecord}
+use Rattle.tcp_records.specs.Ends.{ends_of, half_of, receive_half, send_half}
+use Rattle.tcp_records.specs.Halves.{with_reader, with_writer}
+use Rattle.tcp_records.specs.Holding.{is_held}
 use Rattle.wasi_records.specs.Records.{tcp2_at}
-use Rattle.wasi_records.specs.Shutdowns.{with_streams}
-use Rattle.wasi_records.specs.Slots.{StreamEnd, slot_at}
-use Rattle.wasi_records.specs.Sockets.{with_inner}
+use Rattle.tcp_records.specs.Shutdowns.{with_streams}
+use Rattle.tcp_records.specs.Slots.{StreamEnd}
+use Rattle.wasi_records.specs.Records.{slot_at}
+use Rattle.tcp_records.specs.Sockets.{with_inner}
 use Rattle.host_store.specs.declared.kind.ConnectionEnd.{ConnectionEnd}
 use Rattle.host_store.specs.declared.kind.Kind.{Kind}
 use Rattle.host_store.specs.declared.kind.Kind.TheVariants as kind

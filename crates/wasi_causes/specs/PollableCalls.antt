@@ -15,7 +15,7 @@ use Rattle.host_store.specs.declared.store.StandingCall.{StandingCall}
 use Rattle.host_store.specs.declared.store.StandingCall.TheVariants.{Blocking}
 use Rattle.host_store.specs.Kinds.{kind_at, watch_of}
 use Rattle.wasi_host.specs.Pollables.{ready_asks}
-use Rattle.wasi_records.specs.Names.{first_ids}
+use Rattle.record_common.specs.Names.{first_ids}
 use Rattle.wasi_host.specs.Polling.{Found, are_pollables, begins_at, ids_after_look, ready_places}
 use Rattle.host_store.specs.Standing.{standing_as}
 use Rattle.wasi_steps.specs.declared.reply.Reply.{Reply}

@@ -17,10 +17,10 @@ use Rattle.wasi_world.specs.declared.ids.OpId.{OpId}
 use Rattle.wasi_world.specs.Operation.{is_wanted}
 use Rattle.wasi_world.specs.Sides.{is_same}
 use Rattle.wasi_world.specs.Typed.{told_verdict}
-use Rattle.wasi_records.specs.Receiving.{is_receiving}
-use Rattle.wasi_records.specs.declared.datagrams.Incoming.{Incoming as IncomingStream}
-use Rattle.wasi_records.specs.declared.datagrams.Receiving.{Receiving}
-use Rattle.wasi_records.specs.declared.datagrams.Receiving.TheVariants.{Came}
+use Rattle.udp_records.specs.Receiving.{is_receiving}
+use Rattle.udp_records.specs.declared.datagrams.Incoming.{Incoming as IncomingStream}
+use Rattle.udp_records.specs.declared.datagrams.Receiving.{Receiving}
+use Rattle.udp_records.specs.declared.datagrams.Receiving.TheVariants.{Came}
 use Rattle.wasi_steps.specs.declared.reply.Field.{Field}
 use Rattle.wasi_steps.specs.declared.reply.Reply.{Reply}
 use Rattle.wasi_steps.specs.declared.reply.Reply.TheVariants as reply

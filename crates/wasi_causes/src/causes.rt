@@ -18,7 +18,7 @@ ghost use Rattle.host_store.specs.declared.kind.Kind.{Kind};
 ghost use Rattle.host_store.specs.declared.kind.PlainInput.{PlainInput};
 ghost use Rattle.host_store.specs.declared.kind.PlainOutput.{PlainOutput};
 ghost use Rattle.host_store.specs.declared.machine.Machine.{Machine};
-ghost use Rattle.wasi_records.specs.declared.socket.TcpRecord.{TcpRecord};
+ghost use Rattle.tcp_records.specs.declared.socket.TcpRecord.{TcpRecord};
 ghost use Rattle.wasi_steps.specs.declared.reply.CodeWord.{CodeWord};
 ghost use Rattle.wasi_steps.specs.declared.reply.Field.{Field};
 ghost use Rattle.wasi_steps.specs.declared.reply.Reply.{Reply};
@@ -39,7 +39,7 @@ ghost use Rattle.wasi_walks.specs.Licence.{Has, marks_in};
 ghost use Rattle.wasi_machine.specs.Machine.{polls_beside, run};
 ghost use Rattle.wasi_steps.specs.Steps.{context_of};
 ghost use Rattle.host_store.specs.Machine.{first_state, own_of, socket_at};
-ghost use Rattle.wasi_records.specs.declared.name_lookup.Lookup.{Lookup};
+ghost use Rattle.lookup_records.specs.declared.name_lookup.Lookup.{Lookup};
 ghost use Rattle.wasi_records.specs.Records.{input_pipe_at, lookup_at, open_at, output_pipe_at};
 ghost use Rattle.wasi_records.specs.Records.{tcp2_at};
 ghost use Rattle.host_store.specs.Kinds.{kind_at, without_handle};
@@ -47,7 +47,7 @@ ghost use Rattle.wasi_steps.specs.Reply.{no_fields};
 ghost use Rattle.wasi_causes.specs.Lookups.{LookedOn};
 ghost use Rattle.wasi_causes.specs.Turns.{IsOfJob};
 ghost use Rattle.wasi_walks.specs.Waiting.{IsPoll, left_missing};
-ghost use Rattle.wasi_records.specs.InProgress.{is_connect};
+ghost use Rattle.tcp_records.specs.InProgress.{is_connect};
 ghost use Rattle.wasi_table.specs.Table.{children_of, is_full};
 
 /// Each reply is one that the table of replies allows its step: fields of the step's kinds, a code

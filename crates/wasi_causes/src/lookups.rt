@@ -12,12 +12,12 @@ ghost use Rattle.wasi_world.specs.declared.outcome.WasiSocketsCtx.{WasiSocketsCt
 ghost use Rattle.wasi_world.specs.Asks.{Give, Left};
 ghost use Rattle.host_store.specs.declared.kind.Kind.{Kind};
 ghost use Rattle.host_store.specs.declared.machine.Machine.{Machine};
-ghost use Rattle.wasi_records.specs.declared.name_lookup.Lookup.{Lookup};
-ghost use Rattle.wasi_records.specs.declared.name_lookup.Lookup.TheVariants as Lookup;
+ghost use Rattle.lookup_records.specs.declared.name_lookup.Lookup.{Lookup};
+ghost use Rattle.lookup_records.specs.declared.name_lookup.Lookup.TheVariants as Lookup;
 ghost use Rattle.host_store.specs.Kinds.{is_network, kind_at};
 ghost use Rattle.host_store.specs.Machine.{first_state, lookup_number, own_of};
 ghost use Rattle.host_tcp.specs.Creates.{with_room};
-ghost use Rattle.wasi_records.specs.NameLookup.{looks_on};
+ghost use Rattle.lookup_records.specs.NameLookup.{looks_on};
 ghost use Rattle.host_lookups.specs.NameLookupCalls.{lookup_ready};
 ghost use Rattle.wasi_records.specs.Records.{lookup_at};
 ghost use Rattle.wasi_machine.specs.Machine.{context_at, run};

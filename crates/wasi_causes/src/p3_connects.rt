@@ -6,7 +6,7 @@ ghost use Rattle.std.specs.Prelude.{Some, None};
 ghost use Rattle.wasi_addr.specs.declared.address.IpSocketAddress.{IpSocketAddress};
 ghost use Rattle.wasi_world.specs.declared.call.Entry.{Entry};
 ghost use Rattle.wasi_world.specs.declared.outcome.WasiSocketsCtx.{WasiSocketsCtx};
-ghost use Rattle.wasi_records.specs.declared.socket.TcpRecord.{TcpRecord};
+ghost use Rattle.tcp_records.specs.declared.socket.TcpRecord.{TcpRecord};
 ghost use Rattle.wasi_records.specs.Records.{tcp2_at};
 ghost use Rattle.host_store.specs.declared.beside.BesideCall.{BesideCall};
 ghost use Rattle.host_store.specs.declared.machine.Machine.{Machine};

@@ -10,7 +10,7 @@ ghost use Rattle.wasi_world.specs.Asks.{Give, Left};
 ghost use Rattle.wasi_world.specs.Operation as item;
 ghost use Rattle.wasi_world.specs.Operation.{Operation, is_now};
 ghost use Rattle.wasi_records.specs.Records.{open_at};
-ghost use Rattle.wasi_records.specs.declared.udp.OpenUdp.{OpenUdp};
+ghost use Rattle.udp_records.specs.declared.udp.OpenUdp.{OpenUdp};
 ghost use Rattle.host_store.specs.declared.beside.BesideCall.{BesideCall};
 ghost use Rattle.host_store.specs.declared.machine.Machine.{Machine};
 ghost use Rattle.host_store.specs.Beside.{beside_as, beside_of};

@@ -10,10 +10,10 @@ ghost use Rattle.wasi_world.specs.declared.outcome.WasiSocketsCtx.{WasiSocketsCt
 ghost use Rattle.wasi_world.specs.Asks.{Give, Left};
 ghost use Rattle.wasi_world.specs.Operation.{Operation};
 ghost use Rattle.wasi_table.specs.Table.{children_of};
-ghost use Rattle.wasi_records.specs.declared.socket.TcpRecord.{TcpRecord};
-ghost use Rattle.wasi_records.specs.declared.tcp_listening.Listening.{Listening};
-ghost use Rattle.wasi_records.specs.Holding.{is_held};
-ghost use Rattle.wasi_records.specs.Listening.{with_listening};
+ghost use Rattle.tcp_records.specs.declared.socket.TcpRecord.{TcpRecord};
+ghost use Rattle.tcp_records.specs.declared.tcp_listening.Listening.{Listening};
+ghost use Rattle.tcp_records.specs.Holding.{is_held};
+ghost use Rattle.tcp_records.specs.Listening.{with_listening};
 ghost use Rattle.wasi_records.specs.Records.{tcp2_at};
 ghost use Rattle.host_store.specs.declared.kind.Kind.{Kind};
 ghost use Rattle.host_store.specs.declared.machine.Machine.{Machine};

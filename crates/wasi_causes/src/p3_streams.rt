@@ -9,10 +9,11 @@ ghost use Rattle.wasi_world.specs.declared.outcome.TrapKind.TheVariants as TrapK
 ghost use Rattle.wasi_world.specs.declared.outcome.WasiSocketsCtx.{WasiSocketsCtx};
 ghost use Rattle.wasi_world.specs.Asks.{Give, Left};
 ghost use Rattle.wasi_table.specs.Table.{children_of};
-ghost use Rattle.wasi_records.specs.declared.slot.Slot.{Slot};
-ghost use Rattle.wasi_records.specs.declared.socket.TcpRecord.{TcpRecord};
+ghost use Rattle.tcp_records.specs.declared.slot.Slot.{Slot};
+ghost use Rattle.tcp_records.specs.declared.socket.TcpRecord.{TcpRecord};
 ghost use Rattle.wasi_records.specs.Records.{tcp2_at};
-ghost use Rattle.wasi_records.specs.Slots.{slot_at, StreamEnd};
+ghost use Rattle.wasi_records.specs.Records.{slot_at};
+ghost use Rattle.tcp_records.specs.Slots.{StreamEnd};
 ghost use Rattle.host_store.specs.declared.kind.ConnectionEnd.{ConnectionEnd};
 ghost use Rattle.host_store.specs.declared.kind.Kind.{Kind};
 ghost use Rattle.host_store.specs.declared.machine.Machine.{Machine};

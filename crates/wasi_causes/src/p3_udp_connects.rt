@@ -8,7 +8,7 @@ ghost use Rattle.wasi_world.specs.declared.ids.Ids.{Ids};
 ghost use Rattle.wasi_world.specs.declared.outcome.WasiSocketsCtx.{WasiSocketsCtx};
 ghost use Rattle.wasi_world.specs.Operation.{Operation};
 ghost use Rattle.wasi_records.specs.Records.{open_at};
-ghost use Rattle.wasi_records.specs.declared.udp.OpenUdp.{OpenUdp};
+ghost use Rattle.udp_records.specs.declared.udp.OpenUdp.{OpenUdp};
 ghost use Rattle.host_store.specs.declared.machine.Machine.{Machine};
 ghost use Rattle.host_store.specs.declared.store.StandingCall.{StandingCall};
 ghost use Rattle.host_store.specs.Machine.{own_of};

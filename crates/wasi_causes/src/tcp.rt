@@ -30,7 +30,7 @@ ghost use Rattle.wasi_machine.specs.Machine.{context_at, run};
 ghost use Rattle.host_store.specs.Limits.{with_limit};
 ghost use Rattle.host_store.specs.Machine.{first_state, own_of, socket_at};
 ghost use Rattle.host_tcp.specs.Creates.{with_room};
-ghost use Rattle.wasi_records.specs.Shutdowns.{with_streams};
+ghost use Rattle.tcp_records.specs.Shutdowns.{with_streams};
 ghost use Rattle.host_store.specs.Kinds.{is_network, kind_at};
 ghost use Rattle.wasi_walks.specs.Waiting.{WatchesConnect};
 ghost use Rattle.host_store.specs.Store.{with_record};

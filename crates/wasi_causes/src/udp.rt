@@ -10,7 +10,7 @@ ghost use Rattle.wasi_world.specs.declared.outcome.TrapKind.{TrapKind};
 ghost use Rattle.wasi_world.specs.declared.outcome.WasiSocketsCtx.{WasiSocketsCtx};
 ghost use Rattle.host_store.specs.declared.kind.Kind.{Kind};
 ghost use Rattle.host_store.specs.declared.machine.Machine.{Machine};
-ghost use Rattle.wasi_records.specs.declared.udp.UdpRecord.{UdpRecord};
+ghost use Rattle.udp_records.specs.declared.udp.UdpRecord.{UdpRecord};
 ghost use Rattle.host_store.specs.Beside.{beside_of};
 ghost use Rattle.host_store.specs.Kinds.{is_network, kind_at};
 ghost use Rattle.host_store.specs.Machine.{own_of};

@@ -15,7 +15,7 @@ ghost use Rattle.wasi_host.specs.declared.polling.Look.{Look};
 ghost use Rattle.host_store.specs.declared.store.StandingCall.{StandingCall};
 ghost use Rattle.host_store.specs.Machine.{first_state};
 ghost use Rattle.wasi_host.specs.Pollables.{ids_after_ready, ready_asks};
-ghost use Rattle.wasi_records.specs.Names.{names_after};
+ghost use Rattle.record_common.specs.Names.{names_after};
 ghost use Rattle.wasi_host.specs.Polling.{Found, are_pollables, begins_at, found_of, ready_places};
 ghost use Rattle.host_store.specs.Standing.{standing_as};
 ghost use Rattle.wasi_machine.specs.Machine.{first_ids, run};

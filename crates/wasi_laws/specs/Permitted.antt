@@ -7,7 +7,7 @@ use Rattle.wasi_world.specs.Asks.{Asks, Left}
 use Rattle.wasi_streams.specs.Streams.{zeros}
 use Rattle.host_store.specs.declared.machine.Machine.{Machine}
 use Rattle.host_store.specs.declared.store.Standing.{Standing}
-use Rattle.wasi_records.specs.Names.{own_of}
+use Rattle.record_common.specs.Names.{own_of}
 use Rattle.host_store.specs.Standing.{call_of}
 use Rattle.wasi_steps.specs.declared.reply.Reply.{Reply}
 use Rattle.wasi_steps.specs.declared.step.Step.{Step}

@@ -17,7 +17,7 @@ use Rattle.wasi_machine.specs.Machine.{asks_while, context_at, context_for, cont
 use Rattle.wasi_limits.specs.Alike.{Alike, BothGive, OneStops, OtherStops, StopsAt, Stopped}
 use Rattle.wasi_limits.specs.Contexts.{LikeContext, LikeContexts, MoreContexts, NoContexts, OtherLimit}
 use Rattle.wasi_limits.proofs.Like.{LikeMachine, Machines, LikeStore, Stores, NoRecords, NoLimits, LikeFound, NoneFound, BothFound, SameSocket, OtherPermit}
-use Rattle.wasi_records.specs.declared.socket.TcpRecord.{TcpRecord}
+use Rattle.tcp_records.specs.declared.socket.TcpRecord.{TcpRecord}
 use Rattle.host_store.specs.Kinds.{HandleTable, kind_at, output_of}
 use Rattle.host_store.specs.Store.{Records}
 use Rattle.wasi_limits.proofs.Stores.{found_like}

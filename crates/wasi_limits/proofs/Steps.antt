@@ -16,15 +16,15 @@ use Rattle.wasi_tcp.specs.Shape.{Socket}
 use Rattle.wasi_tcp.specs.Socket.{new_asks, side_of}
 use Rattle.wasi_tcp.specs.Reader.{read_state_asks}
 use Rattle.wasi_tcp.specs.Writer.{write_state_asks}
-use Rattle.wasi_records.specs.declared.tcp_binding.InProgress.{InProgress}
+use Rattle.tcp_records.specs.declared.tcp_binding.InProgress.{InProgress}
 use Rattle.wasi_records.specs.declared.records.Record.TheVariants as a_record
-use Rattle.wasi_records.specs.declared.socket.TcpRecord.{TcpRecord}
-use Rattle.wasi_records.specs.Halves.{flush_asks, reader_asks, writer_asks}
-use Rattle.wasi_records.specs.InProgress.{is_bind, is_listen}
-use Rattle.wasi_records.specs.Names.{first_ids, own_of}
+use Rattle.tcp_records.specs.declared.socket.TcpRecord.{TcpRecord}
+use Rattle.tcp_records.specs.Halves.{flush_asks, reader_asks, writer_asks}
+use Rattle.tcp_records.specs.InProgress.{is_bind, is_listen}
+use Rattle.record_common.specs.Names.{first_ids, own_of}
 use Rattle.wasi_records.specs.Records.{tcp2_at}
-use Rattle.wasi_records.specs.Sockets.{new_record}
-use Rattle.wasi_records.specs.Stops.{Stop, Trap}
+use Rattle.tcp_records.specs.Sockets.{new_record}
+use Rattle.record_common.specs.Stops.{Stop, Trap}
 use Rattle.host_store.specs.BaseStops.{BaseStop}
 use Rattle.host_store.specs.CallStops.{CallStop, Closed, Failed, Traps as CallTraps}
 use Rattle.host_store.specs.Kinds.{HandleTable, has_no_child, is_network, kind_at, make_asks, plain_input_of, plain_output_of, taken_out, watch_of, watched_by, without_handle, input_of, output_of}
@@ -37,7 +37,7 @@ use Rattle.wasi_addr.specs.declared.p2.ErrorCode.{ErrorCode as P2Code}
 use Rattle.host_store.specs.Block.{Does, Read, after_call, give, last, or_trap, ◌>>=◌, ◌>>◌}
 use Rattle.host_store.specs.Lines.{finish_connect_of, in_store, makes, on_tcp, same_stop, storing, tabling, tcp_in, told_of}
 use Rattle.host_store.specs.declared.kind.Interface.TheVariants.{P2, P3}
-use Rattle.wasi_records.specs.Sockets.{tell_local_asks, tell_remote_asks}
+use Rattle.tcp_records.specs.Sockets.{tell_local_asks, tell_remote_asks}
 use Rattle.wasi_tcp.specs.Addresses.{is_listening as listens}
 use Rattle.wasi_host.specs.Pending.{answered_on, go_on, gone_on, outcome_of, resume_asks, resume_call, resumed}
 use Rattle.host_store.specs.Standing.{allowed_answer, call_of, unstood}

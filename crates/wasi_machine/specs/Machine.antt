@@ -17,9 +17,9 @@ use Rattle.wasi_host.specs.declared.pending.Outcome.{Outcome}
 use Rattle.wasi_host.specs.declared.pending.Outcome.TheVariants.{Nothing, One, Two, Count, Bytes, Places}
 use Rattle.wasi_host.specs.declared.pending.Outcome.TheVariants as outcome
 use Rattle.host_store.specs.declared.store.Standing.{Standing}
-use Rattle.wasi_records.specs.Stops.{Stop, StopOf, Code, Trap}
-use Rattle.wasi_records.specs.declared.slot.StreamResult.{StreamResult}
-use Rattle.wasi_records.specs.declared.slot.StreamResult.TheVariants.{Completed, Dropped, Cancelled}
+use Rattle.record_common.specs.Stops.{Stop, StopOf, Code, Trap}
+use Rattle.tcp_records.specs.declared.slot.StreamResult.{StreamResult}
+use Rattle.tcp_records.specs.declared.slot.StreamResult.TheVariants.{Completed, Dropped, Cancelled}
 use Rattle.host_store.specs.CallStops.{CallStop, Failed, Closed, Traps}
 use Rattle.host_store.specs.Machine.{first_state, own_of, socket_at, udp_socket_at, incoming_at, outgoing_at, lookup_number}
 use Rattle.host_tcp.specs.Creates.{create_asks}
@@ -33,8 +33,8 @@ use Rattle.host_streams.specs.PlainStreams.{input_pipe_asks, output_pipe_asks, p
 use Rattle.host_streams.specs.StreamCalls.{read_asks, skip_asks, check_asks, write_asks, write_zeroes_asks, flushed_asks, splice_asks}
 use Rattle.host_streams.specs.Blocking.{blocking_read_asks, blocking_skip_asks, blocking_write_asks, blocking_zeroes_asks, blocking_flush_asks, blocking_splice_asks}
 use Rattle.wasi_host.specs.Cancel.{cancel_asks}
-pub use Rattle.wasi_records.specs.Names.{first_ids}
-use Rattle.wasi_records.specs.InProgress.{is_bind, is_listen}
+pub use Rattle.record_common.specs.Names.{first_ids}
+use Rattle.tcp_records.specs.InProgress.{is_bind, is_listen}
 use Rattle.wasi_host.specs.Pending.{resume_asks}
 use Rattle.wasi_host.specs.Polling.{block_by, poll_asks}
 use Rattle.host_store.specs.Standing.{stands_as}

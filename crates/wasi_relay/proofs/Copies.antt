@@ -12,7 +12,7 @@ use Rattle.host_store.specs.declared.machine.Machine.{Machine}
 use Rattle.host_store.specs.declared.store.Standing.{Standing}
 use Rattle.host_store.specs.CallStops.{CallStop, Closed, Failed, Traps}
 use Rattle.host_streams.specs.StreamCalls.{check_asks}
-use Rattle.wasi_records.specs.Names.{own_of}
+use Rattle.record_common.specs.Names.{own_of}
 use Rattle.wasi_machine.specs.Machine.{asks_while, is_held_up, stream_reply_of}
 use Rattle.wasi_steps.specs.declared.guest_call.GuestCall.TheVariants as guest
 use Rattle.wasi_steps.specs.declared.reply.Field.{Field}

@@ -7,7 +7,7 @@ use Rattle.wasi_world.specs.declared.call.HandleKind.TheVariants.{Tcp2, Input, O
 use Rattle.wasi_world.specs.declared.call.Told.TheVariants.{Done}
 use Rattle.wasi_world.specs.declared.outcome.WasiSocketsCtx.{WasiSocketsCtx}
 use Rattle.host_store.specs.declared.machine.Machine.{Machine}
-use Rattle.wasi_records.specs.Names.{own_of}
+use Rattle.record_common.specs.Names.{own_of}
 use Rattle.wasi_steps.specs.declared.guest_call.GuestCall.TheVariants as guest
 use Rattle.wasi_steps.specs.declared.reply.CodeWord.TheVariants.{WouldBlock}
 use Rattle.wasi_steps.specs.declared.reply.Field.{Field}

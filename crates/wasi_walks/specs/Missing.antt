@@ -11,7 +11,7 @@ use Rattle.host_store.specs.declared.kind.PlainOutput.TheVariants as plain_outpu
 use Rattle.host_store.specs.declared.kind.Watched.{Watched}
 use Rattle.host_store.specs.declared.kind.Watched.TheVariants as watched
 use Rattle.host_store.specs.declared.machine.Machine.{Machine}
-use Rattle.wasi_records.specs.declared.socket.TcpRecord.{TcpRecord}
+use Rattle.tcp_records.specs.declared.socket.TcpRecord.{TcpRecord}
 use Rattle.host_store.specs.declared.store.StandingCall.{StandingCall}
 use Rattle.host_store.specs.declared.store.StandingCall.TheVariants as standing
 use Rattle.host_store.specs.Kinds.{kind_at, is_network, is_error, udp_of, tcp3_of, watched_by, watch_of, place_in}

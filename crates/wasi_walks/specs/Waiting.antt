@@ -28,20 +28,20 @@ use Rattle.wasi_tcp.specs.Listener.{Listener}
 use Rattle.wasi_tcp.specs.Socket.{side_in}
 use Rattle.wasi_tcp.specs.Writer.{collected}
 use Rattle.wasi_records.specs.Records.{tcp2_at, udp2_at, open_at}
-use Rattle.wasi_records.specs.declared.tcp_binding.InProgress.{InProgress}
-use Rattle.wasi_records.specs.declared.tcp_binding.InProgress.TheVariants.{Binding}
+use Rattle.tcp_records.specs.declared.tcp_binding.InProgress.{InProgress}
+use Rattle.tcp_records.specs.declared.tcp_binding.InProgress.TheVariants.{Binding}
 use Rattle.host_store.specs.declared.kind.Watched.{Watched}
 use Rattle.host_store.specs.declared.kind.Watched.TheVariants as watched
-use Rattle.wasi_records.specs.declared.tcp_listening.Listening.{Listening}
-use Rattle.wasi_records.specs.declared.tcp_listening.Listening.TheVariants as listening
+use Rattle.tcp_records.specs.declared.tcp_listening.Listening.{Listening}
+use Rattle.tcp_records.specs.declared.tcp_listening.Listening.TheVariants as listening
 use Rattle.host_store.specs.declared.machine.Machine.{Machine}
-use Rattle.wasi_records.specs.declared.socket.Streams.{Streams}
-use Rattle.wasi_records.specs.declared.socket.TcpRecord.{TcpRecord}
-use Rattle.wasi_records.specs.declared.udp.OpenUdp.{OpenUdp}
-use Rattle.wasi_records.specs.declared.udp.UdpRecord.{UdpRecord}
-use Rattle.wasi_records.specs.declared.udp.UdpRecord.TheVariants as udp
-use Rattle.wasi_records.specs.declared.udp.UdpInProgress.{UdpInProgress}
-use Rattle.wasi_records.specs.declared.udp.UdpInProgress.TheVariants as udp_doing
+use Rattle.tcp_records.specs.declared.socket.Streams.{Streams}
+use Rattle.tcp_records.specs.declared.socket.TcpRecord.{TcpRecord}
+use Rattle.udp_records.specs.declared.udp.OpenUdp.{OpenUdp}
+use Rattle.udp_records.specs.declared.udp.UdpRecord.{UdpRecord}
+use Rattle.udp_records.specs.declared.udp.UdpRecord.TheVariants as udp
+use Rattle.udp_records.specs.declared.udp.UdpInProgress.{UdpInProgress}
+use Rattle.udp_records.specs.declared.udp.UdpInProgress.TheVariants as udp_doing
 use Rattle.wasi_udp.specs.Bind.{IsBind as IsUdpBind}
 use Rattle.wasi_udp.specs.Create.{Create}
 use Rattle.host_store.specs.declared.kind.Interface.{Interface}
@@ -49,10 +49,10 @@ use Rattle.host_store.specs.declared.kind.Interface.TheVariants.{P3}
 use Rattle.host_store.specs.declared.store.StandingCall.{StandingCall}
 use Rattle.host_store.specs.declared.store.StandingCall.TheVariants as standing
 use Rattle.host_store.specs.Kinds.{kind_at, watch_of, place_in}
-use Rattle.wasi_records.specs.Datagrams.{sends}
+use Rattle.udp_records.specs.Datagrams.{sends}
 use Rattle.host_store.specs.Machine.{output_at, outgoing_at}
 use Rattle.wasi_host.specs.Pollables.{watched_side}
-use Rattle.wasi_records.specs.InProgress.{is_nothing, is_connect}
+use Rattle.tcp_records.specs.InProgress.{is_nothing, is_connect}
 use Rattle.host_store.specs.Beside.{beside_of, unbeside}
 use Rattle.host_udp.specs.SocketDatagrams.{is_datagram_in}
 use Rattle.host_store.specs.Standing.{call_of, unstood}

@@ -20,8 +20,8 @@ use Rattle.wasi_walks.proofs.Lists.{has_front}
 use Rattle.wasi_walks.proofs.fits.Law.{Fit, whatever}
 use Rattle.wasi_causes.proofs.Fitted.{Fitted, beside_fits, first_fitted, line_fitted}
 use Rattle.wasi_walks.proofs.fits.Datagrams.{FitBeside}
-use Rattle.wasi_records.specs.Records.{open_of}
-use Rattle.wasi_records.specs.declared.udp.OpenUdp.{OpenUdp}
+use Rattle.udp_records.specs.Udp.{open_of}
+use Rattle.udp_records.specs.declared.udp.OpenUdp.{OpenUdp}
 use Rattle.host_store.specs.Beside.{beside_of}
 use Rattle.host_store.specs.declared.beside.Beside.{Beside}
 use Rattle.host_store.specs.declared.beside.BesideCall.{BesideCall}

@@ -28,7 +28,7 @@ use Rattle.wasi_tcp.specs.Halves.{read_asks}
 use Rattle.wasi_tcp.specs.Reader.{read_end_asks}
 use Rattle.wasi_tcp.specs.declared.reader.ReadState.TheVariants as reading
 use Rattle.wasi_records.specs.Records.{tcp2_at}
-use Rattle.wasi_records.specs.Stops.{Code}
+use Rattle.record_common.specs.Stops.{Code}
 use Rattle.host_store.specs.CallStops.{Closed, Failed, Traps}
 use Rattle.host_store.specs.Kinds.{plain_input_of}
 use Rattle.host_streams.specs.StreamCalls.{convert_asks, read_by}

@@ -20,7 +20,7 @@ use Rattle.host_store.specs.Limits.{most_of}
 use Rattle.host_tcp.specs.Creates.{with_room}
 use Rattle.host_store.specs.Machine.{with_table}
 use Rattle.host_streams.specs.StreamCalls.{failed_made}
-use Rattle.wasi_records.specs.Sockets.{poll_connect_asks}
+use Rattle.tcp_records.specs.Sockets.{poll_connect_asks}
 use Rattle.wasi_addr.specs.declared.p2.ErrorCode.TheVariants.{NotInProgress}
 use Rattle.host_tcp.specs.Creates.{code_told, same_told}
 use Rattle.host_streams.specs.StreamCalls.{check_by, convert_asks, plain_output_at, write_by}

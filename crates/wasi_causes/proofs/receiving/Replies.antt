@@ -5,19 +5,19 @@ use Rattle.std.proofs.lemmas.Bool.{eqb-true}
 use Rattle.wasi_world.specs.declared.datagram.IncomingDatagram.{IncomingDatagram}
 use Rattle.host_udp.specs.DatagramCalls.{begins_receive, receive_datagrams_at, with_receive}
 use Rattle.wasi_world.specs.declared.outcome.TrapKind.TheVariants.{NoSuchHandle}
-use Rattle.wasi_records.specs.Stops.{Code}
+use Rattle.record_common.specs.Stops.{Code}
 use Rattle.host_store.specs.Jobs.{with_job}
 use Rattle.host_store.specs.Machine.{incoming_at}
-use Rattle.wasi_records.specs.Receiving.{receive_datagrams_asks}
+use Rattle.udp_records.specs.Receiving.{receive_datagrams_asks}
 use Rattle.wasi_records.specs.Records.{open_at, udp2_at, udp2_put}
 use Rattle.host_store.specs.Store.{Records}
 use Rattle.host_store.specs.Store.{with_open_udp}
-use Rattle.wasi_records.specs.declared.datagrams.Incoming.{Incoming as IncomingStream}
-use Rattle.wasi_records.specs.declared.datagrams.Receiving.{Receiving}
+use Rattle.udp_records.specs.declared.datagrams.Incoming.{Incoming as IncomingStream}
+use Rattle.udp_records.specs.declared.datagrams.Receiving.{Receiving}
 use Rattle.wasi_jobs.specs.declared.job.HostJob.TheVariants.{Receive}
 use Rattle.host_store.specs.declared.kind.Kind.TheVariants.{Incoming}
-use Rattle.wasi_records.specs.declared.udp.OpenUdp.{OpenUdp}
-use Rattle.wasi_records.specs.declared.udp.UdpRecord.{UdpRecord}
+use Rattle.udp_records.specs.declared.udp.OpenUdp.{OpenUdp}
+use Rattle.udp_records.specs.declared.udp.UdpRecord.{UdpRecord}
 use Rattle.wasi_p2.specs.Udp.{receive_datagrams_on}
 use Rattle.wasi_machine.specs.Machine.{reply_of}
 use Rattle.wasi_steps.specs.Reply.{datagram_values, received_values}

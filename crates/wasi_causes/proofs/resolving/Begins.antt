@@ -11,12 +11,12 @@ use Rattle.wasi_world.specs.Fits.{IsNames}
 use Rattle.wasi_world.specs.Typed.{told_names}
 use Rattle.wasi_world.specs.declared.call.Told.TheVariants as told
 use Rattle.host_store.specs.GivingBack.{given_back}
-use Rattle.wasi_records.specs.NameLookup.{lookup_told}
+use Rattle.lookup_records.specs.NameLookup.{lookup_told}
 use Rattle.host_lookups.specs.NameLookupCalls.{lookup_handle, resolve_host, resolved, with_lookup}
 use Rattle.host_store.specs.declared.kind.Kind.TheVariants as kind
-use Rattle.wasi_records.specs.declared.name_lookup.Lookup.{Lookup}
-use Rattle.wasi_records.specs.declared.name_lookup.Lookup.TheVariants.{InProgress, Found}
-use Rattle.wasi_records.specs.declared.name_lookup.LookupOp.{LookupOp}
+use Rattle.lookup_records.specs.declared.name_lookup.Lookup.{Lookup}
+use Rattle.lookup_records.specs.declared.name_lookup.Lookup.TheVariants.{InProgress, Found}
+use Rattle.lookup_records.specs.declared.name_lookup.LookupOp.{LookupOp}
 use Rattle.wasi_p2.specs.Lookup.{resolve_asks, resolved_host}
 use Rattle.wasi_steps.specs.declared.reply.CodeWord.TheVariants as word
 use Rattle.wasi_steps.specs.declared.reply.Reply.TheVariants as reply

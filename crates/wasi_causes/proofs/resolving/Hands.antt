@@ -6,11 +6,11 @@ use Rattle.wasi_addr.specs.declared.address.IpAddress.{IpAddress}
 use Rattle.wasi_addr.specs.declared.address.IpAddress.TheVariants as ip
 use Rattle.host_store.specs.Kinds.{is_error}
 use Rattle.host_store.specs.Machine.{lookup_number}
-use Rattle.wasi_records.specs.NameLookup.{next_of}
+use Rattle.lookup_records.specs.NameLookup.{next_of}
 use Rattle.host_lookups.specs.NameLookupCalls.{next_at, next_told}
 use Rattle.wasi_records.specs.Records.{lookup_at}
-use Rattle.wasi_records.specs.declared.name_lookup.Lookup.{Lookup}
-use Rattle.wasi_records.specs.declared.name_lookup.Lookup.TheVariants.{InProgress, Found, Failed}
+use Rattle.lookup_records.specs.declared.name_lookup.Lookup.{Lookup}
+use Rattle.lookup_records.specs.declared.name_lookup.Lookup.TheVariants.{InProgress, Found, Failed}
 use Rattle.wasi_records.specs.declared.records.Record.{Record}
 use Rattle.wasi_machine.specs.Machine.{reply_of, without_code}
 use Rattle.wasi_p2.specs.Lookup.{error_code_on, next_address_on}

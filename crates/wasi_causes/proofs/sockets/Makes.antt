@@ -25,10 +25,10 @@ use Rattle.host_tcp.specs.Creates.{code_told, same_told, with_room}
 use Rattle.wasi_causes.specs.Outcomes.{FullAfter, LeavesSocket, OnlyWhere, Outcome}
 use Rattle.wasi_causes.specs.Reached.{Finishes, FinishesAt, MayFinish}
 use Rattle.wasi_records.specs.Records.{tcp2_at, tcp2_put, tcp2_pushed}
-use Rattle.wasi_records.specs.declared.tcp_listening.Listening.TheVariants as listening
+use Rattle.tcp_records.specs.declared.tcp_listening.Listening.TheVariants as listening
 use Rattle.wasi_addr.specs.declared.p2.ErrorCode.TheVariants as word_p2
 use Rattle.wasi_causes.proofs.Words.{Code, record_in, socket_at, if◌then◌else◌}
-use Rattle.wasi_records.specs.Sockets.{poll_connect_asks}
+use Rattle.tcp_records.specs.Sockets.{poll_connect_asks}
 use Rattle.host_store.specs.Block.{Read, last, need, ◌>>=◌, ◌>>◌}
 use Rattle.host_store.specs.Lines.{in_store, done_by, finish_connect_of}
 use Rattle.wasi_p2.specs.Tcp.{accept_asks, finish_connect, make_streams}

@@ -8,7 +8,7 @@ use Rattle.std.specs.Prelude.{◌^◌, ◌||◌}
 use Rattle.wasi_addr.specs.declared.address.SocketAddressFamily.{SocketAddressFamily}
 use Rattle.wasi_world.specs.declared.ids.Ids.{Ids}
 use Rattle.wasi_records.specs.Records.{tcp2_at}
-use Rattle.wasi_records.specs.Stops.{Code, StopOf, Trap}
+use Rattle.record_common.specs.Stops.{Code, StopOf, Trap}
 use Rattle.host_store.specs.Block as block
 use Rattle.host_store.specs.Block.{Does, after_call, or_stop, or_trap}
 use Rattle.host_store.specs.Lines.{finish_connect_of, in_store, makes, same_stop, storing, tabling}

@@ -23,12 +23,12 @@ use Rattle.wasi_machine.specs.Machine.{stream_result_reply}
 use Rattle.wasi_p3.specs.Listening.{Polled, accept_by, hand_over, handed, looked}
 use Rattle.wasi_p3.specs.Listening as listening3
 use Rattle.wasi_p3.specs.Stops.{P3Stop}
-use Rattle.wasi_records.specs.declared.slot.StreamResult.TheVariants.{Completed}
-use Rattle.wasi_records.specs.declared.tcp_listening.Listening.TheVariants as listening
-use Rattle.wasi_records.specs.Listening.{accept_record_asks, look_accept_asks, look_listening}
+use Rattle.tcp_records.specs.declared.slot.StreamResult.TheVariants.{Completed}
+use Rattle.tcp_records.specs.declared.tcp_listening.Listening.TheVariants as listening
+use Rattle.tcp_records.specs.Listening.{accept_record_asks, look_accept_asks, look_listening}
 use Rattle.wasi_records.specs.Records.{tcp2_at, tcp2_put}
-use Rattle.wasi_records.specs.Sockets.{new_record}
-use Rattle.wasi_records.specs.Stops.{Code}
+use Rattle.tcp_records.specs.Sockets.{new_record}
+use Rattle.record_common.specs.Stops.{Code}
 use Rattle.wasi_steps.specs.declared.guest_call.GuestCall.TheVariants as guest
 use Rattle.wasi_steps.specs.declared.step.Step.TheVariants as step
 use Rattle.wasi_steps.specs.Reply.{handed_fields, number_fields}

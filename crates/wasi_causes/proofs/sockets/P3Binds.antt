@@ -39,13 +39,13 @@ use Rattle.wasi_p3.specs.Lines.{in_base, udp_in}
 use Rattle.wasi_p3.specs.Stops.{P3Stop}
 use Rattle.wasi_p3.specs.Tcp as p3
 use Rattle.wasi_p3.specs.Udp as udp3
-use Rattle.wasi_records.specs.Binding.{left_of}
-use Rattle.wasi_records.specs.declared.tcp_binding.InProgress.TheVariants as doing
-use Rattle.wasi_records.specs.declared.udp.OpenUdp.{OpenUdp}
-use Rattle.wasi_records.specs.declared.udp.UdpInProgress.TheVariants as udp_doing
+use Rattle.record_common.specs.Binding.{left_of}
+use Rattle.tcp_records.specs.declared.tcp_binding.InProgress.TheVariants as doing
+use Rattle.udp_records.specs.declared.udp.OpenUdp.{OpenUdp}
+use Rattle.udp_records.specs.declared.udp.UdpInProgress.TheVariants as udp_doing
 use Rattle.wasi_records.specs.Records.{open_at, tcp2_at}
-use Rattle.wasi_records.specs.Stops.{Code}
-use Rattle.wasi_records.specs.Udp.{udp_bind_begun, udp_bind_ended, with_udp_progress}
+use Rattle.record_common.specs.Stops.{Code}
+use Rattle.udp_records.specs.Udp.{udp_bind_begun, udp_bind_ended, with_udp_progress}
 use Rattle.wasi_steps.specs.declared.guest_call.GuestCall.TheVariants as guest
 use Rattle.wasi_steps.specs.declared.step.Step.TheVariants as step
 use Rattle.wasi_steps.specs.Reply.{no_values}

@@ -5,7 +5,7 @@ use Rattle.wasi_causes.proofs.Words.{InvalidArgument, InvalidState, IpSocketAddr
 use Rattle.wasi_causes.proofs.Words.{OpId, Operation, Refused, Socket, TcpRecord, TcpState, Told, Waits}
 use Rattle.wasi_causes.proofs.Words.{WasiSocketsCtx, bind, Done, End, entry, is_connectable, is_nothing, own_of, p3_word, putting}
 use Rattle.wasi_causes.proofs.Words.{connect_ended, connect_start, in_socket, with_inner, with_state, start_connect_in}
-use Rattle.wasi_records.specs.Sockets.{inner_answered}
+use Rattle.tcp_records.specs.Sockets.{inner_answered}
 use Rattle.wasi_addr.specs.Code.{p3_of_code}
 use Rattle.wasi_causes.proofs.Beside.{found_last}
 use Rattle.wasi_causes.proofs.operations.ConnectEnds.{ConnectEnd, connect_ends_so}
@@ -33,7 +33,7 @@ use Rattle.wasi_causes.proofs.Words.{if◌then◌else◌}
 use Rattle.wasi_p3.specs.Stops.{P3Stop}
 use Rattle.wasi_p3.specs.Tcp as p3
 use Rattle.wasi_records.specs.Records.{tcp2_at}
-use Rattle.wasi_records.specs.Stops.{Code}
+use Rattle.record_common.specs.Stops.{Code}
 use Rattle.wasi_steps.specs.declared.guest_call.GuestCall.TheVariants as guest
 use Rattle.wasi_steps.specs.declared.step.Step.TheVariants as step
 use Rattle.wasi_steps.specs.Reply.{no_values}

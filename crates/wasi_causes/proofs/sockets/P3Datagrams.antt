@@ -18,11 +18,11 @@ use Rattle.wasi_udp.specs.Receive.{receive_operation, receive_start}
 use Rattle.wasi_udp.specs.Send.{at_remote, is_sendable, send_first, send_operation, where_to}
 use Rattle.wasi_udp.specs.Shape.{Socket}
 use Rattle.wasi_udp.specs.Socket.{asker_of}
-use Rattle.wasi_records.specs.declared.udp.OpenUdp.{OpenUdp}
+use Rattle.udp_records.specs.declared.udp.OpenUdp.{OpenUdp}
 use Rattle.wasi_records.specs.Records.{open_at}
-use Rattle.wasi_records.specs.Stops.{Code}
-use Rattle.wasi_records.specs.Udp.{with_udp_inner}
-use Rattle.wasi_records.specs.Binding.{bind_answer, left_of}
+use Rattle.record_common.specs.Stops.{Code}
+use Rattle.udp_records.specs.Udp.{with_udp_inner}
+use Rattle.record_common.specs.Binding.{bind_answer, left_of}
 use Rattle.host_store.specs.BaseStops.{BaseStop, told_as}
 use Rattle.host_store.specs.Beside.{beside_as}
 use Rattle.host_store.specs.Block.{Call, after_call, goes_on, last}

@@ -30,9 +30,9 @@ use Rattle.wasi_p3.specs.Lines.{in_base}
 use Rattle.wasi_p3.specs.Streams as streams3
 use Rattle.wasi_p3.specs.Streams.{make_ends}
 use Rattle.wasi_p3.specs.Stops.{P3Stop}
-use Rattle.wasi_records.specs.Ends.{receive_taken, send_taken, take_receive_end, take_send_end}
+use Rattle.tcp_records.specs.Ends.{receive_taken, send_taken, take_receive_end, take_send_end}
 use Rattle.wasi_records.specs.Records.{tcp2_at, tcp2_put}
-use Rattle.wasi_records.specs.Slots.{StreamEnd, slot_for}
+use Rattle.tcp_records.specs.Slots.{StreamEnd, slot_for}
 use Rattle.wasi_steps.specs.declared.guest_call.GuestCall.TheVariants as guest
 use Rattle.wasi_steps.specs.declared.step.Step.{Step}
 use Rattle.wasi_steps.specs.declared.step.Step.TheVariants as step

@@ -13,9 +13,10 @@ use Rattle.wasi_machine.specs.Machine.{slot_reply}
 use Rattle.host_tcp.specs.ConnectionEnds.{drop_slot_in}
 use Rattle.host_store.specs.GivingBack.{given_back}
 use Rattle.wasi_p3.specs.Streams.{Taken, named_end, result_at, result_in, result_on, result_out, slot_in, take_result}
-use Rattle.wasi_records.specs.Slots.{StreamEnd, result_of, slot_at}
-use Rattle.wasi_records.specs.declared.slot.Slot.{Slot}
-use Rattle.wasi_records.specs.declared.slot.Slot.TheVariants.{Filled, Unfilled}
+use Rattle.tcp_records.specs.Slots.{StreamEnd, result_of}
+use Rattle.wasi_records.specs.Records.{slot_at}
+use Rattle.tcp_records.specs.declared.slot.Slot.{Slot}
+use Rattle.tcp_records.specs.declared.slot.Slot.TheVariants.{Filled, Unfilled}
 use Rattle.wasi_steps.specs.declared.guest_call.GuestCall.TheVariants as guest
 use Rattle.wasi_steps.specs.declared.reply.Reply.{Reply}
 use Rattle.wasi_steps.specs.declared.reply.Reply.TheVariants as reply

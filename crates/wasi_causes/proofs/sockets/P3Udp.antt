@@ -19,8 +19,8 @@ use Rattle.wasi_p3.specs.Stops.{P3Stop, p3_stop, p3_told}
 use Rattle.wasi_p3.specs.Udp as p3
 use Rattle.wasi_p3.specs.Udp.{disconnect_of, inner_told, staying}
 use Rattle.wasi_records.specs.Records.{open_at}
-use Rattle.wasi_records.specs.Udp.{udp_local_asks, with_udp_inner}
-use Rattle.wasi_records.specs.declared.udp.OpenUdp.{OpenUdp}
+use Rattle.udp_records.specs.Udp.{udp_local_asks, with_udp_inner}
+use Rattle.udp_records.specs.declared.udp.OpenUdp.{OpenUdp}
 use Rattle.wasi_steps.specs.Reply.{address_values, family_fields, no_values}
 use Rattle.wasi_steps.specs.Settings.{udp_chosen, udp_opt}
 use Rattle.wasi_steps.specs.declared.guest_call.GuestCall.TheVariants as guest

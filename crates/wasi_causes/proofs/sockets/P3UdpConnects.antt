@@ -25,10 +25,10 @@ use Rattle.wasi_machine.specs.Machine.{p3_answer_reply}
 use Rattle.wasi_p3.specs.Lines.{in_base, udp_in}
 use Rattle.wasi_p3.specs.Stops.{P3Stop}
 use Rattle.wasi_p3.specs.Udp as udp3
-use Rattle.wasi_records.specs.Datagrams.{has_streams, udp_alone_begun, udp_connect_asks, udp_reconnect_ended}
-use Rattle.wasi_records.specs.declared.udp.OpenUdp.{OpenUdp}
+use Rattle.udp_records.specs.Datagrams.{has_streams, udp_alone_begun, udp_connect_asks, udp_reconnect_ended}
+use Rattle.udp_records.specs.declared.udp.OpenUdp.{OpenUdp}
 use Rattle.wasi_records.specs.Records.{open_at}
-use Rattle.wasi_records.specs.Stops.{Code}
+use Rattle.record_common.specs.Stops.{Code}
 use Rattle.wasi_steps.specs.declared.guest_call.GuestCall.TheVariants as guest
 use Rattle.wasi_steps.specs.declared.step.Step.TheVariants as step
 use Rattle.wasi_steps.specs.Reply.{no_values}

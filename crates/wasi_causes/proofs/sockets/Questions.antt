@@ -12,7 +12,7 @@ use Rattle.host_store.specs.Store.{code_told}
 use Rattle.host_tcp.specs.Options.{get_option_at, set_option_at, set_backlog_at}
 use Rattle.host_store.specs.Lines.{tcp_in, told_of}
 use Rattle.host_store.specs.Store.{put_back as answer_put}
-use Rattle.wasi_records.specs.Sockets.{tell_local_asks, tell_remote_asks}
+use Rattle.tcp_records.specs.Sockets.{tell_local_asks, tell_remote_asks}
 use Rattle.wasi_p2.specs.Tcp.{local_address, remote_address, is_listening, address_family}
 use Rattle.wasi_p2.specs.Options.{get_option_on, set_option_on, set_backlog_on}
 use Rattle.wasi_causes.specs.Refusals.{NotBound, LocalTold}

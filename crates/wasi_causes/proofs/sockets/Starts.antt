@@ -25,8 +25,8 @@ use Rattle.wasi_causes.specs.Reached.{ListensLate, ListensLateAt}
 use Rattle.wasi_causes.specs.Polls.{ToldYes, ToldNo, BindToldCode, Polled, GoesOn, Stops, LocalToldYes, LocalToldNo, LocalToldCode, ListenToldCode}
 use Rattle.host_store.specs.declared.kind.Interface.TheVariants.{P2}
 use Rattle.host_store.specs.Store.{put_back as answer_put}
-use Rattle.wasi_records.specs.declared.tcp_listening.Listening.TheVariants as listening
-use Rattle.wasi_records.specs.declared.tcp_binding.InProgress.{InProgress as Doing}
+use Rattle.tcp_records.specs.declared.tcp_listening.Listening.TheVariants as listening
+use Rattle.tcp_records.specs.declared.tcp_binding.InProgress.{InProgress as Doing}
 use Rattle.wasi_walks.specs.Listens.{NotDefault as PastStart}
 use Rattle.wasi_steps.specs.declared.reply.CodeWord.TheVariants as word
 use Rattle.wasi_steps.specs.declared.reply.Reply.TheVariants as reply

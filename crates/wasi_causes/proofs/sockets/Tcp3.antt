@@ -21,7 +21,7 @@ use Rattle.wasi_p3.specs.Lines.{asked_of, in_store, inner_call, of_tcp, on_tcp, 
 use Rattle.wasi_p3.specs.Stops.{P3Stop, p3_stop, p3_told}
 use Rattle.wasi_p3.specs.Tcp as p3
 use Rattle.wasi_records.specs.Records.{tcp2_at}
-use Rattle.wasi_records.specs.Sockets.{tell_local_asks, tell_remote_asks}
+use Rattle.tcp_records.specs.Sockets.{tell_local_asks, tell_remote_asks}
 use Rattle.wasi_steps.specs.Reply.{address_values, family_fields, no_values}
 use Rattle.wasi_steps.specs.declared.guest_call.GuestCall.TheVariants as guest
 use Rattle.wasi_steps.specs.declared.step.Step.TheVariants as step

@@ -11,10 +11,10 @@ use Rattle.socket_common.specs.Options.{largest_value, value_told, option_answer
 use Rattle.host_store.specs.Machine.{udp_socket_at}
 use Rattle.host_store.specs.Store.{code_told}
 use Rattle.wasi_records.specs.Records.{open_at}
-use Rattle.wasi_records.specs.Udp.{is_udp_bound, with_udp_inner, udp_inner_answered}
+use Rattle.udp_records.specs.Udp.{is_udp_bound, with_udp_inner, udp_inner_answered}
 use Rattle.host_udp.specs.UdpCalls.{udp_put_back, finish_udp_bind_by, finish_udp_bind_at, udp_local_at, udp_remote_at, udp_family_at, get_udp_option_at, set_udp_option_at}
-use Rattle.wasi_records.specs.declared.udp.OpenUdp.{OpenUdp}
-use Rattle.wasi_records.specs.declared.udp.UdpInProgress.{UdpInProgress}
+use Rattle.udp_records.specs.declared.udp.OpenUdp.{OpenUdp}
+use Rattle.udp_records.specs.declared.udp.UdpInProgress.{UdpInProgress}
 use Rattle.wasi_p2.specs.Udp.{finish_udp_bind_on, udp_local_on, udp_remote_on, udp_family_on, get_udp_option_on, set_udp_option_on}
 use Rattle.wasi_steps.specs.declared.reply.Reply.{Reply}
 use Rattle.wasi_steps.specs.declared.reply.Reply.TheVariants as reply

@@ -8,15 +8,15 @@ use Rattle.wasi_causes.proofs.tables.Routes.{Replied, Says, code_word, not_of_co
 use Rattle.wasi_causes.specs.Outcomes.{UdpConflicts}
 use Rattle.wasi_causes.specs.Polls.{ToldYes, ToldNo, CheckToldPending, UdpBindToldDone, UdpBindToldCode, Polled, WasOver, GoesOn, Stays, Stops}
 use Rattle.wasi_causes.specs.Udp.{putting_udp, IsUdpUnbound, udp_local_entry, udp_check_entry, udp_bind_entry, KnowsUdpBound, UdpBindRefusal, UdpBusy, UdpStreamsLive, UdpAlreadyBound, UdpOtherFamily, UdpDenied, UdpBindTold, StartsUdpBind, BindsUdp}
-use Rattle.wasi_records.specs.Binding.{left_of}
+use Rattle.record_common.specs.Binding.{left_of}
 use Rattle.wasi_records.specs.Records.{open_at, open_put}
-use Rattle.wasi_records.specs.Udp.{is_udp_idle, with_udp_progress, udp_bind_ended, udp_bind_begun, begin_udp_bind_asks}
-use Rattle.wasi_records.specs.Datagrams.{has_streams}
+use Rattle.udp_records.specs.Udp.{is_udp_idle, with_udp_progress, udp_bind_ended, udp_bind_begun, begin_udp_bind_asks}
+use Rattle.udp_records.specs.Datagrams.{has_streams}
 use Rattle.host_store.specs.declared.kind.Interface.TheVariants.{P2}
 use Rattle.host_udp.specs.UdpCalls.{udp_call_answered, start_udp_bind_by, start_udp_bind_unless, start_udp_bind_at}
-use Rattle.wasi_records.specs.declared.udp.OpenUdp.{OpenUdp}
-use Rattle.wasi_records.specs.declared.udp.UdpInProgress.{UdpInProgress}
-use Rattle.wasi_records.specs.declared.udp.UdpInProgress.TheVariants as doing
+use Rattle.udp_records.specs.declared.udp.OpenUdp.{OpenUdp}
+use Rattle.udp_records.specs.declared.udp.UdpInProgress.{UdpInProgress}
+use Rattle.udp_records.specs.declared.udp.UdpInProgress.TheVariants as doing
 use Rattle.wasi_p2.specs.Options.{record_asks}
 use Rattle.wasi_p2.specs.Udp.{start_udp_bind_asks}
 use Rattle.wasi_steps.specs.declared.reply.CodeWord.TheVariants as word

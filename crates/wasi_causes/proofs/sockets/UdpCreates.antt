@@ -7,18 +7,18 @@ use Rattle.wasi_causes.specs.Outcomes.{FullAfter, LeavesUdpSocket, OnlyWhere}
 use Rattle.wasi_causes.specs.Polls.{WritableToldDone, WritableToldPending, WritableToldCode, Polled, WasOver, GoesOn, Stays, Stops}
 use Rattle.wasi_causes.specs.Udp.{udp_create_entry, writable_entry, with_udp_record, new_udp, CreateStandsFor, CreatesUdpFor, UdpCreateFails, UdpNotAllowed, UdpCreateTold, UdpWritableTold}
 use Rattle.wasi_records.specs.Records.{udp2_at, udp2_put, udp2_pushed}
-use Rattle.wasi_records.specs.Udp.{udp_side, udp_create_ended}
+use Rattle.udp_records.specs.Udp.{udp_side, udp_create_ended}
 use Rattle.host_udp.specs.UdpCreates.{with_create, create_answered, poll_create_at, mark_udp, create_so, create_on, create_begun, create_udp, create_udp_asks}
 use Rattle.host_store.specs.BaseStops.{BaseStop}
 use Rattle.host_store.specs.Kinds.{udp_kind}
 use Rattle.host_store.specs.declared.kind.Interface.{Interface}
 use Rattle.host_store.specs.declared.kind.Interface.TheVariants.{P2, P3}
 use Rattle.wasi_p3.specs.Udp as p3
-use Rattle.wasi_records.specs.Stops.{Code}
+use Rattle.record_common.specs.Stops.{Code}
 use Rattle.wasi_causes.specs.GivenUp.{giving_back}
 use Rattle.wasi_records.specs.declared.records.Record.{Record}
-use Rattle.wasi_records.specs.declared.udp.UdpRecord.{UdpRecord}
-use Rattle.wasi_records.specs.declared.udp.UdpRecord.TheVariants as udp
+use Rattle.udp_records.specs.declared.udp.UdpRecord.{UdpRecord}
+use Rattle.udp_records.specs.declared.udp.UdpRecord.TheVariants as udp
 use Rattle.wasi_machine.specs.Machine.{answer_reply_of, p3_answer_reply}
 use Rattle.wasi_steps.specs.declared.guest_call.GuestCall.TheVariants as guest
 use Rattle.wasi_steps.specs.declared.step.Step.TheVariants as step

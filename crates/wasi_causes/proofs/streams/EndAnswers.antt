@@ -8,8 +8,8 @@ use Rattle.wasi_causes.specs.P3Streams.{ReadGives, ReadIsPending, ReadMeets, Rea
 use Rattle.host_store.specs.Lines.{tcp_in}
 use Rattle.host_store.specs.Machine.{receive3_at, send3_at}
 use Rattle.host_store.specs.declared.kind.ConnectionEnd.{ConnectionEnd}
-use Rattle.wasi_records.specs.Ends.{half_of, receive_half, send_half}
-use Rattle.wasi_records.specs.Slots.{StreamEnd}
+use Rattle.tcp_records.specs.Ends.{half_of, receive_half, send_half}
+use Rattle.tcp_records.specs.Slots.{StreamEnd}
 use Rattle.wasi_steps.specs.declared.guest_call.GuestCall.TheVariants as guest
 use Rattle.wasi_steps.specs.declared.reply.Reply.TheVariants as reply
 use Rattle.wasi_steps.specs.declared.step.Step.TheVariants as step

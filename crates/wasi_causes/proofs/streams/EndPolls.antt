@@ -23,12 +23,12 @@ use Rattle.wasi_machine.specs.Machine.{stream_result_reply}
 use Rattle.wasi_p3.specs.Lines.{in_base}
 use Rattle.wasi_p3.specs.Stops.{P3Stop}
 use Rattle.wasi_p3.specs.Streams as streams3
-use Rattle.wasi_records.specs.Ends.{ends_of, half_of, look_to_read, look_to_write, read_by_half, receive_half, send_half, some_told, write_by_half}
+use Rattle.tcp_records.specs.Ends.{ends_of, half_of, look_to_read, look_to_write, read_by_half, receive_half, send_half, some_told, write_by_half}
 use Rattle.wasi_records.specs.Records.{tcp2_at}
-use Rattle.wasi_records.specs.Slots.{StreamEnd}
-use Rattle.wasi_records.specs.Stops.{StopOf}
-use Rattle.wasi_records.specs.declared.slot.StreamResult.{StreamResult}
-use Rattle.wasi_records.specs.declared.slot.StreamResult.TheVariants.{Completed, Dropped}
+use Rattle.tcp_records.specs.Slots.{StreamEnd}
+use Rattle.record_common.specs.Stops.{StopOf}
+use Rattle.tcp_records.specs.declared.slot.StreamResult.{StreamResult}
+use Rattle.tcp_records.specs.declared.slot.StreamResult.TheVariants.{Completed, Dropped}
 use Rattle.wasi_steps.specs.declared.guest_call.GuestCall.TheVariants as guest
 use Rattle.wasi_steps.specs.declared.step.Step.TheVariants as step
 use Rattle.wasi_tcp.specs.Halves.{read_asks}

@@ -15,7 +15,7 @@ use Rattle.wasi_steps.specs.declared.step.Step.TheVariants as step
 use Rattle.wasi_steps.specs.Reply.{no_values}
 use Rattle.wasi_walks.specs.Missing.{MissesEither, MissesInput, MissesInputPipe, MissesOutput}
 use Rattle.wasi_host.specs.declared.polling.Look.TheVariants.{Later}
-use Rattle.wasi_records.specs.Names.{first_ids}
+use Rattle.record_common.specs.Names.{first_ids}
 use Rattle.wasi_causes.proofs.pollables.Live.{block_live, list_live}
 use Rattle.wasi_causes.proofs.streams.Kept.{Keeps, Kept, checks_keep, flushes_keep, reads_keep, writes_keep}
 use Rattle.wasi_causes.proofs.streams.Missing.{missed_input, missed_output, output_is_there}

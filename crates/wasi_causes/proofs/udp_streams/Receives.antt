@@ -11,15 +11,15 @@ use Rattle.wasi_world.specs.declared.ids.Ids.{Ids}
 use Rattle.wasi_udp.specs.Receive.{receive_start}
 use Rattle.wasi_udp.specs.Shape.{Socket}
 use Rattle.host_udp.specs.DatagramCalls.{receive_datagrams_at, with_receive}
-use Rattle.wasi_records.specs.Stops.{code_stop}
+use Rattle.record_common.specs.Stops.{code_stop}
 use Rattle.host_store.specs.Machine.{incoming_at}
-use Rattle.wasi_records.specs.Names.{next_name}
-use Rattle.wasi_records.specs.Receiving.{all_received, fetch_asks, fetch_names, is_receiving, poll_receive_asks, receive_after, receive_all, receive_datagrams_asks, receive_left, receive_next_asks, receives, taken_from, with_receiving}
+use Rattle.record_common.specs.Names.{next_name}
+use Rattle.udp_records.specs.Receiving.{all_received, fetch_asks, fetch_names, is_receiving, poll_receive_asks, receive_after, receive_all, receive_datagrams_asks, receive_left, receive_next_asks, receives, taken_from, with_receiving}
 use Rattle.wasi_records.specs.Records.{open_at}
-use Rattle.wasi_records.specs.declared.datagrams.Incoming.{Incoming}
-use Rattle.wasi_records.specs.declared.datagrams.Receiving.{Receiving}
+use Rattle.udp_records.specs.declared.datagrams.Incoming.{Incoming}
+use Rattle.udp_records.specs.declared.datagrams.Receiving.{Receiving}
 use Rattle.wasi_jobs.specs.declared.job.HostJob.TheVariants.{Receive}
-use Rattle.wasi_records.specs.declared.udp.OpenUdp.{OpenUdp}
+use Rattle.udp_records.specs.declared.udp.OpenUdp.{OpenUdp}
 use Rattle.wasi_p2.specs.Udp.{receive_datagrams_on}
 use Rattle.wasi_machine.specs.Machine.{reply_of}
 use Rattle.wasi_steps.specs.Reply.{datagram_values}

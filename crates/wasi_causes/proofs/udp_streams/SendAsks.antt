@@ -16,16 +16,16 @@ use Rattle.wasi_world.specs.declared.ids.Ids.{Ids}
 use Rattle.wasi_udp.specs.Send.{at_remote, is_sendable, send_asks, send_first, send_left, send_start, send_to, where_to}
 use Rattle.wasi_udp.specs.Shape.{Socket}
 use Rattle.wasi_udp.specs.declared.send.Destination.{Destination}
-use Rattle.wasi_records.specs.Datagrams.{all_sent, count_told, is_sending, one_sent, poll_send_asks, send_after, send_all, send_datagrams_asks, send_ended, send_next_asks, send_one_asks, send_permitted, send_some}
+use Rattle.udp_records.specs.Datagrams.{all_sent, count_told, is_sending, one_sent, poll_send_asks, send_after, send_all, send_datagrams_asks, send_ended, send_next_asks, send_one_asks, send_permitted, send_some}
 use Rattle.host_udp.specs.DatagramCalls.{begins_send, datagrams_sent, send_datagrams_at}
-use Rattle.wasi_records.specs.Stops.{Code}
+use Rattle.record_common.specs.Stops.{Code}
 use Rattle.wasi_jobs.specs.declared.job.HostJob.TheVariants.{Datagram}
 use Rattle.wasi_causes.proofs.udp_streams.Routes.{job_there}
 use Rattle.wasi_causes.specs.Turns.{datagram_of, outgoing_asks_by, sends_by}
 use Rattle.host_store.specs.Machine.{outgoing_at}
-use Rattle.wasi_records.specs.Names.{names_after, next_name}
+use Rattle.record_common.specs.Names.{names_after, next_name}
 use Rattle.wasi_records.specs.Records.{open_at}
-use Rattle.wasi_records.specs.declared.udp.OpenUdp.{OpenUdp}
+use Rattle.udp_records.specs.declared.udp.OpenUdp.{OpenUdp}
 use Rattle.wasi_p2.specs.Udp.{send_datagrams_on}
 use Rattle.wasi_machine.specs.Machine.{reply_of}
 use Rattle.wasi_steps.specs.declared.reply.Reply.TheVariants as reply
@@ -34,8 +34,8 @@ use Rattle.wasi_steps.specs.declared.step.Step.TheVariants as step
 use Rattle.wasi_walks.proofs.Gives.{allows_ask}
 use Rattle.wasi_world.proofs.Allowed.{allows_at, reached}
 use Rattle.wasi_causes.specs.Datagrams.{OfOutgoing}
-use Rattle.wasi_records.specs.declared.datagrams.Outgoing.{Outgoing}
-use Rattle.wasi_records.specs.declared.datagrams.Sending.{Sending}
+use Rattle.udp_records.specs.declared.datagrams.Outgoing.{Outgoing}
+use Rattle.udp_records.specs.declared.datagrams.Sending.{Sending}
 use Rattle.wasi_walks.proofs.Lists.{has_front, has_last}
 use Rattle.wasi_walks.specs.Answered.{Answered, EndsPending}
 use Rattle.wasi_walks.specs.Licence.{IsItem}

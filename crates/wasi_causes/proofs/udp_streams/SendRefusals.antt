@@ -14,13 +14,13 @@ use Rattle.wasi_world.specs.Operation.{Send}
 use Rattle.wasi_udp.specs.Send.{send_first, send_left, send_operation, send_start, send_to}
 use Rattle.wasi_udp.specs.Shape.{Socket}
 use Rattle.wasi_udp.specs.declared.send.Destination.{Destination}
-use Rattle.wasi_records.specs.Datagrams.{all_sent, one_sent, poll_send_asks, send_after, send_all, send_datagrams_asks}
-use Rattle.wasi_records.specs.Datagrams.{send_next_asks, send_one_asks}
+use Rattle.udp_records.specs.Datagrams.{all_sent, one_sent, poll_send_asks, send_after, send_all, send_datagrams_asks}
+use Rattle.udp_records.specs.Datagrams.{send_next_asks, send_one_asks}
 use Rattle.wasi_records.specs.Records.{open_at}
-use Rattle.wasi_records.specs.Names.{names_after, next_name}
-use Rattle.wasi_records.specs.declared.datagrams.Outgoing.{Outgoing}
-use Rattle.wasi_records.specs.declared.datagrams.Sending.{Sending}
-use Rattle.wasi_records.specs.declared.udp.OpenUdp.{OpenUdp}
+use Rattle.record_common.specs.Names.{names_after, next_name}
+use Rattle.udp_records.specs.declared.datagrams.Outgoing.{Outgoing}
+use Rattle.udp_records.specs.declared.datagrams.Sending.{Sending}
+use Rattle.udp_records.specs.declared.udp.OpenUdp.{OpenUdp}
 use Rattle.host_udp.specs.DatagramCalls.{send_datagrams_at}
 use Rattle.host_store.specs.Machine.{outgoing_at}
 use Rattle.wasi_p2.specs.Udp.{send_datagrams_on}

@@ -8,15 +8,15 @@ use Rattle.wasi_world.specs.declared.ids.Ids.{Ids}
 use Rattle.wasi_udp.specs.Send.{IsSend, at_remote, send_asks, send_start}
 use Rattle.wasi_udp.specs.Shape.{Socket}
 use Rattle.host_udp.specs.DatagramCalls.{begins_send, check_send_at, check_send_by, datagrams_sent, send_datagrams_at}
-use Rattle.wasi_records.specs.Datagrams.{all_sent, count_told, one_sent, poll_send_asks, send_after, send_all, send_datagrams_asks, send_ended, send_next_asks, send_one_asks, send_some, is_sending, sends}
-use Rattle.wasi_records.specs.Stops.{code_stop}
+use Rattle.udp_records.specs.Datagrams.{all_sent, count_told, one_sent, poll_send_asks, send_after, send_all, send_datagrams_asks, send_ended, send_next_asks, send_one_asks, send_some, is_sending, sends}
+use Rattle.record_common.specs.Stops.{code_stop}
 use Rattle.host_store.specs.Machine.{outgoing_at}
-use Rattle.wasi_records.specs.Names.{names_after, next_name}
+use Rattle.record_common.specs.Names.{names_after, next_name}
 use Rattle.wasi_records.specs.Records.{open_at}
-use Rattle.wasi_records.specs.declared.datagrams.Outgoing.{Outgoing}
-use Rattle.wasi_records.specs.declared.datagrams.Sending.{Sending}
+use Rattle.udp_records.specs.declared.datagrams.Outgoing.{Outgoing}
+use Rattle.udp_records.specs.declared.datagrams.Sending.{Sending}
 use Rattle.wasi_jobs.specs.declared.job.HostJob.TheVariants.{Datagram}
-use Rattle.wasi_records.specs.declared.udp.OpenUdp.{OpenUdp}
+use Rattle.udp_records.specs.declared.udp.OpenUdp.{OpenUdp}
 use Rattle.wasi_p2.specs.Udp.{check_send_on, send_datagrams_on}
 use Rattle.wasi_steps.specs.declared.guest_call.GuestCall.TheVariants as guest
 use Rattle.wasi_steps.specs.declared.step.Step.TheVariants as step

@@ -7,15 +7,16 @@ use Rattle.wasi_world.specs.declared.outcome.TrapKind.TheVariants.{StreamsAlive}
 use Rattle.wasi_udp.specs.Connect.{is_connectable}
 use Rattle.wasi_udp.specs.Socket.{after_peer, disconnect_in, is_connected}
 use Rattle.host_udp.specs.DatagramCalls.{start_streams_at, start_streams_by, streams_so}
-use Rattle.wasi_records.specs.Datagrams.{begin_streams_asks, disconnect_streams, disconnected, has_streams, streams_to, streams_where, udp_connect_begun, udp_connect_ended, with_streams}
-use Rattle.wasi_records.specs.Udp.{with_udp_inner}
-use Rattle.wasi_records.specs.Records.{open_at, open_of, udp2_at}
-use Rattle.wasi_records.specs.declared.udp.UdpRecord.TheVariants as udp
+use Rattle.udp_records.specs.Datagrams.{begin_streams_asks, disconnect_streams, disconnected, has_streams, streams_to, streams_where, udp_connect_begun, udp_connect_ended, with_streams}
+use Rattle.udp_records.specs.Udp.{with_udp_inner}
+use Rattle.wasi_records.specs.Records.{open_at, udp2_at}
+use Rattle.udp_records.specs.Udp.{open_of}
+use Rattle.udp_records.specs.declared.udp.UdpRecord.TheVariants as udp
 use Rattle.wasi_walks.proofs.walks.Udp.{open_is}
 use Rattle.host_udp.specs.UdpCreates.{udp_side_at}
 use Rattle.host_udp.specs.UdpCalls.{udp_call_answered}
 use Rattle.host_store.specs.Store.{with_open_udp}
-use Rattle.wasi_records.specs.declared.udp.OpenUdp.{OpenUdp}
+use Rattle.udp_records.specs.declared.udp.OpenUdp.{OpenUdp}
 use Rattle.wasi_p2.specs.Udp.{udp_stream_asks, udp_stream_on}
 use Rattle.wasi_machine.specs.Machine.{answer_reply_of}
 use Rattle.wasi_steps.specs.Reply.{pair_values}

@@ -5,9 +5,9 @@ use Rattle.wasi_walks.proofs.Words.{Some, GuestCall, Step, TcpRecord, WasiSocket
 use Rattle.wasi_walks.proofs.Words.{kind_at, length, name_of, refl, step_at, subst, sym, ℕ, ◌∙◌, ◌≡◌}
 use Rattle.wasi_walks.specs.Licence.{IsTcpName}
 use Rattle.wasi_records.specs.Records.{tcp2_at, udp2_at}
-use Rattle.wasi_records.specs.Slots.{slot_pushed}
+use Rattle.wasi_records.specs.Records.{slot_pushed}
 use Rattle.wasi_records.specs.declared.records.Record.{Record}
-use Rattle.wasi_records.specs.declared.slot.Slot.{Slot}
+use Rattle.tcp_records.specs.declared.slot.Slot.{Slot}
 use Rattle.host_store.specs.declared.kind.ConnectionEnd.{ConnectionEnd}
 use Rattle.host_store.specs.declared.kind.Kind.TheVariants.{Receive3, Send3}
 use Rattle.wasi_world.specs.declared.call.HandleKind.TheVariants as name

@@ -16,8 +16,8 @@ use Rattle.host_store.specs.declared.beside.BesideCall.TheVariants.{Resolve}
 use Rattle.host_store.specs.Beside.{beside_as, beside_of}
 use Rattle.host_lookups.specs.Resolves.{begun_lookup}
 use Rattle.wasi_records.specs.Records.{lookup_at}
-use Rattle.wasi_records.specs.declared.name_lookup.Lookup.{Lookup}
-use Rattle.wasi_records.specs.declared.name_lookup.LookupOp.{LookupOp}
+use Rattle.lookup_records.specs.declared.name_lookup.Lookup.{Lookup}
+use Rattle.lookup_records.specs.declared.name_lookup.LookupOp.{LookupOp}
 use Rattle.wasi_records.specs.declared.records.Record.{Record}
 use Rattle.wasi_walks.proofs.licence.Unbound.{MayAskSo}
 

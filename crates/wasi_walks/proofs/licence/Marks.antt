@@ -23,13 +23,13 @@ use Rattle.wasi_walks.proofs.licence.Asked.{listens_on, joined_on}
 use Rattle.wasi_walks.proofs.licence.Binds.{MayQuietly}
 use Rattle.wasi_world.specs.declared.call.HandleKind.TheVariants as name
 use Rattle.wasi_records.specs.Records.{tcp2_at, udp2_at}
-use Rattle.wasi_records.specs.Udp.{udp_side}
+use Rattle.udp_records.specs.Udp.{udp_side}
 use Rattle.host_udp.specs.UdpCreates.{udp_side_at}
 use Rattle.host_store.specs.declared.kind.PlainInput.TheVariants as plain_input
 use Rattle.host_store.specs.declared.kind.PlainOutput.TheVariants as plain_output
 use Rattle.host_store.specs.Kinds.{watched_by}
 use Rattle.host_store.specs.declared.kind.Watched.{Watched}
-use Rattle.wasi_records.specs.declared.udp.UdpRecord.{UdpRecord}
+use Rattle.udp_records.specs.declared.udp.UdpRecord.{UdpRecord}
 use Rattle.wasi_records.specs.declared.records.Record.{Record}
 use Rattle.wasi_walks.proofs.Places.{push_finds, push_new, tcp_sort}
 use Rattle.wasi_walks.proofs.licence.Unbound.{MayAskSo}

@@ -5,8 +5,8 @@ use Rattle.wasi_walks.proofs.Words.{Handed, sym, is_wildcard, Created, IsBoundSi
 use Rattle.wasi_walks.proofs.Words.{SocketAddrUse, SocketAddressFamily, Some, GuestCall, Step, TcpRecord, TcpState, Told, [], accepted_socket, accepted_state, ap, arith, bind, entry, false, first_state}
 use Rattle.wasi_walks.proofs.Words.{inl, inr, new_record, number_fields, own_of, polls, port_of, refl, run, wildcard, ℕ, ⊤, ◌++◌, ◌∷◌, ◌≡◌}
 use Rattle.wasi_steps.specs.Reply.{bytes_fields, pair_fields}
-use Rattle.wasi_records.specs.Ends.{take_receive_end}
-use Rattle.wasi_records.specs.declared.slot.Slot.TheVariants.{Unfilled}
+use Rattle.tcp_records.specs.Ends.{take_receive_end}
+use Rattle.tcp_records.specs.declared.slot.Slot.TheVariants.{Unfilled}
 use Rattle.wasi_records.specs.declared.records.Record.TheVariants as rec
 use Rattle.host_store.specs.declared.kind.Kind.TheVariants as slot
 use Rattle.wasi_world.specs.declared.call.HandleKind.TheVariants as kind

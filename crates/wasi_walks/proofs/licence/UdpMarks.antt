@@ -16,7 +16,7 @@ use Rattle.wasi_walks.proofs.licence.Asked.{Spares, spares, asked_fine, listens_
 use Rattle.wasi_walks.proofs.licence.Marks.{socket_touch, unmarked_made}
 use Rattle.wasi_walks.proofs.licence.UdpMoves.{names_part, open_at_place}
 use Rattle.wasi_world.specs.declared.call.HandleKind.TheVariants as name
-use Rattle.wasi_records.specs.Udp.{udp_side, with_udp_inner}
+use Rattle.udp_records.specs.Udp.{udp_side, with_udp_inner}
 use Rattle.host_store.specs.declared.kind.Kind.TheVariants.{Udp2, Incoming, Outgoing}
 use Rattle.host_store.specs.declared.kind.Kind.{Kind}
 use Rattle.host_store.specs.Kinds.{kind_at, name_of, udp_kind, udp_of}
@@ -25,8 +25,8 @@ use Rattle.host_udp.specs.UdpCreates.{udp_side_at}
 use Rattle.wasi_records.specs.declared.records.Record.{Record}
 use Rattle.wasi_world.specs.declared.call.HandleKind.{HandleKind}
 use Rattle.std.specs.Prelude.{◌⊎◌}
-use Rattle.wasi_records.specs.declared.udp.OpenUdp.{OpenUdp}
-use Rattle.wasi_records.specs.declared.udp.UdpRecord.{UdpRecord}
+use Rattle.udp_records.specs.declared.udp.OpenUdp.{OpenUdp}
+use Rattle.udp_records.specs.declared.udp.UdpRecord.{UdpRecord}
 use Rattle.wasi_udp.specs.Create.{after_create, new_create}
 use Rattle.wasi_udp.specs.Shape.{Socket}
 use Rattle.wasi_udp.specs.Socket.{after_local, after_peer}

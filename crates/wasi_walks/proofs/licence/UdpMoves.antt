@@ -11,8 +11,8 @@ use Rattle.wasi_walks.proofs.walks.Here.{next_shrinks}
 use Rattle.wasi_walks.proofs.licence.Line.{names_record, names_udp, pair_first, pair_second, NamesMade, NamesTcpHere, NamesUdpHere, Licensed, put_udp_fine, owned, remade, spent, elsewhere}
 use Rattle.wasi_addr.specs.declared.code.ErrorCode.TheVariants.{DatagramTooLarge, InvalidArgument, InvalidState}
 use Rattle.wasi_udp.specs.declared.send.Destination.{Destination}
-use Rattle.wasi_records.specs.declared.datagrams.Incoming.{Incoming as IncomingStream}
-use Rattle.wasi_records.specs.declared.datagrams.Outgoing.{Outgoing as OutgoingStream}
+use Rattle.udp_records.specs.declared.datagrams.Incoming.{Incoming as IncomingStream}
+use Rattle.udp_records.specs.declared.datagrams.Outgoing.{Outgoing as OutgoingStream}
 use Rattle.std.specs.Prelude.{Bool, true, false, ◌&&◌, if◌then◌else◌, nat_lt, length, Result, Ok, Err, None, ⊤, ◌+◌}
 use Rattle.wasi_addr.specs.declared.address.SocketAddressFamily.{SocketAddressFamily}
 use Rattle.wasi_addr.specs.Address.{same_address}
@@ -27,11 +27,11 @@ use Rattle.wasi_udp.specs.Shape.{Socket}
 use Rattle.host_store.specs.Standing.{standing_as}
 use Rattle.host_store.specs.declared.store.StandingCall.{StandingCall}
 use Rattle.wasi_records.specs.Records.{tcp2_at, tcp2_of, udp2_at, udp2_of}
-use Rattle.wasi_records.specs.Udp.{udp_side, with_udp_progress}
+use Rattle.udp_records.specs.Udp.{udp_side, with_udp_progress}
 use Rattle.wasi_records.specs.declared.records.Record.{Record}
-use Rattle.wasi_records.specs.declared.udp.OpenUdp.{OpenUdp}
-use Rattle.wasi_records.specs.declared.udp.UdpRecord.{UdpRecord}
-use Rattle.wasi_records.specs.declared.udp.UdpInProgress.{UdpInProgress}
+use Rattle.udp_records.specs.declared.udp.OpenUdp.{OpenUdp}
+use Rattle.udp_records.specs.declared.udp.UdpRecord.{UdpRecord}
+use Rattle.udp_records.specs.declared.udp.UdpInProgress.{UdpInProgress}
 
 -- a record is of one kind
 one_kind : (o : Option Record) (r : TcpRecord) (u : UdpRecord) → tcp2_of o ≡ Some r → udp2_of o ≡ Some u → ⊥

@@ -8,7 +8,7 @@ use Rattle.wasi_walks.proofs.licence.Longer.{licensed}
 use Rattle.wasi_walks.proofs.licence.Rows.{allowed, context, local_80}
 use Rattle.wasi_walks.proofs.licence.Refused.{NotYes, of_each, at_line, local_81}
 use Rattle.wasi_world.specs.declared.call.HandleKind.TheVariants as kind
-use Rattle.wasi_records.specs.Udp.{opened_udp}
+use Rattle.udp_records.specs.Udp.{opened_udp}
 use Rattle.host_store.specs.declared.kind.Kind.TheVariants as slot
 use Rattle.wasi_records.specs.declared.records.Record.TheVariants as rec
 use Rattle.wasi_steps.specs.declared.reply.CodeWord.TheVariants as word

@@ -8,14 +8,14 @@ use Rattle.host_store.specs.declared.kind.Kind.TheVariants.{Send3, Receive3, Lis
 use Rattle.host_store.specs.declared.kind.PlainInput.TheVariants as plain_input
 use Rattle.host_store.specs.declared.kind.PlainOutput.TheVariants as plain_output
 use Rattle.wasi_records.specs.declared.records.Record.{Record}
-use Rattle.wasi_records.specs.declared.udp.UdpRecord.{UdpRecord}
+use Rattle.udp_records.specs.declared.udp.UdpRecord.{UdpRecord}
 use Rattle.wasi_walks.proofs.Slots.{SlotOf, slot_of}
 use Rattle.wasi_walks.proofs.Words.{Done, Refused, Waits}
 use Rattle.wasi_walks.proofs.walks.Moves as walk
 use Rattle.wasi_walks.proofs.walks.Moves.{ToResult, TakesHalf, Interface, P2, P3, tcp_kind, ToListen, ListenerGoes, Emptied, Faulted, Freed, Found, FoundUdp, Held, Here, IsLeft, IsMadeUnder, IsNumbered, IsOpenUdp, Joined, Made, MakesPlain, Marked, Marks, Move, Numbered, Past, GoesOn, Plain, SameSockets, ToSend, accepting_now, faulted, joined, joined_plain, joins_as, made_so, one_stream, put, put_udp, udp_begun, with_records, without_record}
 use Rattle.std.specs.Prelude.{Bool, IsSome, is_some}
-use Rattle.wasi_records.specs.Holding.{has_listener}
-use Rattle.wasi_records.specs.Records.{open_of}
+use Rattle.tcp_records.specs.Holding.{has_listener}
+use Rattle.udp_records.specs.Udp.{open_of}
 use Rattle.wasi_walks.proofs.owners.Names.{KeepsHeld, Names, held_udp, listens_in, unless_gone}
 use Rattle.wasi_walks.proofs.owners.Owned.{Above, IsOf, NoneOf, OneOwner, one_way, owner_of, stream_place, IsNew, MadeSo, Owned, numbered_still, other_still, NoListenerOf, CallSo, one_role, no_stream_listens, listener_of}
 use Rattle.wasi_walks.proofs.owners.Records.{Owns, put_dropped, put_owns}

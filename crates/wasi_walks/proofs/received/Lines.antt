@@ -4,18 +4,18 @@ use Rattle.wasi_walks.proofs.Words.{GuestCall, Step, Stop, Trap, WasiSocketsCtx,
 use Rattle.wasi_walks.proofs.Words.{first_ids, inl, inr, kind_at, machine_asks, refl, subst, sym, ℕ, ◌∙◌, ◌≡◌, ◌≤◌, ◌⊎◌}
 use Rattle.wasi_world.specs.declared.datagram.IncomingDatagram.{IncomingDatagram}
 use Rattle.host_udp.specs.DatagramCalls.{begins_receive, receive_datagrams_at, with_receive}
-use Rattle.wasi_records.specs.Stops.{Code}
+use Rattle.record_common.specs.Stops.{Code}
 use Rattle.host_store.specs.Machine.{incoming_at}
 use Rattle.host_store.specs.Jobs.{with_job}
 use Rattle.host_store.specs.Store.{with_open_udp}
 use Rattle.wasi_jobs.specs.declared.job.HostJob.TheVariants.{Receive}
-use Rattle.wasi_records.specs.Receiving.{receive_datagrams_asks}
+use Rattle.udp_records.specs.Receiving.{receive_datagrams_asks}
 use Rattle.wasi_records.specs.Records.{open_at, udp2_at, udp2_put}
 use Rattle.host_store.specs.Store.{Records}
-use Rattle.wasi_records.specs.Udp.{udp_side}
+use Rattle.udp_records.specs.Udp.{udp_side}
 use Rattle.wasi_records.specs.declared.records.Record.{Record}
-use Rattle.wasi_records.specs.declared.udp.OpenUdp.{OpenUdp}
-use Rattle.wasi_records.specs.declared.udp.UdpRecord.{UdpRecord}
+use Rattle.udp_records.specs.declared.udp.OpenUdp.{OpenUdp}
+use Rattle.udp_records.specs.declared.udp.UdpRecord.{UdpRecord}
 use Rattle.wasi_p2.specs.Udp.{receive_datagrams_on}
 use Rattle.wasi_machine.specs.Machine.{reply_of}
 use Rattle.wasi_steps.specs.Reply.{datagram_values}

@@ -3,12 +3,12 @@ use Rattle.wasi_walks.proofs.Words.{BeganBy, Reply, own_of, step_at, subst, sym,
 use Rattle.wasi_walks.proofs.Words.{WasiSocketsCtx, allows_then, asks_while, first_ids, kind_at, machine_asks, refl, ℕ, ◌≡◌}
 use Rattle.wasi_world.specs.declared.datagram.IncomingDatagram.{IncomingDatagram}
 use Rattle.host_udp.specs.DatagramCalls.{receive_datagrams_at}
-use Rattle.wasi_records.specs.Stops.{Code}
+use Rattle.record_common.specs.Stops.{Code}
 use Rattle.host_store.specs.Machine.{incoming_at}
-use Rattle.wasi_records.specs.Receiving.{receive_datagrams_asks}
+use Rattle.udp_records.specs.Receiving.{receive_datagrams_asks}
 use Rattle.wasi_records.specs.Records.{open_at, udp2_at}
-use Rattle.wasi_records.specs.declared.udp.OpenUdp.{OpenUdp}
-use Rattle.wasi_records.specs.declared.udp.UdpRecord.{UdpRecord}
+use Rattle.udp_records.specs.declared.udp.OpenUdp.{OpenUdp}
+use Rattle.udp_records.specs.declared.udp.UdpRecord.{UdpRecord}
 use Rattle.wasi_p2.specs.Udp.{receive_datagrams_on}
 use Rattle.wasi_machine.specs.Machine.{reply_of}
 use Rattle.wasi_steps.specs.Reply.{datagram_values}

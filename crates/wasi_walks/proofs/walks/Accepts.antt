@@ -10,7 +10,7 @@ use Rattle.wasi_walks.proofs.Words.{refl}
 use Rattle.wasi_walks.proofs.Words.{subst, sym}
 use Rattle.wasi_walks.proofs.Words.{with_accept, with_listening}
 use Rattle.wasi_walks.proofs.Words.{ℕ, ◌∙◌, ◌≡◌}
-use Rattle.wasi_records.specs.Sockets.{new_record}
+use Rattle.tcp_records.specs.Sockets.{new_record}
 use Rattle.std.specs.Prelude.{length}
 use Rattle.wasi_walks.proofs.walks.Moves.{Made, Names, part_of, Here, put, Unmade, record_of, new_accept, accepting_now, faulted, joined, joined_plain, joining, joins_as, BeginsAccept, Forgets, Joins, JoinsFault, JoinsPlain, P3, Joined, Faulted}
 use Rattle.wasi_walks.proofs.walks.Law.{Law, HasRecord, owning, put_put, Walks, give, and_then, move, from, found, on, await}

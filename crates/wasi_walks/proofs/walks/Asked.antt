@@ -21,16 +21,16 @@ use Rattle.host_store.specs.Beside.{beside_as, beside_of}
 use Rattle.host_lookups.specs.Resolves.{begun_lookup}
 use Rattle.host_store.specs.Kinds.{kind_at, send3_of, tcp3_of, udp_kind, udp_of}
 use Rattle.host_store.specs.declared.kind.Kind.TheVariants.{Listen3, Result3, Tcp3}
-use Rattle.wasi_records.specs.Holding.{has_listener}
+use Rattle.tcp_records.specs.Holding.{has_listener}
 use Rattle.wasi_walks.specs.Licence.{IsDisconnect}
 use Rattle.host_udp.specs.UdpCreates.{udp_side_at}
 use Rattle.wasi_records.specs.Records.{tcp2_at, udp2_at, lookup_at}
-use Rattle.wasi_records.specs.Udp.{udp_side, with_udp_inner}
-use Rattle.wasi_records.specs.declared.name_lookup.Lookup.TheVariants as lookup
-use Rattle.wasi_records.specs.declared.name_lookup.LookupOp.{LookupOp}
+use Rattle.udp_records.specs.Udp.{udp_side, with_udp_inner}
+use Rattle.lookup_records.specs.declared.name_lookup.Lookup.TheVariants as lookup
+use Rattle.lookup_records.specs.declared.name_lookup.LookupOp.{LookupOp}
 use Rattle.wasi_records.specs.declared.records.Record.{Record}
-use Rattle.wasi_records.specs.declared.udp.OpenUdp.{OpenUdp}
-use Rattle.wasi_records.specs.declared.udp.UdpRecord.{UdpRecord}
+use Rattle.udp_records.specs.declared.udp.OpenUdp.{OpenUdp}
+use Rattle.udp_records.specs.declared.udp.UdpRecord.{UdpRecord}
 use Rattle.wasi_udp.specs.Create.{Create, create_cancel_asks, after_create as udp_after_create}
 use Rattle.wasi_udp.specs.Socket.{after_local as udp_after_local, after_peer}
 

@@ -8,16 +8,16 @@ use Rattle.wasi_machine.specs.Machine.{first_ids}
 use Rattle.wasi_world.specs.declared.ids.Ids.{Ids}
 use Rattle.wasi_world.specs.declared.ids.OpId.{OpId}
 use Rattle.host_udp.specs.DatagramCalls.{start_streams_by, start_streams_at, reconnect_udp_at, second_made, outgoing_made, mark_streams_of, streams_so, remake_streams_asks}
-use Rattle.wasi_records.specs.Datagrams.{has_streams, with_streams, udp_connect_ended, udp_connect_left, poll_udp_connecting, udp_connect_begun, disconnected, disconnect_streams, streams_to, streams_where, begin_streams_asks}
+use Rattle.udp_records.specs.Datagrams.{has_streams, with_streams, udp_connect_ended, udp_connect_left, poll_udp_connecting, udp_connect_begun, disconnected, disconnect_streams, streams_to, streams_where, begin_streams_asks}
 use Rattle.host_store.specs.Kinds.{udp_of}
 use Rattle.wasi_records.specs.Records.{open_at, udp2_at}
-use Rattle.wasi_records.specs.declared.datagrams.Incoming.{Incoming}
-use Rattle.wasi_records.specs.declared.datagrams.Receiving.{Receiving}
+use Rattle.udp_records.specs.declared.datagrams.Incoming.{Incoming}
+use Rattle.udp_records.specs.declared.datagrams.Receiving.{Receiving}
 use Rattle.host_store.specs.declared.kind.Kind.TheVariants as kinds
-use Rattle.wasi_records.specs.declared.udp.OpenUdp.{OpenUdp}
-use Rattle.wasi_records.specs.declared.udp.UdpRecord.{UdpRecord}
+use Rattle.udp_records.specs.declared.udp.OpenUdp.{OpenUdp}
+use Rattle.udp_records.specs.declared.udp.UdpRecord.{UdpRecord}
 use Rattle.host_store.specs.Machine.{udp_socket_at}
-use Rattle.wasi_records.specs.Udp.{with_udp_inner}
+use Rattle.udp_records.specs.Udp.{with_udp_inner}
 use Rattle.host_udp.specs.UdpCalls.{udp_call_answered}
 use Rattle.host_udp.specs.UdpCreates.{udp_side_at}
 use Rattle.wasi_p2.specs.Udp.{udp_stream_on}

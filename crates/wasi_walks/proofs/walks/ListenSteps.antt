@@ -9,7 +9,7 @@ use Rattle.wasi_world.specs.declared.ids.Ids.{Ids}
 use Rattle.host_tcp.specs.TcpCalls.{relisten_at}
 use Rattle.host_store.specs.Standing.{call_answered}
 use Rattle.wasi_p2.specs.Tcp.{start_listen_on}
-use Rattle.wasi_records.specs.Listening.{begin_listen_asks}
+use Rattle.tcp_records.specs.Listening.{begin_listen_asks}
 use Rattle.wasi_walks.proofs.walks.Here.{after_names, part_after}
 use Rattle.std.specs.Prelude.{not}
 use Rattle.wasi_tcp.specs.Listener.{has_accept}

@@ -23,15 +23,15 @@ use Rattle.std.specs.Prelude.{◌+◌}
 use Rattle.wasi_world.specs.declared.datagram.IncomingDatagram.{IncomingDatagram}
 use Rattle.wasi_world.specs.declared.datagram.OutgoingDatagram.{OutgoingDatagram}
 use Rattle.wasi_world.specs.Operation.{Given, Waits, Done, Refused}
-use Rattle.wasi_records.specs.Binding.{left_of}
-use Rattle.wasi_records.specs.Holding.{is_held}
-use Rattle.wasi_records.specs.Sockets.{new_record}
-use Rattle.wasi_records.specs.Datagrams.{has_streams, sends, udp_connect_left, udp_reconnect_left, with_sending}
-use Rattle.wasi_records.specs.Receiving.{receive_left, with_receiving}
-use Rattle.wasi_records.specs.declared.datagrams.Incoming.{Incoming as IncomingStream}
-use Rattle.wasi_records.specs.declared.datagrams.Outgoing.{Outgoing as OutgoingStream}
-use Rattle.wasi_records.specs.declared.datagrams.Receiving.{Receiving}
-use Rattle.wasi_records.specs.declared.datagrams.Sending.{Sending}
+use Rattle.record_common.specs.Binding.{left_of}
+use Rattle.tcp_records.specs.Holding.{is_held}
+use Rattle.tcp_records.specs.Sockets.{new_record}
+use Rattle.udp_records.specs.Datagrams.{has_streams, sends, udp_connect_left, udp_reconnect_left, with_sending}
+use Rattle.udp_records.specs.Receiving.{receive_left, with_receiving}
+use Rattle.udp_records.specs.declared.datagrams.Incoming.{Incoming as IncomingStream}
+use Rattle.udp_records.specs.declared.datagrams.Outgoing.{Outgoing as OutgoingStream}
+use Rattle.udp_records.specs.declared.datagrams.Receiving.{Receiving}
+use Rattle.udp_records.specs.declared.datagrams.Sending.{Sending}
 use Rattle.host_store.specs.declared.store.BlockingCall.{BlockingCall}
 use Rattle.host_store.specs.declared.kind.Kind.TheVariants.{Tcp3, Udp3}
 use Rattle.host_streams.specs.Blocking.{blocking_handles}
@@ -43,18 +43,18 @@ use Rattle.host_store.specs.Kinds.{has_no_child, udp_of}
 use Rattle.wasi_udp.specs.Connect.{connect_start}
 use Rattle.wasi_udp.specs.Receive.{receive_start, wanting}
 use Rattle.wasi_udp.specs.Send.{at_remote, send_start}
-use Rattle.wasi_records.specs.declared.udp.OpenUdp.{OpenUdp}
-use Rattle.wasi_records.specs.declared.udp.UdpRecord.{UdpRecord}
-use Rattle.wasi_records.specs.declared.udp.UdpInProgress.{UdpInProgress}
-use Rattle.wasi_records.specs.Udp.{udp_bind_progress, udp_create_left, with_udp_progress, without_udp_socket}
+use Rattle.udp_records.specs.declared.udp.OpenUdp.{OpenUdp}
+use Rattle.udp_records.specs.declared.udp.UdpRecord.{UdpRecord}
+use Rattle.udp_records.specs.declared.udp.UdpInProgress.{UdpInProgress}
+use Rattle.udp_records.specs.Udp.{udp_bind_progress, udp_create_left, with_udp_progress, without_udp_socket}
 use Rattle.host_udp.specs.UdpCreates.{with_create}
 use Rattle.wasi_udp.specs.Bind.{bind_operation as udp_bind_operation}
 use Rattle.wasi_udp.specs.Create.{Create}
 use Rattle.wasi_udp.specs.Socket.{asker_of}
 use Rattle.wasi_udp.specs.declared.bind.UdpBindStage.{UdpBindStage}
-use Rattle.wasi_records.specs.Ends.{ends_of}
-use Rattle.wasi_records.specs.Slots.{slot_pushed}
-use Rattle.wasi_records.specs.declared.slot.Slot.{Slot}
+use Rattle.tcp_records.specs.Ends.{ends_of}
+use Rattle.wasi_records.specs.Records.{slot_pushed}
+use Rattle.tcp_records.specs.declared.slot.Slot.{Slot}
 use Rattle.host_store.specs.declared.kind.ConnectionEnd.{ConnectionEnd}
 use Rattle.wasi_records.specs.declared.records.Record.{Record}
 use Rattle.wasi_jobs.specs.declared.job.HostJob.{HostJob}

@@ -20,11 +20,11 @@ use Rattle.host_store.specs.declared.beside.Beside.{Beside}
 use Rattle.host_lookups.specs.Resolves.{begun_lookup}
 use Rattle.host_store.specs.Kinds.{udp_kind, kind_at, tcp3_of, udp_of}
 use Rattle.host_store.specs.declared.kind.Kind.TheVariants.{Listen3, Result3, Tcp3}
-use Rattle.wasi_records.specs.Holding.{has_listener}
-use Rattle.wasi_records.specs.Udp.{with_udp_inner}
+use Rattle.tcp_records.specs.Holding.{has_listener}
+use Rattle.udp_records.specs.Udp.{with_udp_inner}
 use Rattle.wasi_records.specs.declared.records.Record.{Record}
-use Rattle.wasi_records.specs.declared.udp.OpenUdp.{OpenUdp}
-use Rattle.wasi_records.specs.declared.udp.UdpRecord.{UdpRecord}
+use Rattle.udp_records.specs.declared.udp.OpenUdp.{OpenUdp}
+use Rattle.udp_records.specs.declared.udp.UdpRecord.{UdpRecord}
 use Rattle.wasi_udp.specs.Create.{Create, after_create as udp_after_create}
 use Rattle.wasi_udp.specs.Receive.{IsLeftOfReceive, receive_start, wanting}
 use Rattle.wasi_udp.specs.Send.{IsLeftOfSend, at_remote, send_start}

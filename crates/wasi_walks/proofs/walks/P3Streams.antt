@@ -21,16 +21,17 @@ use Rattle.wasi_tcp.specs.Addresses.{still_connected}
 use Rattle.wasi_tcp.specs.Connecting.{in_socket}
 use Rattle.wasi_tcp.specs.Halves.{polled_answer, taken_receive, taken_send, take_receive, take_send}
 use Rattle.wasi_records.specs.declared.records.Record.{Record}
-use Rattle.wasi_records.specs.declared.slot.Slot.{Slot}
-use Rattle.wasi_records.specs.declared.slot.StreamResult.TheVariants.{Dropped}
-use Rattle.wasi_records.specs.declared.socket.Streams.{Streams}
-use Rattle.wasi_records.specs.declared.socket.TcpRecord.{TcpRecord}
-use Rattle.wasi_records.specs.Ends.{ends_of, half_of, look_to_read, look_to_write, read_by_half, receive_half, receive_in, receive_taken, send_half, send_in, send_taken, take_receive_end, take_send_end, write_by_half}
-use Rattle.wasi_records.specs.Names.{own_of}
+use Rattle.tcp_records.specs.declared.slot.Slot.{Slot}
+use Rattle.tcp_records.specs.declared.slot.StreamResult.TheVariants.{Dropped}
+use Rattle.tcp_records.specs.declared.socket.Streams.{Streams}
+use Rattle.tcp_records.specs.declared.socket.TcpRecord.{TcpRecord}
+use Rattle.tcp_records.specs.Ends.{ends_of, half_of, look_to_read, look_to_write, read_by_half, receive_half, receive_in, receive_taken, send_half, send_in, send_taken, take_receive_end, take_send_end, write_by_half}
+use Rattle.record_common.specs.Names.{own_of}
 use Rattle.wasi_records.specs.Records.{tcp2_at, tcp2_put}
-use Rattle.wasi_records.specs.Slots.{StreamEnd, result_of, slot_at, slot_for}
-use Rattle.wasi_records.specs.Sockets.{with_inner}
-use Rattle.wasi_records.specs.Stops.{StopOf, Trap}
+use Rattle.tcp_records.specs.Slots.{StreamEnd, result_of, slot_for}
+use Rattle.wasi_records.specs.Records.{slot_at}
+use Rattle.tcp_records.specs.Sockets.{with_inner}
+use Rattle.record_common.specs.Stops.{StopOf, Trap}
 use Rattle.host_store.specs.declared.kind.ConnectionEnd.{ConnectionEnd}
 use Rattle.host_store.specs.declared.kind.Kind.{Kind}
 use Rattle.host_store.specs.declared.kind.Kind.TheVariants.{Receive3, Result3, Send3, Tcp3}

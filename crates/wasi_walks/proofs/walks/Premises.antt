@@ -15,8 +15,8 @@ use Rattle.wasi_world.specs.declared.ids.Ids.{Ids}
 use Rattle.wasi_walks.proofs.walks.Here.{Interface, P2, P3, CallKind, OfPollables, OfStreams, Found, Here, Used, Made, Marked, Past, ToListen, IsNumbered, Numbered, ToResult, end_in, MakesEnd, IsEndAt}
 use Rattle.std.specs.Prelude.{slice_get}
 use Rattle.wasi_records.specs.Records.{tcp2_at, udp2_at, lookup_at, input_pipe_at, output_pipe_at}
-use Rattle.wasi_records.specs.declared.name_lookup.Lookup.TheVariants as lookup
-use Rattle.wasi_records.specs.declared.name_lookup.LookupOp.{LookupOp}
+use Rattle.lookup_records.specs.declared.name_lookup.Lookup.TheVariants as lookup
+use Rattle.lookup_records.specs.declared.name_lookup.LookupOp.{LookupOp}
 use Rattle.std.specs.Prelude.{IsSome, is_some, slice_get}
 use Rattle.wasi_names.specs.declared.name.HostName.TheVariants.{Domain}
 use Rattle.wasi_names.specs.Names.{name_is}
@@ -27,7 +27,7 @@ use Rattle.host_store.specs.declared.kind.PlainInput.TheVariants as plain_input
 use Rattle.host_store.specs.declared.kind.PlainOutput.TheVariants as plain_output
 use Rattle.host_store.specs.Kinds.{watched_by}
 use Rattle.host_udp.specs.UdpCreates.{udp_side_at}
-use Rattle.wasi_records.specs.Slots.{slot_at}
+use Rattle.wasi_records.specs.Records.{slot_at}
 use Rattle.host_store.specs.declared.kind.ConnectionEnd.{ConnectionEnd}
 use Rattle.wasi_records.specs.declared.records.Record.{Record}
 use Rattle.wasi_walks.specs.Licence.{IsGetOf, IsSetTo}

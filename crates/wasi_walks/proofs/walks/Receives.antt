@@ -10,16 +10,16 @@ use Rattle.host_udp.specs.DatagramCalls.{begins_receive, drop_incoming_at, recei
 use Rattle.host_store.specs.Jobs.{turn_receive_at}
 use Rattle.wasi_host.specs.HandleDrops.{answered, at_once}
 use Rattle.host_store.specs.Machine.{incoming_at}
-use Rattle.wasi_records.specs.Receiving.{all_received, fetch_asks, fetch_names, poll_receive_asks, receive_after, receive_all, receive_datagrams_asks, receive_next_asks, taken, turn_incoming, turn_receiving, with_incoming, with_receiving}
+use Rattle.udp_records.specs.Receiving.{all_received, fetch_asks, fetch_names, poll_receive_asks, receive_after, receive_all, receive_datagrams_asks, receive_next_asks, taken, turn_incoming, turn_receiving, with_incoming, with_receiving}
 use Rattle.wasi_records.specs.Records.{open_at, udp2_at}
 use Rattle.host_store.specs.Store.{with_open_udp}
-use Rattle.wasi_records.specs.declared.datagrams.Incoming.{Incoming}
-use Rattle.wasi_records.specs.declared.datagrams.Receiving.{Receiving}
+use Rattle.udp_records.specs.declared.datagrams.Incoming.{Incoming}
+use Rattle.udp_records.specs.declared.datagrams.Receiving.{Receiving}
 use Rattle.wasi_jobs.specs.declared.job.HostJob.TheVariants.{Receive}
 use Rattle.host_store.specs.declared.kind.Kind.TheVariants as kinds
 use Rattle.wasi_records.specs.declared.records.Record.{Record}
-use Rattle.wasi_records.specs.declared.udp.OpenUdp.{OpenUdp}
-use Rattle.wasi_records.specs.declared.udp.UdpRecord.{UdpRecord}
+use Rattle.udp_records.specs.declared.udp.OpenUdp.{OpenUdp}
+use Rattle.udp_records.specs.declared.udp.UdpRecord.{UdpRecord}
 use Rattle.wasi_p2.specs.Udp.{receive_datagrams_on}
 use Rattle.wasi_udp.specs.Receive.{receive_asks, receive_start}
 use Rattle.wasi_udp.specs.Shape.{Socket}

@@ -10,18 +10,18 @@ use Rattle.wasi_world.specs.declared.datagram.OutgoingDatagram.{OutgoingDatagram
 use Rattle.wasi_world.specs.declared.ids.Ids.{Ids}
 use Rattle.wasi_world.specs.declared.ids.OpId.{OpId}
 use Rattle.host_udp.specs.DatagramCalls.{begins_send, check_send_at, check_send_by, drop_outgoing_at, drop_outgoing_by, send_datagrams_at}
-use Rattle.wasi_records.specs.Datagrams.{permitted, sends, with_sending, send_left, turned_left, poll_send_asks, send_one_asks, one_sent, send_next_asks, send_after, send_all, all_sent, send_permitted, send_some, send_datagrams_asks, turn_sending, turn_outgoing}
+use Rattle.udp_records.specs.Datagrams.{permitted, sends, with_sending, send_left, turned_left, poll_send_asks, send_one_asks, one_sent, send_next_asks, send_after, send_all, all_sent, send_permitted, send_some, send_datagrams_asks, turn_sending, turn_outgoing}
 use Rattle.host_store.specs.Jobs.{with_job, turn_datagram_at}
 use Rattle.host_store.specs.Machine.{outgoing_at}
 use Rattle.wasi_records.specs.Records.{open_at, udp2_at}
 use Rattle.host_store.specs.Store.{with_open_udp}
-use Rattle.wasi_records.specs.declared.datagrams.Outgoing.{Outgoing}
-use Rattle.wasi_records.specs.declared.datagrams.Sending.{Sending}
+use Rattle.udp_records.specs.declared.datagrams.Outgoing.{Outgoing}
+use Rattle.udp_records.specs.declared.datagrams.Sending.{Sending}
 use Rattle.wasi_jobs.specs.declared.job.HostJob.{HostJob}
 use Rattle.wasi_jobs.specs.declared.job.HostJob.TheVariants.{Datagram}
 use Rattle.wasi_records.specs.declared.records.Record.{Record}
-use Rattle.wasi_records.specs.declared.udp.OpenUdp.{OpenUdp}
-use Rattle.wasi_records.specs.declared.udp.UdpRecord.{UdpRecord}
+use Rattle.udp_records.specs.declared.udp.OpenUdp.{OpenUdp}
+use Rattle.udp_records.specs.declared.udp.UdpRecord.{UdpRecord}
 use Rattle.wasi_p2.specs.Udp.{check_send_on, send_datagrams_on}
 use Rattle.wasi_udp.specs.Send.{send_asks, send_start}
 use Rattle.wasi_udp.specs.Shape.{Socket}

@@ -25,8 +25,8 @@ use Rattle.wasi_walks.proofs.walks.Sockets.{BindsSo, WaitsSo, waits_so, begun_bi
 use Rattle.wasi_walks.proofs.walks.Streams.{shut_walks}
 use Rattle.wasi_walks.proofs.walks.Lines.{look, call, call_given}
 use Rattle.wasi_addr.specs.declared.p2.ErrorCode.TheVariants.{NotInProgress}
-use Rattle.wasi_records.specs.Stops.{Code, StopOf, code_stop}
-use Rattle.wasi_records.specs.Sockets.{poll_connect_asks}
+use Rattle.record_common.specs.Stops.{Code, StopOf, code_stop}
+use Rattle.tcp_records.specs.Sockets.{poll_connect_asks}
 use Rattle.host_store.specs.Block.{Call, Does, Read, last, need, goes_on, or_trap, ◌>>=◌, ◌>>◌}
 use Rattle.host_store.specs.Lines.{tcp_at, in_store, same_stop, storing, on_tcp, done_by, finish_connect_of}
 use Rattle.wasi_p2.specs.Tcp.{local_address, remote_address, finish_connect, make_streams}

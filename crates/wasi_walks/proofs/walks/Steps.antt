@@ -40,7 +40,7 @@ use Rattle.wasi_walks.proofs.walks.Sends.{check_send_walks, drop_outgoing_walks,
 use Rattle.wasi_walks.proofs.walks.Udp.{on_udp, udp_local_at_walks, udp_get_at_walks, udp_set_at_walks, start_udp_bind_walks, finish_udp_bind_walks, Polling, polled_walks, create_udp_walks}
 use Rattle.wasi_walks.proofs.walks.P3Udp.{p3_disconnect_walks, p3_udp_get_walks, p3_udp_local_walks, p3_udp_set_walks}
 use Rattle.host_store.specs.BaseStops.{BaseStop}
-use Rattle.wasi_records.specs.declared.udp.UdpRecord.{UdpRecord}
+use Rattle.udp_records.specs.declared.udp.UdpRecord.{UdpRecord}
 use Rattle.wasi_walks.proofs.Words.{Asks, append-nil, first_ids, handles_of, inr, ◌∙◌, ◌∷◌, []}
 use Rattle.wasi_streams.specs.Streams.{zeros}
 use Rattle.host_store.specs.declared.kind.Kind.TheVariants.{PlainInput, PlainOutput}

@@ -4,10 +4,10 @@ use Rattle.wasi_world.specs.declared.outcome.WasiSocketsCtx.{WasiSocketsCtx}
 use Rattle.host_store.specs.declared.kind.Kind.TheVariants as kind
 use Rattle.host_store.specs.declared.machine.Machine.{Machine}
 use Rattle.host_store.specs.Kinds.{kind_at}
-use Rattle.wasi_records.specs.declared.socket.TcpRecord.{TcpRecord}
-use Rattle.wasi_records.specs.declared.tcp_listening.Listening.TheVariants as listening
-use Rattle.wasi_records.specs.Holding.{is_held}
-use Rattle.wasi_records.specs.Listening.{with_listening}
+use Rattle.tcp_records.specs.declared.socket.TcpRecord.{TcpRecord}
+use Rattle.tcp_records.specs.declared.tcp_listening.Listening.TheVariants as listening
+use Rattle.tcp_records.specs.Holding.{is_held}
+use Rattle.tcp_records.specs.Listening.{with_listening}
 use Rattle.wasi_records.specs.Records.{tcp2_at}
 use Rattle.wasi_walks.specs.Answered.{Answered}
 use Rattle.wasi_causes.specs.GivenUp.{ListenerGoesBy}
