@@ -23,6 +23,7 @@ use Rattle.wasi_machine.specs.Machine.{first_ids}
 use Rattle.wasi_steps.specs.declared.reply.Field.{Field}
 use Rattle.wasi_steps.specs.declared.step.Step.{Step}
 use Rattle.wasi_steps.specs.declared.guest_call.GuestCall.TheVariants as guest
+use Rattle.wasi_steps.specs.declared.guest_call.UdpCall.TheVariants as udp_call
 use Rattle.wasi_steps.specs.declared.step.Step.TheVariants as step
 use Rattle.wasi_steps.specs.Reply.{number_fields, pair_fields}
 use Rattle.wasi_table.specs.Table.{is_full}
@@ -30,11 +31,11 @@ use Rattle.wasi_walks.specs.Answered.{open_in, outgoing_in}
 
 -- == the steps
 abbrev pub IsUdpSend : Step → Type 0
-IsUdpSend (step.Call ctx (guest.UdpSend outgoing datagrams)) = ⊤
+IsUdpSend (step.Call ctx (guest.Udp (udp_call.Send outgoing datagrams))) = ⊤
 IsUdpSend _ = ⊥
 
 abbrev pub IsUdpStream : Step → Type 0
-IsUdpStream (step.Call ctx (guest.UdpStream socket remote)) = ⊤
+IsUdpStream (step.Call ctx (guest.Udp (udp_call.Stream socket remote))) = ⊤
 IsUdpStream _ = ⊥
 
 -- == the streams that handles name

@@ -43,6 +43,7 @@ use Rattle.wasi_steps.specs.declared.reply.Reply.{Reply}
 use Rattle.wasi_steps.specs.declared.reply.Reply.TheVariants as reply
 use Rattle.wasi_steps.specs.declared.step.Step.{Step}
 use Rattle.wasi_steps.specs.declared.guest_call.GuestCall.TheVariants as guest
+use Rattle.wasi_steps.specs.declared.guest_call.PollableCall.TheVariants as pollable_call
 use Rattle.wasi_steps.specs.declared.step.Step.TheVariants as step
 use Rattle.wasi_walks.specs.Answered.{shut_entry}
 use Rattle.wasi_walks.specs.Licence.{Has, entry}
@@ -60,7 +61,7 @@ send_given_up own None = []
 
 -- == a drop
 abbrev pub IsDrop : Step → Type 0
-IsDrop (step.Call ctx (guest.Drop handle)) = ⊤
+IsDrop (step.Call ctx (guest.Pollable (pollable_call.Drop handle))) = ⊤
 IsDrop _ = ⊥
 
 -- The handle is live, and something that was made under it is live too.

@@ -23,6 +23,8 @@ ghost use Rattle.wasi_steps.specs.declared.reply.CodeWord.{CodeWord};
 ghost use Rattle.wasi_steps.specs.declared.reply.Field.{Field};
 ghost use Rattle.wasi_steps.specs.declared.reply.Reply.{Reply};
 ghost use Rattle.wasi_steps.specs.declared.guest_call.GuestCall.{GuestCall};
+ghost use Rattle.wasi_steps.specs.declared.guest_call.NameCall.{NameCall};
+ghost use Rattle.wasi_steps.specs.declared.guest_call.PollableCall.{PollableCall};
 ghost use Rattle.wasi_steps.specs.declared.step.Step.{Step};
 ghost use Rattle.wasi_walks.specs.Answered.{Answered, OfRecord, record_at, streams_in};
 ghost use Rattle.wasi_walks.specs.Missing.{ExclusiveOnNothing, IsWrite, MakesHandle, MissesHandle};
@@ -135,7 +137,7 @@ pub fn traps_have_causes()
     ensures has_children { (contexts : List WasiSocketsCtx) (m : Machine) (line ctx handle : ℕ)
         (entries : List Entry) (reply : Reply) (after : Machine)
         → m.store.standing ≡ None
-        → Answered contexts m line (Step.Call ctx (GuestCall.Drop handle)) entries reply after
+        → Answered contexts m line (Step.Call ctx (GuestCall.Pollable (PollableCall.Drop handle))) entries reply after
         → (reply ≡ Reply.Trap TrapKind.HasChildren) ↔ HasLiveChildren m handle }
     ensures has_children_stays { (contexts : List WasiSocketsCtx) (m : Machine) (line : ℕ)
         (s : Step) (entries : List Entry) (after : Machine)
@@ -226,17 +228,17 @@ pub fn runs_keep_their_records()
 pub fn errors_have_no_network_code()
     ensures none { (contexts : List WasiSocketsCtx) (m : Machine) (line ctx error : ℕ)
         (fields : List Field) (entries : List Entry) (after : Machine)
-        → Answered contexts m line (Step.Call ctx (GuestCall.NetworkErrorCode error)) entries
+        → Answered contexts m line (Step.Call ctx (GuestCall.Names (NameCall.NetworkErrorCode error))) entries
         (Reply.Ok fields) after
         → fields ≡ Field.Absent ∷ [] }
     ensures never { (contexts : List WasiSocketsCtx) (m : Machine) (line ctx error : ℕ)
         (entries : List Entry) (word : CodeWord) (after : Machine)
-        → Answered contexts m line (Step.Call ctx (GuestCall.NetworkErrorCode error)) entries
+        → Answered contexts m line (Step.Call ctx (GuestCall.Names (NameCall.NetworkErrorCode error))) entries
         (Reply.Err word) after
         → ⊥ }
     ensures quiet { (contexts : List WasiSocketsCtx) (m : Machine) (line ctx error : ℕ)
         (entries : List Entry) (reply : Reply) (after : Machine)
-        → Answered contexts m line (Step.Call ctx (GuestCall.NetworkErrorCode error)) entries reply
+        → Answered contexts m line (Step.Call ctx (GuestCall.Names (NameCall.NetworkErrorCode error))) entries reply
         after
         → (entries ≡ []) × (after ≡ m) }
 {}
@@ -261,57 +263,57 @@ pub fn drops_give_up_what_is_open()
         (entries : List Entry) (reply : Reply) (after : Machine)
         → m.store.standing ≡ None → kind_at m.table handle ≡ Some (Kind.Tcp2 place)
         → children_of m.table.live handle ≡ []
-        → Answered contexts m line (Step.Call ctx (GuestCall.Drop handle)) entries reply after
+        → Answered contexts m line (Step.Call ctx (GuestCall.Pollable (PollableCall.Drop handle))) entries reply after
         → reply ≡ Reply.Ok no_fields }
     ensures given_up { (contexts : List WasiSocketsCtx) (m : Machine) (line ctx handle : ℕ)
         (r : TcpRecord) (fields : List Field) (entries : List Entry) (after : Machine)
         → record_at m handle ≡ Some r
-        → Answered contexts m line (Step.Call ctx (GuestCall.Drop handle)) entries (Reply.Ok fields)
+        → Answered contexts m line (Step.Call ctx (GuestCall.Pollable (PollableCall.Drop handle))) entries (Reply.Ok fields)
         after
         → entries ≡ socket_given_up (own_of line) r }
     ensures gone { (contexts : List WasiSocketsCtx) (m : Machine) (line ctx handle : ℕ)
         (r : TcpRecord) (fields : List Field) (entries : List Entry) (after : Machine)
         → record_at m handle ≡ Some r
-        → Answered contexts m line (Step.Call ctx (GuestCall.Drop handle)) entries (Reply.Ok fields)
+        → Answered contexts m line (Step.Call ctx (GuestCall.Pollable (PollableCall.Drop handle))) entries (Reply.Ok fields)
         after
         → OfRecord m handle (λ place r. IsGone m handle place after) }
     ensures plain { (contexts : List WasiSocketsCtx) (m : Machine) (line ctx handle : ℕ)
         (kind : Kind) (entries : List Entry) (reply : Reply) (after : Machine)
         → kind_at m.table handle ≡ Some kind → GoesAtOnce kind
-        → Answered contexts m line (Step.Call ctx (GuestCall.Drop handle)) entries reply after →
+        → Answered contexts m line (Step.Call ctx (GuestCall.Pollable (PollableCall.Drop handle))) entries reply after →
         entries ≡ [] }
     ensures plain_leaves { (contexts : List WasiSocketsCtx) (m : Machine) (line ctx handle : ℕ)
         (kind : Kind) (entries : List Entry) (reply : Reply) (after : Machine)
         → kind_at m.table handle ≡ Some kind → GoesAtOnce kind → IsDropped reply
-        → Answered contexts m line (Step.Call ctx (GuestCall.Drop handle)) entries reply after
+        → Answered contexts m line (Step.Call ctx (GuestCall.Pollable (PollableCall.Drop handle))) entries reply after
         → after ≡ without m handle }
     ensures input_pipe { (contexts : List WasiSocketsCtx) (m : Machine) (line ctx handle place : ℕ)
         (bytes : List ℕ) (fields : List Field) (entries : List Entry) (after : Machine)
         → kind_at m.table handle ≡ Some (Kind.PlainInput (PlainInput.Pipe place))
         → input_pipe_at m.store.records place ≡ Some bytes
-        → Answered contexts m line (Step.Call ctx (GuestCall.Drop handle)) entries (Reply.Ok fields)
+        → Answered contexts m line (Step.Call ctx (GuestCall.Pollable (PollableCall.Drop handle))) entries (Reply.Ok fields)
         after
         → (entries ≡ []) × (after ≡ giving_back (without m handle) place) }
     ensures output_pipe { (contexts : List WasiSocketsCtx) (m : Machine) (line ctx handle place : ℕ)
         (pipe : Contents) (fields : List Field) (entries : List Entry) (after : Machine)
         → kind_at m.table handle ≡ Some (Kind.PlainOutput (PlainOutput.Pipe place))
         → output_pipe_at m.store.records place ≡ Some pipe
-        → Answered contexts m line (Step.Call ctx (GuestCall.Drop handle)) entries (Reply.Ok fields)
+        → Answered contexts m line (Step.Call ctx (GuestCall.Pollable (PollableCall.Drop handle))) entries (Reply.Ok fields)
         after
         → (entries ≡ []) × (after ≡ giving_back (without m handle) place) }
     ensures output { (contexts : List WasiSocketsCtx) (m : Machine) (line ctx handle place : ℕ)
         (entries : List Entry) (reply : Reply) (after : Machine)
         → kind_at m.table handle ≡ Some (Kind.Output place)
-        → Answered contexts m line (Step.Call ctx (GuestCall.Drop handle)) entries reply after
+        → Answered contexts m line (Step.Call ctx (GuestCall.Pollable (PollableCall.Drop handle))) entries reply after
         → LooksOnce (own_of line) entries }
     ensures table { (contexts : List WasiSocketsCtx) (m : Machine) (line ctx handle : ℕ)
         (entries : List Entry) (reply : Reply) (after : Machine)
-        → IsDropped reply → Answered contexts m line (Step.Call ctx (GuestCall.Drop handle)) entries
+        → IsDropped reply → Answered contexts m line (Step.Call ctx (GuestCall.Pollable (PollableCall.Drop handle))) entries
         reply after
         → after.table ≡ without_handle m.table handle }
     ensures not_live { (contexts : List WasiSocketsCtx) (m : Machine) (line ctx handle : ℕ)
         (entries : List Entry) (reply : Reply) (after : Machine)
-        → IsDropped reply → Answered contexts m line (Step.Call ctx (GuestCall.Drop handle)) entries
+        → IsDropped reply → Answered contexts m line (Step.Call ctx (GuestCall.Pollable (PollableCall.Drop handle))) entries
         reply after
         → kind_at after.table handle ≡ None }
 {}

@@ -9,6 +9,7 @@ use Rattle.host_store.specs.Machine.{first_state}
 use Rattle.wasi_steps.specs.declared.reply.Reply.{Reply}
 use Rattle.wasi_steps.specs.declared.reply.Reply.TheVariants as reply
 use Rattle.wasi_steps.specs.declared.guest_call.GuestCall.TheVariants as guest
+use Rattle.wasi_steps.specs.declared.guest_call.StreamCall.TheVariants as stream_call
 use Rattle.wasi_steps.specs.declared.step.Step.{Step}
 use Rattle.wasi_steps.specs.declared.step.Step.TheVariants as step
 use Rattle.wasi_steps.specs.Reply.{is_trap}
@@ -87,7 +88,7 @@ module _ {c : ℕ} where
   same_writer l t (Some place) = same_maker (found_like l place)
 
   same_left_out : {m now : Machine} → LikeMachine c m now → (s : Step) → checks_writer_of c m s ≡ checks_writer_of c now s
-  same_left_out (Machines t store other all l) (step.Call n (guest.CheckWrite output)) = same_writer l t (output_of (kind_at t output))
+  same_left_out (Machines t store other all l) (step.Call n (guest.Stream (stream_call.CheckWrite output))) = same_writer l t (output_of (kind_at t output))
   same_left_out l _ = refl
 
   -- == the lines after one another

@@ -45,6 +45,8 @@ use Rattle.tcp_records.specs.declared.socket.TcpRecord.{TcpRecord}
 use Rattle.udp_records.specs.declared.udp.OpenUdp.{OpenUdp}
 use Rattle.wasi_steps.specs.declared.step.Step.{Step}
 use Rattle.wasi_steps.specs.declared.guest_call.GuestCall.TheVariants as guest
+use Rattle.wasi_steps.specs.declared.guest_call.TcpCall.TheVariants as tcp_call
+use Rattle.wasi_steps.specs.declared.guest_call.UdpCall.TheVariants as udp_call
 use Rattle.wasi_steps.specs.declared.step.Step.TheVariants as step
 use Rattle.host_store.specs.declared.kind.Kind.TheVariants as kind
 use Rattle.wasi_steps.specs.Reply.{word_of_p2, word_of_p3}
@@ -310,9 +312,9 @@ pub data RemoteRefusal (m : Machine) (own : OpId) (place : ℕ) (r : TcpRecord) 
 
 -- the step asks a socket for what it says without asking the network
 abbrev pub IsQuiet : Step → Type 0
-IsQuiet (step.Call ctx (guest.TcpIsListening socket)) = ⊤
-IsQuiet (step.Call ctx (guest.TcpAddressFamily socket)) = ⊤
-IsQuiet (step.Call ctx (guest.UdpAddressFamily socket)) = ⊤
+IsQuiet (step.Call ctx (guest.Tcp (tcp_call.IsListening socket))) = ⊤
+IsQuiet (step.Call ctx (guest.Tcp (tcp_call.AddressFamily socket))) = ⊤
+IsQuiet (step.Call ctx (guest.Udp (udp_call.AddressFamily socket))) = ⊤
 IsQuiet _ = ⊥
 
 -- == reads

@@ -62,6 +62,13 @@ use Rattle.wasi_steps.specs.declared.reply.Reply.{Reply}
 use Rattle.wasi_steps.specs.declared.reply.Reply.TheVariants as reply
 use Rattle.wasi_steps.specs.declared.step.Step.{Step}
 use Rattle.wasi_steps.specs.declared.guest_call.GuestCall.TheVariants as guest
+use Rattle.wasi_steps.specs.declared.guest_call.TcpCall.TheVariants as tcp_call
+use Rattle.wasi_steps.specs.declared.guest_call.UdpCall.TheVariants as udp_call
+use Rattle.wasi_steps.specs.declared.guest_call.StreamCall.TheVariants as stream_call
+use Rattle.wasi_steps.specs.declared.guest_call.PollableCall.TheVariants as pollable_call
+use Rattle.wasi_steps.specs.declared.guest_call.P3TcpCall.TheVariants as p3_tcp_call
+use Rattle.wasi_steps.specs.declared.guest_call.P3UdpCall.TheVariants as p3_udp_call
+use Rattle.wasi_steps.specs.declared.guest_call.P3NameCall.TheVariants as p3_name_call
 use Rattle.wasi_steps.specs.declared.step.Step.TheVariants as step
 use Rattle.wasi_walks.specs.Answered.{AllOf, ConnectsOn, OfStreams, EndsPending, EndsClosing, IsUnfinished, p3_word, word_of_code}
 use Rattle.wasi_walks.specs.Listens.{AcceptWaits, accept_name, AcceptsIn, HasNoListener}
@@ -137,29 +144,29 @@ IsPoll _ = ⊥
 -- of a UDP socket, that of its streams, the drop of an output or of an outgoing datagram stream, and a call that blocks, of a stream or for
 -- pollables, under their line's, and a poll under the one that it polls
 abbrev pub MayStand : Machine → ℕ → Step → ℕ → Type 0
-MayStand m line (step.Call ctx (guest.TcpStartBind socket network a)) n = n ≡ line
-MayStand m line (step.Call ctx (guest.TcpStartListen socket)) n = n ≡ line
-MayStand m line (step.Call ctx (guest.UdpCreate family)) n = n ≡ line
-MayStand m line (step.Call ctx (guest.P3TcpBind socket a)) n = n ≡ line
-MayStand m line (step.Call ctx (guest.P3TcpConnect socket a)) n = n ≡ line
-MayStand m line (step.Call ctx (guest.P3TcpListen socket)) n = n ≡ line
-MayStand m line (step.Call ctx (guest.P3UdpCreate family)) n = n ≡ line
-MayStand m line (step.Call ctx (guest.P3UdpBind socket a)) n = n ≡ line
-MayStand m line (step.Call ctx (guest.P3UdpConnect socket a)) n = n ≡ line
-MayStand m line (step.Call ctx (guest.P3UdpSend socket d)) n = n ≡ line
-MayStand m line (step.Call ctx (guest.P3UdpReceive socket)) n = n ≡ line
-MayStand m line (step.Call ctx (guest.P3Resolve name)) n = n ≡ line
-MayStand m line (step.Call ctx (guest.UdpStartBind socket network a)) n = n ≡ line
-MayStand m line (step.Call ctx (guest.UdpStream socket remote)) n = n ≡ line
-MayStand m line (step.Call ctx (guest.Drop handle)) n = (IsSome (output_at m handle) ⊎ IsSome (outgoing_at m handle)) × (n ≡ line)
-MayStand m line (step.Call ctx (guest.BlockingRead input len)) n = n ≡ line
-MayStand m line (step.Call ctx (guest.BlockingSkip input len)) n = n ≡ line
-MayStand m line (step.Call ctx (guest.BlockingWrite output bytes)) n = n ≡ line
-MayStand m line (step.Call ctx (guest.BlockingZeroes output len)) n = n ≡ line
-MayStand m line (step.Call ctx (guest.BlockingFlush output)) n = n ≡ line
-MayStand m line (step.Call ctx (guest.BlockingSplice to from len)) n = n ≡ line
-MayStand m line (step.Call ctx (guest.Block pollable)) n = n ≡ line
-MayStand m line (step.Call ctx (guest.PollList pollables)) n = n ≡ line
+MayStand m line (step.Call ctx (guest.Tcp (tcp_call.StartBind socket network a))) n = n ≡ line
+MayStand m line (step.Call ctx (guest.Tcp (tcp_call.StartListen socket))) n = n ≡ line
+MayStand m line (step.Call ctx (guest.Udp (udp_call.Create family))) n = n ≡ line
+MayStand m line (step.Call ctx (guest.P3Tcp (p3_tcp_call.Bind socket a))) n = n ≡ line
+MayStand m line (step.Call ctx (guest.P3Tcp (p3_tcp_call.Connect socket a))) n = n ≡ line
+MayStand m line (step.Call ctx (guest.P3Tcp (p3_tcp_call.Listen socket))) n = n ≡ line
+MayStand m line (step.Call ctx (guest.P3Udp (p3_udp_call.Create family))) n = n ≡ line
+MayStand m line (step.Call ctx (guest.P3Udp (p3_udp_call.Bind socket a))) n = n ≡ line
+MayStand m line (step.Call ctx (guest.P3Udp (p3_udp_call.Connect socket a))) n = n ≡ line
+MayStand m line (step.Call ctx (guest.P3Udp (p3_udp_call.Send socket d))) n = n ≡ line
+MayStand m line (step.Call ctx (guest.P3Udp (p3_udp_call.Receive socket))) n = n ≡ line
+MayStand m line (step.Call ctx (guest.P3Names (p3_name_call.Resolve name))) n = n ≡ line
+MayStand m line (step.Call ctx (guest.Udp (udp_call.StartBind socket network a))) n = n ≡ line
+MayStand m line (step.Call ctx (guest.Udp (udp_call.Stream socket remote))) n = n ≡ line
+MayStand m line (step.Call ctx (guest.Pollable (pollable_call.Drop handle))) n = (IsSome (output_at m handle) ⊎ IsSome (outgoing_at m handle)) × (n ≡ line)
+MayStand m line (step.Call ctx (guest.Stream (stream_call.BlockingRead input len))) n = n ≡ line
+MayStand m line (step.Call ctx (guest.Stream (stream_call.BlockingSkip input len))) n = n ≡ line
+MayStand m line (step.Call ctx (guest.Stream (stream_call.BlockingWrite output bytes))) n = n ≡ line
+MayStand m line (step.Call ctx (guest.Stream (stream_call.BlockingZeroes output len))) n = n ≡ line
+MayStand m line (step.Call ctx (guest.Stream (stream_call.BlockingFlush output))) n = n ≡ line
+MayStand m line (step.Call ctx (guest.Stream (stream_call.BlockingSplice to from len))) n = n ≡ line
+MayStand m line (step.Call ctx (guest.Pollable (pollable_call.Block pollable))) n = n ≡ line
+MayStand m line (step.Call ctx (guest.Pollable (pollable_call.PollList pollables))) n = n ≡ line
 MayStand m line (step.Poll call) n = n ≡ call
 MayStand m line _ n = ⊥
 

@@ -19,6 +19,7 @@ use Rattle.wasi_steps.specs.declared.reply.Field.{Field}
 use Rattle.wasi_steps.specs.declared.reply.Reply.{Reply}
 use Rattle.wasi_steps.specs.declared.reply.Reply.TheVariants as reply
 use Rattle.wasi_steps.specs.declared.guest_call.GuestCall.TheVariants as guest
+use Rattle.wasi_steps.specs.declared.guest_call.NameCall.TheVariants as name_call
 use Rattle.wasi_steps.specs.declared.step.Step.TheVariants as step
 use Rattle.wasi_walks.specs.Answered.{lookup_in}
 use Rattle.wasi_causes.proofs.tables.Meets.{Meets, Rows, ends}
@@ -58,7 +59,7 @@ put_lookup_back P m place l at h =
 
 module _ (contexts : List WasiSocketsCtx) (m : Machine) (line c handle : ℕ) where
   abbrev NextRow : Rows (Result (Option IpAddress) Stop × Machine)
-  NextRow = Replied contexts m line (step.Call c (guest.ResolveNext handle)) (reply_of found_values)
+  NextRow = Replied contexts m line (step.Call c (guest.Names (name_call.ResolveNext handle))) (reply_of found_values)
 
   missing : found_lookup m handle ≡ None → NextRow [] (Err (Trap NoSuchHandle), m)
   missing none = (subst (λ (o : Option Lookup). TellsNext o [] (reply.Trap NoSuchHandle)) (sym none) tells_none, (none, (refl, refl)))
@@ -82,7 +83,7 @@ module _ (contexts : List WasiSocketsCtx) (m : Machine) (line c handle : ℕ) wh
   by_number None names = missing (ap (lookup_in m) names)
   by_number (Some place) names = by_place place names (lookup_at m.store.records place) refl
 
-  pub resolve_next : Meets (Says contexts m line (step.Call c (guest.ResolveNext handle))) [] (let done = next_address_on m (lookup_number m handle) in Give (reply_of found_values done.0, done.1))
+  pub resolve_next : Meets (Says contexts m line (step.Call c (guest.Names (name_call.ResolveNext handle)))) [] (let done = next_address_on m (lookup_number m handle) in Give (reply_of found_values done.0, done.1))
   resolve_next = ends (by_number (lookup_number m handle) refl)
 
   -- == one less is left
@@ -102,11 +103,11 @@ module _ (contexts : List WasiSocketsCtx) (m : Machine) (line c handle : ℕ) wh
 -- == an error's code
 module _ (contexts : List WasiSocketsCtx) (m : Machine) (line c handle : ℕ) where
   abbrev CodeSays : Reply → Type 0
-  CodeSays r = Says contexts m line (step.Call c (guest.NetworkErrorCode handle)) [] (r, m)
+  CodeSays r = Says contexts m line (step.Call c (guest.Names (name_call.NetworkErrorCode handle))) [] (r, m)
 
   by_error : (b : Bool) → is_error (kind_at m.table handle) ≡ b → CodeSays (reply_of absent_values (without_code (if b then Ok None else Err (Trap NoSuchHandle))))
   by_error true is = ((refl, refl), ((tt, tt), refl))
   by_error false other = ((refl, refl), (other, (refl, refl)))
 
-  pub network_error_code : Meets (Says contexts m line (step.Call c (guest.NetworkErrorCode handle))) [] (Give (reply_of absent_values (without_code (error_code_on m handle)), m))
+  pub network_error_code : Meets (Says contexts m line (step.Call c (guest.Names (name_call.NetworkErrorCode handle)))) [] (Give (reply_of absent_values (without_code (error_code_on m handle)), m))
   network_error_code = ends (by_error (is_error (kind_at m.table handle)) refl)

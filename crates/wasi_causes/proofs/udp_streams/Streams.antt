@@ -24,6 +24,7 @@ use Rattle.wasi_steps.specs.declared.reply.CodeWord.TheVariants as word
 use Rattle.wasi_steps.specs.declared.reply.Reply.{Reply}
 use Rattle.wasi_steps.specs.declared.reply.Reply.TheVariants as reply
 use Rattle.wasi_steps.specs.declared.guest_call.GuestCall.TheVariants as guest
+use Rattle.wasi_steps.specs.declared.guest_call.UdpCall.TheVariants as udp_call
 use Rattle.wasi_steps.specs.declared.step.Step.TheVariants as step
 use Rattle.wasi_walks.specs.Answered.{open_udp_at}
 use Rattle.wasi_walks.specs.Waiting.{ConnectUnchecked}
@@ -144,7 +145,7 @@ module _ (m : Machine) (line handle place : ℕ) (o : OpenUdp) (n : NamesUdp m h
 module _ (contexts : List WasiSocketsCtx) (m : Machine) (line c handle : ℕ) (remote : Option IpSocketAddress) where
   -- the table of the step
   abbrev StreamRow : Rows (Result (Answer (ℕ × ℕ)) Stop × Machine)
-  StreamRow = Replied contexts m line (step.Call c (guest.UdpStream handle remote)) (answer_reply_of pair_values line)
+  StreamRow = Replied contexts m line (step.Call c (guest.Udp (udp_call.Stream handle remote))) (answer_reply_of pair_values line)
 
   -- nothing is pending then
   free_so : (after : Machine) → after.store.standing ≡ m.store.standing → m.store.standing ≡ None → PendingHandleIsLive after
@@ -194,7 +195,7 @@ module _ (contexts : List WasiSocketsCtx) (m : Machine) (line c handle : ℕ) (r
   missing none = ((apart (λ e. cc) (none_has _ (open_udp_at m handle) none), free_so m refl), (none, (refl, refl)))
 
   -- the step
-  pub udp_stream : Meets (Says contexts m line (step.Call c (guest.UdpStream handle remote))) [] (bind (udp_stream_asks m (first_ids line) handle remote) (λ done. Give (answer_reply_of pair_values line done.0, done.1)))
+  pub udp_stream : Meets (Says contexts m line (step.Call c (guest.Udp (udp_call.Stream handle remote)))) [] (bind (udp_stream_asks m (first_ids line) handle remote) (λ done. Give (answer_reply_of pair_values line done.0, done.1)))
   udp_stream =
       onto _ (on_udp m handle (udp_stream_on m (first_ids line) handle remote) (λ place found. bind (start_streams_at m.store (first_ids line) place handle remote found) (λ done. streams_so (own_of line) handle m done)) (λ place. refl)
       (λ none. ends (missing none)) (λ none place. chain {Mid = λ es done. Meets StreamRow es (streams_so (own_of line) handle m done)} (ends (ends (missing none))) (λ es done k. k)) (λ place o n. by_streams place o n (has_streams o) refl))

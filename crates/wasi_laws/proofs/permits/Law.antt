@@ -3,6 +3,7 @@ use Rattle.wasi_walks.proofs.walks.Moves.{AddsSlot, OfReceive, OfSend, TakesEnd}
 use Rattle.wasi_walks.proofs.PipeLists.{slot_push_same}
 use Rattle.tcp_records.specs.Ends.{ends_of}
 use Rattle.wasi_steps.specs.declared.guest_call.GuestCall.{GuestCall}
+use Rattle.wasi_steps.specs.declared.guest_call.P3TcpCall.{P3TcpCall}
 use Rattle.wasi_world.specs.declared.call.Call.TheVariants as call
 use Rattle.wasi_world.specs.declared.call.Told.TheVariants as told
 use Rattle.wasi_tcp.specs.declared.halves.TcpSendStream.{TcpSendStream}
@@ -146,7 +147,7 @@ ends_agree taken held (Some s) a = a
 
 -- a step that isn't a write of 0.3: what that is let write is known once it is answered
 abbrev pub NotOffer : Step → Type 0
-NotOffer (Step.Call ctx (GuestCall.P3Write end bytes)) = ⊥
+NotOffer (Step.Call ctx (GuestCall.P3Tcp (P3TcpCall.Write end bytes))) = ⊥
 NotOffer _ = ⊤
 
 module _ (side : OpId) (given : List ℕ) where

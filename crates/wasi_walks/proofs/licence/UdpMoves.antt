@@ -32,6 +32,7 @@ use Rattle.wasi_records.specs.declared.records.Record.{Record}
 use Rattle.udp_records.specs.declared.udp.OpenUdp.{OpenUdp}
 use Rattle.udp_records.specs.declared.udp.UdpRecord.{UdpRecord}
 use Rattle.udp_records.specs.declared.udp.UdpInProgress.{UdpInProgress}
+use Rattle.wasi_steps.specs.declared.guest_call.UdpCall.{UdpCall}
 
 -- a record is of one kind
 one_kind : (o : Option Record) (r : TcpRecord) (u : UdpRecord) → tcp2_of o ≡ Some r → udp2_of o ≡ Some u → ⊥
@@ -143,7 +144,7 @@ module _ (contexts : List WasiSocketsCtx) (steps : List Step) (line : ℕ) (orig
       spent es _ (put_udp_fine es h place (UdpRecord.Open o) (UdpRecord.Open now) g refl (record { made = f.made; bound = f.bound; progress = begun; connecting = f.connecting; sending = f.sending; receiving = f.receiving }) i)
 
   -- == datagram streams
-  pub remembers_streams : (es : List Entry) (h : Here) (c handle place : ℕ) (remote : Option IpSocketAddress) → origin ≡ Step.Call c (GuestCall.UdpStream handle remote) → Licensed contexts steps line origin es h → Licensed contexts steps line origin es (record h { made = ToStream line handle place })
+  pub remembers_streams : (es : List Entry) (h : Here) (c handle place : ℕ) (remote : Option IpSocketAddress) → origin ≡ Step.Call c (GuestCall.Udp (UdpCall.Stream handle remote)) → Licensed contexts steps line origin es h → Licensed contexts steps line origin es (record h { made = ToStream line handle place })
   remembers_streams es h c handle place remote is i = remade es h (ToStream line handle place) tt (record { origin = origin; at = is_line; holds = subst (IsStreamOf handle) (sym is) refl }) i
 
   pub recalls_streams : (es : List Entry) (h : Here) (ids : Ids) (place handle : ℕ) → h.machine.store.standing ≡ Some (standing_as ids (StandingCall.UdpConnect place handle)) → Licensed contexts steps line origin es h → Licensed contexts steps line origin es (record h { made = ToStream ids.line handle place; own = ToConnect place })

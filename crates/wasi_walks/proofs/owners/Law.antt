@@ -33,6 +33,7 @@ use Rattle.wasi_walks.proofs.Places.{slot_sort, push_finds, tcp_sort}
 use Rattle.wasi_walks.proofs.owners.Owned.{NoneOf, OneOwner, parent_of, HasStreams, IsNew, MadeSo, Owned, emptied_made, made_owned, numbered_still, one_still, other_still, taken_owned, HasSocket, StandsSo, none_of, listener_of, quiet_so, stands_still}
 pub use Rattle.wasi_walks.proofs.owners.Records.{Owns, StaysFor, udp_released, begun_owns, gained, given_back_owns, left_made, left_none, no_udp_socket, no_udp_streams, none_at_end, none_open, none_set, past_end, push_made, push_owned, put_dropped, put_gone, put_live, put_none, put_open, put_owns, put_unlistened, same_owns, stay, udp_dropped, without_listener}
 use Rattle.wasi_walks.proofs.owners.NewHandles.{IsOther, other_fits, no_record, end_other, pollable_fits, no_pollable, owner_fits, stream_fits, listener_fits, one_of_handle, owner_there, two_fits, two_own_none, plain_fits, plain_still, is_udp, created_stays, listened_streams, listener_lost, stands_so, taken_keeps, plain_owns}
+use Rattle.wasi_steps.specs.declared.guest_call.PipeCall.{PipeCall}
 
 module _ (h : Here) (place : ℕ) (r : TcpRecord) (l : Listener) (g : Found h place r) (new : TcpRecord) where
   abbrev idled : List Record
@@ -71,11 +72,11 @@ no_datagram_role kind place other (inl e) l = absurd (let p : None ≡ Some othe
 no_datagram_role kind place other (inr e) l = absurd (let p : None ≡ Some other = ap listener_of (sym e) ∙ l in cc)
 
 plain_role : (s : Step) (kind : Kind) (place : ℕ) → MakesPlain s kind → listener_of kind ≡ Some place → ⊥
-plain_role (Step.Call c (GuestCall.PipeIn bytes)) (PlainInput (plain_input.Pipe n)) place makes l = absurd (cc)
-plain_role (Step.Call c (GuestCall.PipeOut capacity)) (PlainOutput (plain_output.Pipe n)) place makes l = absurd (cc)
-plain_role (Step.Call c GuestCall.ClosedIn) (PlainInput plain_input.Closed) place makes l = absurd (cc)
-plain_role (Step.Call c GuestCall.Sink) (PlainOutput plain_output.Sink) place makes l = absurd (cc)
-plain_role (Step.Call c GuestCall.ClosedOut) (PlainOutput plain_output.Closed) place makes l = absurd (cc)
+plain_role (Step.Call c (GuestCall.Pipe (PipeCall.In bytes))) (PlainInput (plain_input.Pipe n)) place makes l = absurd (cc)
+plain_role (Step.Call c (GuestCall.Pipe (PipeCall.Out capacity))) (PlainOutput (plain_output.Pipe n)) place makes l = absurd (cc)
+plain_role (Step.Call c (GuestCall.Pipe PipeCall.ClosedIn)) (PlainInput plain_input.Closed) place makes l = absurd (cc)
+plain_role (Step.Call c (GuestCall.Pipe PipeCall.Sink)) (PlainOutput plain_output.Sink) place makes l = absurd (cc)
+plain_role (Step.Call c (GuestCall.Pipe PipeCall.ClosedOut)) (PlainOutput plain_output.Closed) place makes l = absurd (cc)
 plain_role _ _ place makes l = absurd makes
 
 -- a connect leaves its socket's handle

@@ -32,6 +32,8 @@ use Rattle.wasi_records.specs.declared.records.Record.TheVariants.{Gone}
 use Rattle.wasi_walks.specs.Licence.{Has}
 use Rattle.udp_records.specs.declared.udp.OpenUdp.{OpenUdp}
 use Rattle.udp_records.specs.declared.udp.UdpRecord.{UdpRecord}
+use Rattle.wasi_steps.specs.declared.guest_call.UdpCall.{UdpCall}
+use Rattle.wasi_steps.specs.declared.guest_call.P3TcpCall.{P3TcpCall}
 
 -- what the line's operations have begun: something, or nothing yet; its own none, and of the others those of a part below this one;
 -- these bytes it is let write to this network socket; something, and the connect of this UDP socket's record goes on by it
@@ -191,14 +193,14 @@ end_of (Some kind) = end_in kind
 
 -- the line makes an end of the socket of this handle, and its slot
 abbrev pub MakesEnds : ℕ → Step → Type 0
-MakesEnds socket (Step.Call ctx (GuestCall.P3TcpReceive s)) = s ≡ socket
-MakesEnds socket (Step.Call ctx (GuestCall.P3TcpSend s)) = s ≡ socket
+MakesEnds socket (Step.Call ctx (GuestCall.P3Tcp (P3TcpCall.Receive s))) = s ≡ socket
+MakesEnds socket (Step.Call ctx (GuestCall.P3Tcp (P3TcpCall.Send s))) = s ≡ socket
 MakesEnds socket _ = ⊥
 
 -- and this is the end
 abbrev pub MakesEnd : ℕ → Kind → Step → Type 0
-MakesEnd socket (Receive3 end) (Step.Call ctx (GuestCall.P3TcpReceive s)) = s ≡ socket
-MakesEnd socket (Send3 end) (Step.Call ctx (GuestCall.P3TcpSend s)) = s ≡ socket
+MakesEnd socket (Receive3 end) (Step.Call ctx (GuestCall.P3Tcp (P3TcpCall.Receive s))) = s ≡ socket
+MakesEnd socket (Send3 end) (Step.Call ctx (GuestCall.P3Tcp (P3TcpCall.Send s))) = s ≡ socket
 MakesEnd socket _ _ = ⊥
 
 -- it is of the record of this place, where its half could be taken; it is closed, else
@@ -255,7 +257,7 @@ pub record TakesFrom (origin : Step) (t : HandleTable) (place : ℕ) : Type 0 wh
   pub ctx : ℕ
   pub handle : ℕ
   pub most : ℕ
-  pub is : origin ≡ Step.Call ctx (GuestCall.UdpReceive handle most)
+  pub is : origin ≡ Step.Call ctx (GuestCall.Udp (UdpCall.Receive handle most))
   pub of : kind_at t handle ≡ Some (Incoming place)
 
 -- the line makes streams of the record's socket, under its handle

@@ -33,6 +33,7 @@ use Rattle.std.specs.Prelude.{length, slice_get}
 use Rattle.wasi_walks.proofs.walks.States.{Numbering, Over, OverWith, Sets, Starts}
 use Rattle.tcp_records.specs.declared.slot.Slot.{Slot}
 use Rattle.wasi_walks.proofs.Places.{slot_sort, there_push, there_put, input_sort, lookup_sort, other_push, other_put, output_sort, push_found, push_last, push_some, put_found, put_some, tcp_sort, udp_sort}
+use Rattle.wasi_steps.specs.declared.guest_call.NameCall.{NameCall}
 
 -- == the sockets are the same
 same_sockets : {new : LookupOp → Type 0} (xs : List Record) → SameSockets new xs xs
@@ -134,7 +135,7 @@ module _ {contexts : List WasiSocketsCtx} {line : ℕ} {origin : Step} {law : La
         (a.0, λ told fits. (k told).along (es ++ entry (own_of line) (Call.Lookup host) told ∷ []) (a.1 told fits));
   }
 
-  module _ (m : Machine) (idle : m.store.standing ≡ None) (c network : ℕ) (name : List ℕ) (is : origin ≡ Step.Call c (GuestCall.Resolve network name)) where
+  module _ (m : Machine) (idle : m.store.standing ≡ None) (c network : ℕ) (name : List ℕ) (is : origin ≡ Step.Call c (GuestCall.Names (NameCall.Resolve network name))) where
     -- where it has no handle it is given back
     looked_up_walks : (l : Lookup) (made : Result ℕ Stop × HandleTable) → SameNext m.table made → Walks law (Recorded m l made.1) OverWith (Give (looked_up m l made))
     looked_up_walks l (Ok handle, t) k = move (Lists _ _ (job_begins m l)) (gives _ (Leaves _))

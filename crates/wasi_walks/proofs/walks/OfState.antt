@@ -31,15 +31,17 @@ use Rattle.wasi_udp.specs.Send.{IsLeftOfSend, at_remote, send_start}
 use Rattle.wasi_udp.specs.Shape.{Socket as UdpSocket}
 use Rattle.wasi_world.specs.Typed.{told_names}
 use Rattle.wasi_udp.specs.Socket.{after_local as udp_after_local, after_peer}
+use Rattle.wasi_steps.specs.declared.guest_call.TcpCall.{TcpCall}
+use Rattle.wasi_steps.specs.declared.guest_call.P3TcpCall.{P3TcpCall}
 
 -- a handle is made, which is of this kind under this parent; what the line has made is this then
 pub data Handles (origin : Step) (h : Here) : Kind → Option ℕ → Made → Type 0 where
   OfLine : (kind : Kind) (parent : Option ℕ) (sock : Option OpId) → Marks origin h kind parent sock
       → Handles origin h kind parent h.made
-  OfAccepted : (c listener place : ℕ) (r : TcpRecord) → origin ≡ Step.Call c (GuestCall.TcpAccept listener) → h.made ≡ Joined P2 place
+  OfAccepted : (c listener place : ℕ) (r : TcpRecord) → origin ≡ Step.Call c (GuestCall.Tcp (TcpCall.Accept listener)) → h.made ≡ Joined P2 place
       → h.own ≡ Used → Found h place r → Handles origin h (Tcp2 place) (Some listener)
       (Marked h.machine.table.next place)
-  OfPlain : (c listener remaining place : ℕ) (r : TcpRecord) → origin ≡ Step.Call c (GuestCall.P3Accept listener remaining)
+  OfPlain : (c listener remaining place : ℕ) (r : TcpRecord) → origin ≡ Step.Call c (GuestCall.P3Tcp (P3TcpCall.Accept listener remaining))
       → (h.made ≡ Joined P3 place) ⊎ (h.made ≡ Faulted place) → h.own ≡ Used → Found h place r
       → Handles origin h (Tcp3 place) (Some listener) Past
   OfListener : (n handle reached place : ℕ) (r : TcpRecord) → NoStart h → h.made ≡ ToListen n (Some handle) reached

@@ -37,6 +37,8 @@ use Rattle.wasi_walks.proofs.walks.Law.{Law, Walks, Given, given_then, given_on,
 use Rattle.wasi_walks.proofs.walks.States.{At, Awaiting, Over, OverWith, Put, Starts, none_stands, udp_record}
 use Rattle.wasi_walks.proofs.walks.UdpLaw.{HasUdp, udp_put_put, udp_put_same, udp_found, begin_create, mark_udp_walks, ask_udp, disconnect_udp, learn_udp, peer_udp, close_udp, poll_create_walks, poll_udp_bind_walks}
 use Rattle.wasi_walks.proofs.Places.{push_finds, put_finds, udp_sort}
+use Rattle.wasi_steps.specs.declared.guest_call.UdpCall.{UdpCall}
+use Rattle.wasi_steps.specs.declared.guest_call.P3UdpCall.{P3UdpCall}
 
 -- what is open at a place is the UDP socket there
 pub open_is : (u : Option UdpRecord) (o : OpenUdp) → open_of u ≡ Some o → u ≡ Some (UdpRecord.Open o)
@@ -166,8 +168,8 @@ same_polling face m place (UdpRecord.Closed s) g = udp_put_same (Over m) place (
 
 -- a step that creates is one that makes sockets of its interface
 made_for : (contexts : List WasiSocketsCtx) (face : Interface) (ctx : WasiSocketsCtx) (family : SocketAddressFamily) (s : Step) → CreatesUdp contexts ctx family face s → MakesUdpFor face s
-made_for contexts face ctx family (Step.Call n (GuestCall.UdpCreate f)) c = c.2
-made_for contexts face ctx family (Step.Call n (GuestCall.P3UdpCreate f)) c = c.2
+made_for contexts face ctx family (Step.Call n (GuestCall.Udp (UdpCall.Create f))) c = c.2
+made_for contexts face ctx family (Step.Call n (GuestCall.P3Udp (P3UdpCall.Create f))) c = c.2
 made_for contexts face ctx family _ c = absurd c
 
 module _ (m : Machine) (place : ℕ) where
