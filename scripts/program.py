@@ -13,6 +13,8 @@ import sys
 sys.dont_write_bytecode = True
 from crates import TOP, below, sources
 
+# Where the wrapper passes on the input.
+INPUT = 3
 # What is wrong with the build, and not with what the program was given.
 NOT_RUN = 70
 
@@ -74,6 +76,8 @@ def main(name, crate, minutes, *words):
             flush=True,
         )
         program = unproved(name, crate)
+    os.dup2(INPUT, 0)
+    os.close(INPUT)
     os.execv(program, [name, *words])
 
 

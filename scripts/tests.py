@@ -3,8 +3,8 @@
 usage: tests.py [CRATE..]     (scripts/test calls it; without a name it takes every crate)
 
 A program runs once on the args, stdin, stdout, status and data/ of its crate, and once on those of each folder of
-its runs/, whose other files lie where it runs. It has to write that stdout and end with that status, or with 0 where
-there is none. `kaxtubor` also tries a fault at each call of the network, in the examples and in all transcripts.
+its runs/, whose other files lie where it runs. It has to write that stdout, and that stderr where there is one, and end
+with that status, or with 0 where there is none. `kaxtubor` also tries a fault at each call of the network, in the examples and in all transcripts.
 
 Each crate's programs are built by scripts/unproved, as many side by side as processors and memory allow.
 """
@@ -27,7 +27,7 @@ TEST_SECONDS = 60
 # What a build takes of memory at most, with room to spare.
 BUILD_BYTES = 1_800_000_000
 # What stands beside the files of a run, and isn't one.
-WORDS = ("args", "stdin", "stdout", "status")
+WORDS = ("args", "stdin", "stdout", "stderr", "status")
 # The program that tries faults, and what tries them by it.
 FAULTS = ("kaxtubor", f"{TOP}/bench/faults/network")
 IS_TEST = re.compile(rb"^\s*#\[test\]", re.M)
@@ -97,6 +97,8 @@ def ran(program, words, files):
     said = done.stderr.decode(errors="replace").strip()[-1000:]
     if done.returncode != wanted:
         return f"it ended with {done.returncode}, and not {wanted}; it said: {said}"
+    if os.path.exists(f"{words}/stderr") and (why := first_difference(done.stderr, read(f"{words}/stderr"))):
+        return f"standard error: {why}"
     return first_difference(done.stdout, read(f"{words}/stdout"))
 
 

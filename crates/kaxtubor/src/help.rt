@@ -193,10 +193,12 @@ wasi:sockets calls under them.
 
 usage: kaxtubor policy ask LIMIT      answers each question on standard input, of at most LIMIT bytes in all, by
                                       `allow N` or `deny N`: N is the line of the rule that decided, 0 where none matches
-       kaxtubor policy explain LIMIT  answers each question by `N RULE`, the rule that decided
-       kaxtubor policy check          writes `shadowed N` for each line N whose rule decides nothing, since rules before
-                                      it decide all that it matches, and `overlap N M` for each two lines whose rules
-                                      match something in common, of which one allows and the other denies
+       kaxtubor policy explain LIMIT  answers each question by `N RULE`, the rule that decided; and for a connect adds that
+                                      a socket that isn't bound needs `allow tcp-bind any 0 0` too, where no rule allows it
+       kaxtubor policy check          writes `unmatched N` for each line N whose rule matches nothing, `shadowed N` for
+                                      each whose rule decides nothing, since rules before it decide all that it matches,
+                                      and `overlap N M` for each two lines whose rules match something in common, of
+                                      which one allows and the other denies; behind 1000 of these lines `and N more`
        kaxtubor policy run LIMIT      runs the script on standard input, of at most LIMIT bytes, under the rules, over
                                       the network that scenario.txt in this folder plans, and writes one reply per line
        kaxtubor policy --help         prints this
@@ -240,7 +242,8 @@ Before these words, in this order, may stand:
 
 Sockets of TCP and UDP may be bound to, listen on, connect to and send to 127.0.0.0/8 and ::1 with the named ports alone;
 all else is access-denied, and no call of the system is made for it. What arrives may come from any port of this machine.
-Port 0, where it is named, stands for any port that is free. After --any-address the named ports may be used with every
+Port 0, where it is named, stands for any port that is free. With no port nothing may be used, so at least one is named; after
+--hosts, whose lookups need none, there may be none. After --any-address the named ports may be used with every
 address, so other machines can connect to what listens, and a script can reach them.
 After --policy an address and a use need a rule that allows them, in place of a named port, and without --any-address the
 address is one of this machine's own, or a wildcard to bind. The help of kaxtubor policy has the form of rules, and its ask

@@ -1,29 +1,43 @@
 //! `live`: runs a script of `wasi:sockets` calls from standard input over this machine's network,
 //! and writes one reply per line.
 
+use crate::forms::{Form, LIVE, LIVE_BY_RULES};
+use crate::live_options::{OptionFault, end_at_option, option_fault};
+use crate::words::end_at_form;
 use live_commands::{
     Command, Network, NoHosts, Options, Setup, allowed, command_in, every_port, limit_in,
     options_in, patience, read_hosts, run_live, run_recorded, run_ruled,
 };
-use policy_commands::PolicyStatus;
 use policy_commands::report::end_at_rules;
+use policy_commands::{PolicyStatus, RulesText};
 use recorder_commands::report::end_without_log;
 use recorder_commands::{NewFile, RecorderStatus};
 use std::alloc::Global;
 use std::process::ExitCode;
-use wasi_console::{LineSource, end};
+use std::{fs, io};
+use wasi_console::{LineSource, end, end_of_run, end_unread, is_longer};
 use wasi_net::{Allowed, Hosts};
 use wasi_program::Status;
-use wasi_run::RunError;
+use wasi_program::scenario::Unread;
+use wasi_program::status::bad_line;
 use world_io::{FileSource, StdSink, StdSource};
 
 /// The status where the file of names can't be used.
 const HOSTS_FAULT: u8 = 18;
 
+/// How many bytes the file of names has at most.
+const MOST_HOSTS: u64 = 1_048_576;
+
+/// The status where the rules can't be read.
+const RULES_FAULT: u8 = 17;
+
 /// Does what the words behind `live` ask for.
 pub fn run(rt: HostRuntime, words: &[String]) -> ExitCode {
     let (options, words) = options_in(words);
-    run_with(rt, options, words)
+    match option_fault(options, words) {
+        Some(fault) => end_at_option(&rt, fault),
+        None => run_with(rt, options, words),
+    }
 }
 
 /// The limit in the words and the addresses that rules may allow, or how the program ends without
@@ -38,16 +52,20 @@ fn asked_by_rules(words: &[String], anywhere: bool) -> Result<(u32, Allowed), St
     }
 }
 
-/// The limit and the ports in the words, or how the program ends without them.
+/// The limit and the ports in the words, or how the program ends without them. Without a port only
+/// lookups can do anything, so that one number alone is no LIMIT, where there are no names.
 fn asked_by_ports(
     alloc: Global,
     words: &[String],
-    anywhere: bool,
+    options: Options<'_>,
 ) -> Result<(u32, Allowed), Status> {
     match command_in(alloc, words) {
         Ok(Some(command)) => {
             let Command { limit, ports } = command;
-            Ok((limit, allowed(ports, anywhere)))
+            if ports.is_empty() && options.hosts.is_none() {
+                return Err(Status::BadWords);
+            }
+            Ok((limit, allowed(ports, options.anywhere)))
         }
         Ok(None) => Err(Status::BadWords),
         Err(_) => Err(Status::Memory),
@@ -65,18 +83,17 @@ fn named_hosts(rt: &HostRuntime, path: Option<&str>) -> Result<Hosts, NoHosts> {
 fn run_with(rt: HostRuntime, options: Options<'_>, words: &[String]) -> ExitCode {
     let asked = match options.rules {
         Some(_) => asked_by_rules(words, options.anywhere),
-        None => asked_by_ports(rt.alloc(), words, options.anywhere),
+        None => asked_by_ports(rt.alloc(), words, options),
     };
     let (limit, allowed) = match asked {
         Ok(asked) => asked,
+        Err(Status::BadWords) => return end_at_form(&rt, form_of(options), words),
         Err(status) => return end(&rt, status, 0, None),
     };
     let hosts = match named_hosts(&rt, options.hosts) {
         Ok(hosts) => hosts,
         Err(NoHosts::Memory) => return end(&rt, Status::Memory, 0, None),
-        Err(NoHosts::Unreadable) => {
-            return end_at_rules(&rt, HOSTS_FAULT, options.hosts.unwrap_or(""), 0);
-        }
+        Err(NoHosts::Unreadable) => return end_at_hosts(&rt, options.hosts.unwrap_or("")),
     };
     let network = Network {
         allowed,
@@ -88,19 +105,38 @@ fn run_with(rt: HostRuntime, options: Options<'_>, words: &[String]) -> ExitCode
         (None, None) => run_over(rt, setup),
         (None, Some(path)) => run_noted(rt, path, setup),
         (Some(path), None) => run_by_rules(rt, path, setup),
-        (Some(_), Some(_)) => end(&rt, Status::BadWords, 0, None),
+        (Some(_), Some(_)) => end_at_option(&rt, OptionFault::Both),
+    }
+}
+
+/// Prints why the file of names can't be used.
+fn end_at_hosts(rt: &HostRuntime, path: &str) -> ExitCode {
+    if is_longer(rt, path, MOST_HOSTS) {
+        let _ = eprintln!(rt; "status {HOSTS_FAULT}\n{path} has more than {MOST_HOSTS} bytes");
+        return ExitCode::from(HOSTS_FAULT);
+    }
+    match fs::read_to_string(rt, path) {
+        Err(error) if error.kind() == io::ErrorKind::InvalidData => {
+            let _ = eprintln!(rt; "status {HOSTS_FAULT}\n{path} is not text");
+            ExitCode::from(HOSTS_FAULT)
+        }
+        _ => end_unread(rt, HOSTS_FAULT, path),
+    }
+}
+
+/// The form of the words behind these options.
+fn form_of(options: Options<'_>) -> Form {
+    match options.rules {
+        Some(_) => LIVE_BY_RULES,
+        None => LIVE,
     }
 }
 
 fn run_over(rt: HostRuntime, setup: Setup) -> ExitCode {
     let mut source = LineSource::new(StdSource::new(rt.stdin()));
     let mut sink = StdSink::new(rt.stdout());
-    match run_live(&rt, rt.alloc(), setup, &mut source, &mut sink) {
-        Err(RunError::BadStep(line)) => {
-            end(&rt, Status::BadStep, line, source.line(u64::from(line)))
-        }
-        outcome => end(&rt, Status::of_run(outcome), 0, None),
-    }
+    let outcome = run_live(&rt, rt.alloc(), setup, &mut source, &mut sink);
+    end_at(&rt, Status::of_run(outcome), bad_line(outcome), &source)
 }
 
 /// Runs the script, and writes the log of its run to this file.
@@ -111,19 +147,35 @@ fn run_noted(rt: HostRuntime, path: &str, setup: Setup) -> ExitCode {
     let alloc = rt.alloc();
     let (status, line) = run_recorded(&rt, alloc, setup, &mut log_out, &mut source, &mut sink);
     match status {
-        RecorderStatus::Of(status) => end(&rt, status, line, source.line(u64::from(line))),
+        RecorderStatus::Of(status) => end_at(&rt, status, line, &source),
         status => end_without_log(&rt, status.number(), path),
     }
 }
 
 /// Runs the script under the rules of this file.
 fn run_by_rules(rt: HostRuntime, path: &str, setup: Setup) -> ExitCode {
-    let mut rules = FileSource::open(&rt, path);
+    match RulesText::read(rt.alloc(), FileSource::open(&rt, path)) {
+        Ok(rules) => run_under(rt, path, &rules, setup),
+        Err(Unread::Fault) => end_unread(&rt, RULES_FAULT, path),
+        Err(Unread::Memory(_)) => end(&rt, Status::Memory, 0, None),
+    }
+}
+
+/// Runs the script under rules, which this file had.
+fn run_under(rt: HostRuntime, path: &str, text: &RulesText, setup: Setup) -> ExitCode {
+    let Ok(mut rules) = text.source() else {
+        return end(&rt, Status::Memory, 0, None);
+    };
     let mut source = LineSource::new(StdSource::new(rt.stdin()));
     let mut sink = StdSink::new(rt.stdout());
     let (status, line) = run_ruled(&rt, rt.alloc(), &mut rules, setup, &mut source, &mut sink);
     match status {
-        PolicyStatus::Of(status) => end(&rt, status, line, source.line(u64::from(line))),
-        status => end_at_rules(&rt, status.number(), path, line),
+        PolicyStatus::Of(status) => end_at(&rt, status, line, &source),
+        status => end_at_rules(&rt, status.number(), path, line, text),
     }
+}
+
+/// Prints how a run ended on standard error, with the bad line of its script, and ends so.
+fn end_at<I>(rt: &HostRuntime, status: Status, line: u32, script: &LineSource<I>) -> ExitCode {
+    end_of_run(rt, status.number(), line, script)
 }

@@ -2,20 +2,24 @@
 //! machine's own, prints, checks and replays what they do, and relays connections.
 #![tactic(auto)]
 
+mod forms;
 mod help;
 mod live;
+mod live_options;
 mod policy;
 mod recorder;
 mod relay;
 mod scripts;
 mod subcommand;
 mod transcripts;
+mod words;
 
 use help::{OVERVIEW, VERSION};
 use std::process::ExitCode;
 use subcommand::Subcommand;
-use wasi_console::{command_words, end, print};
-use wasi_program::{Choice, Status, choice_in};
+use wasi_console::{command_words, print};
+use wasi_program::{Choice, choice_in};
+use words::end_at_words;
 
 fn main(rt: HostRuntime) -> ExitCode {
     let words = match command_words(&rt, &[OVERVIEW], VERSION) {
@@ -31,7 +35,7 @@ fn main(rt: HostRuntime) -> ExitCode {
         Subcommand::Scripts => scripts::run(rt, rt, words),
         Subcommand::Transcripts => transcripts::run(rt, words),
         Subcommand::Recorder => recorder::run(rt, words),
-        Subcommand::Policy => policy::run(rt, rest),
+        Subcommand::Policy => policy::run(rt, words, rest),
         Subcommand::Live => live::run(rt, rest),
         Subcommand::Relay => relay::run(rt, words, rest),
     }
@@ -44,10 +48,10 @@ fn asked<'a, R: Print + Eprint>(
     words: &'a [String],
 ) -> Result<(Subcommand, &'a [String]), ExitCode> {
     let Some((word, rest)) = words.split_first() else {
-        return Err(end(rt, Status::BadWords, 0, None));
+        return Err(end_at_words(rt, words));
     };
     let Some(subcommand) = Subcommand::of_word(word.as_str()) else {
-        return Err(end(rt, Status::BadWords, 0, None));
+        return Err(end_at_words(rt, words));
     };
     match choice_in(rest) {
         Choice::Help => Err(print(rt, subcommand.help())),

@@ -2,6 +2,7 @@
 //! the scripted network of `scenario.txt`, and writes one reply per line; or copies standard input
 //! to standard output by worker streams.
 
+use crate::words::end_at_words;
 use std::process::ExitCode;
 use std::sync::Wait;
 use std::thread::Threads;
@@ -28,5 +29,8 @@ pub fn run<T: Threads + Wait + Copy + Send + 'static>(
         &mut ThreadSpawner::new(),
         &mut ThreadSpawner::new(),
     );
-    end_of_run(&rt, done.status, done.line, &done.source)
+    match done.status {
+        1 => end_at_words(&rt, words),
+        status => end_of_run(&rt, status, done.line, &done.source),
+    }
 }

@@ -2,12 +2,13 @@
 //! scripted network of `scenario.txt`, runs files of such transcripts again, records and replays
 //! them, and tries a script with a fault at each call of its network.
 
+use crate::words::end_at_words;
 use std::alloc::AllocError;
 use std::process::ExitCode;
 use std::rt::Files;
 use std::{fs, io};
 use transcript_commands::{Also, NOTHING_ELSE, Replays, Tried, also_in, replay_text, try_text};
-use wasi_console::{LineSource, end, line_of};
+use wasi_console::{LineSource, end, end_of_run, end_unread};
 use wasi_program::{Status, scenario_path};
 use wasi_transcript::program::{End, Words, check, show, words_in};
 use wasi_transcript::survey::faults;
@@ -22,7 +23,7 @@ pub fn run(rt: HostRuntime, words: &[String]) -> ExitCode {
         return check_all(rt, files, also);
     }
     match words_in(words) {
-        None => end(&rt, Status::BadWords, 0, None),
+        None => end_at_words(&rt, words),
         Some(Words::Show(limit)) => show_script(rt, limit),
         Some(Words::Check(files)) => check_all(rt, files, NOTHING_ELSE),
         Some(Words::Faults(limit)) => try_script(rt, limit),
@@ -35,10 +36,7 @@ fn show_script(rt: HostRuntime, limit: u32) -> ExitCode {
     let mut source = LineSource::new(StdSource::new(rt.stdin()));
     let mut sink = StdSink::new(rt.stdout());
     match show(rt.alloc(), limit, &mut scenario, &mut source, &mut sink) {
-        End::Run(Status::BadScenario, line) => bad_scenario(rt, line),
-        End::Run(Status::BadStep, line) => {
-            end(&rt, Status::BadStep, line, source.line(u64::from(line)))
-        }
+        End::Run(status, line) => end_of_run(&rt, status.number(), line, &source),
         ended => stop(&rt, ended),
     }
 }
@@ -46,30 +44,27 @@ fn show_script(rt: HostRuntime, limit: u32) -> ExitCode {
 /// Runs the script on standard input again for each call of its network that may fail.
 fn try_script(rt: HostRuntime, limit: u32) -> ExitCode {
     let mut scenario = FileSource::open(&rt, scenario_path());
-    let mut source = StdSource::new(rt.stdin());
+    let mut source = LineSource::new(StdSource::new(rt.stdin()));
     let mut sink = StdSink::new(rt.stdout());
     match faults(rt.alloc(), limit, &mut scenario, &mut source, &mut sink) {
-        End::Run(Status::BadScenario, line) => bad_scenario(rt, line),
+        End::Run(status, line) => end_of_run(&rt, status.number(), line, &source),
         ended => stop(&rt, ended),
     }
 }
 
-/// Prints that this line of the scenario isn't in its grammar, and its start.
-fn bad_scenario(rt: HostRuntime, line: u32) -> ExitCode {
-    let front = line_of(FileSource::open(&rt, scenario_path()), u64::from(line));
-    end(&rt, Status::BadScenario, line, front)
-}
-
 /// Checks each file, with what else is asked for, and ends as the first that isn't in order.
 fn check_all(rt: HostRuntime, files: &[String], also: Also) -> ExitCode {
-    let mut first = DONE;
+    let mut first = (DONE, "");
     for file in files {
         let ended = check_file(rt, file.as_str(), also);
-        if first == DONE {
-            first = ended;
+        if first.0 == DONE {
+            first = (ended, file.as_str());
         }
     }
-    stop(&rt, first)
+    match first {
+        (End::NoFile, file) => end_unread(&rt, End::NoFile.number(), file),
+        (ended, _) => stop(&rt, ended),
+    }
 }
 
 fn check_file(rt: HostRuntime, file: &str, also: Also) -> End {

@@ -18,6 +18,7 @@ const PIECE_SIZE: usize = 4096;
 pub struct Front {
     bytes: [u8; MOST_SHOWN],
     len: usize,
+    is_ended: bool,
     ghost within: { len ≤ 80 },
 }
 
@@ -26,7 +27,13 @@ impl Front {
         Front {
             bytes: [0; MOST_SHOWN],
             len: 0,
+            is_ended: false,
         }
+    }
+
+    /// Whether a newline ends the line, as far as it was read.
+    pub fn is_ended(&self) -> bool {
+        self.is_ended
     }
 
     /// The bytes that are kept.
@@ -145,6 +152,7 @@ impl LastPiece {
             let line = first_line(rest);
             if left == 0 {
                 front.extend(line);
+                front.is_ended = line.len() < rest.len();
                 return Some(front);
             }
             if line.len() == rest.len() {
@@ -211,4 +219,17 @@ pub fn line_of<S: Source + Drop>(source: S, number: u64) -> Option<Front> {
         }
     }
     found
+}
+
+/// The first bytes of the line with this number, counted from 1, of a text; `None` where it has no
+/// such line.
+pub fn front_in(text: &[u8], number: u64) -> Option<Front> {
+    let mut last = LastPiece::new();
+    for piece in text.chunks(PIECE_SIZE) {
+        last.remember(piece);
+        if last.line(number.saturating_add(1)).is_some() {
+            break;
+        }
+    }
+    last.line(number)
 }

@@ -6,6 +6,7 @@ ghost use Rattle.std.specs.Process.{exit_status};
 ghost use Rattle.wasi_program.specs.Status.{number_of};
 ghost use Rattle.wasi_program.specs.Choices.{IsEndOfPrint};
 
+use crate::files::{is_folder, is_longer, why_unread};
 use crate::lines::{Front, LineSource, line_of};
 use std::process::ExitCode;
 use std::rt::Files;
@@ -17,6 +18,9 @@ use world_io::FileSource;
 /// What a line of a scenario may be.
 const SCENARIO_LINES: &str =
     "a line such as `check no`, `read bytes 0102` or `context yes yes no 65536`, ended by a newline, in a file of at most 1048576 bytes";
+
+/// How many bytes a scenario has at most.
+const MOST_SCENARIO: u64 = 1_048_576;
 
 /// What a line of a script may be.
 const SCRIPT_LINES: &str =
@@ -70,6 +74,14 @@ pub fn end_of_run<R: Eprint + Files, I>(
     let Some(status) = Status::of_number(number) else {
         return ExitCode::from(number);
     };
+    match status {
+        Status::ScenarioFault => return end_unread(rt, number, scenario_path()),
+        Status::ReadFault | Status::SourceFault => return end_without_input(rt, number),
+        Status::BadScenario if is_longer(rt, scenario_path(), MOST_SCENARIO) => {
+            return end_too_long(rt, number, scenario_path(), line, MOST_SCENARIO);
+        }
+        _ => {}
+    }
     let front = match shown_line(status) {
         ShownLine::OfScenario => line_of(FileSource::open(rt, scenario_path()), u64::from(line)),
         ShownLine::OfScript => script.line(u64::from(line)),
@@ -100,6 +112,31 @@ fn expected_of(front: &Option<Front>) -> &'static str {
     }
 }
 
+/// Prints the status with its line, which this input has, and what was expected of that line. Returns
+/// the status as the program's.
+pub fn end_at_line<R: Eprint>(
+    rt: &R,
+    number: u8,
+    input: &str,
+    line: u32,
+    front: Option<Front>,
+    expected: &str,
+) -> ExitCode
+    ensures { exit_status result ≡ number }
+{
+    let _ = bad_line(rt, number, input, line, front, expected);
+    ExitCode::from(number)
+}
+
+/// What is said behind the front of a line that has no newline.
+fn want_of_newline(front: Front) -> &'static str {
+    if front.is_ended() {
+        ""
+    } else {
+        ", and the newline that ends a line is missing"
+    }
+}
+
 /// Prints the status with its line, and what was expected of that line.
 fn bad_line<R: Eprint>(
     rt: &R,
@@ -109,21 +146,58 @@ fn bad_line<R: Eprint>(
     front: Option<Front>,
     expected: &str,
 ) -> io::Result<()> {
-    match front {
-        Some(front) => eprintln!(rt;
-            "status {number} line {line}\nline {line} of {input} is `{front}`; expected {expected}"
-        ),
-        None => eprintln!(rt;
+    let Some(front) = front else {
+        return eprintln!(rt;
             "status {number} line {line}\nline {line} of {input} is not {expected}"
-        ),
-    }
+        );
+    };
+    let want = want_of_newline(front);
+    eprintln!(rt;
+        "status {number} line {line}\nline {line} of {input} is `{front}`{want}; expected {expected}"
+    )
+}
+
+/// Prints the status, and why this file can't be used. Returns the status as the program's.
+pub fn end_unread<R: Eprint + Files>(rt: &R, number: u8, path: &str) -> ExitCode
+    ensures { exit_status result ≡ number }
+{
+    let why = why_unread(rt, path);
+    let printed = eprintln!(rt; "status {number}\n{path} {why}");
+    let _ = printed;
+    ExitCode::from(number)
+}
+
+/// Prints the status with its line, and that this input is longer than it may be. Returns the status
+/// as the program's.
+pub fn end_too_long<R: Eprint>(rt: &R, number: u8, input: &str, line: u32, most: u64) -> ExitCode
+    ensures { exit_status result ≡ number }
+{
+    let printed = eprintln!(rt;
+        "status {number} line {line}\n{input} has more than {most} bytes, which is the most that it may have; line {line} is bad, or the first that goes beyond"
+    );
+    let _ = printed;
+    ExitCode::from(number)
+}
+
+/// Prints how a reading of standard input failed.
+fn end_without_input<R: Eprint + Files>(rt: &R, number: u8) -> ExitCode
+    ensures { exit_status result ≡ number }
+{
+    let why = if is_folder(rt, "/dev/stdin") {
+        "it is a folder"
+    } else {
+        "a read failed"
+    };
+    let printed = eprintln!(rt; "status {number}\nstandard input can't be read: {why}");
+    let _ = printed;
+    ExitCode::from(number)
 }
 
 /// What is wrong, where it is no line.
 fn reason(status: Status) -> &'static str {
     match status {
         Status::Ok => "nothing is wrong",
-        Status::BadWords => "the words of the command line are none that --help lists",
+        Status::BadWords => "the words of the command line are in no order that --help lists",
         Status::BadScenario => "scenario.txt has a bad line",
         Status::BadStep => "the script has a bad line",
         Status::TooLong =>
