@@ -169,10 +169,10 @@ fn replay_front_on<R: Recorded, S: Source, K: Sink>(
     let mut replies = GrowingSink::new(alloc);
     let outcome = run_script(alloc, &mut world, contexts, limit, reader, &mut replies);
     let made = world.inner.entries().len();
-    let differs = world.inner.differs();
-    let at_end = is_at_end(differs, made, count);
-    let differs = first_difference(differs, made, count);
-    finish_front(outcome, at_end, differs, replies.bytes(), writer)
+    let first = world.inner.differs();
+    let at_end = is_at_end(first, made, count);
+    let place = first_difference(first, made, count);
+    finish_front(outcome, at_end, place, replies.bytes(), writer)
 }
 
 /// Runs the script that the reader gives on the answers of a log that was cut. Where the run asks
