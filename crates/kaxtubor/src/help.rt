@@ -286,8 +286,10 @@ how many bytes were written. WORD is
     clean   the sending side closed it, and all that it sent was written
     broken  a side broke, or couldn't be connected
     open    it went on when the relay ended
-A side that closes one direction can still receive: the other direction goes on. Where a side breaks, the other is closed
-once it sends.
+A side that closes one direction can still receive: the other direction goes on. Where a side breaks, as by a reset, what
+it sent before is still written, and the other direction ends with the first turn in which it writes nothing: then both
+sides are closed. A break is seen where the relay reads from a side or writes to it. It doesn't read from a side while the
+other takes no bytes, nor after that side closed its direction.
 
 With --live it waits without using the processor, and on a terminal it shows once a second on standard error how many
 connections are open and over, and how many bytes went each way. A relay does 4294967295 steps at most, and six or seven

@@ -24,10 +24,10 @@ use Rattle.wasi_relay.specs.declared.pair.Peer.{Peer}
 use Rattle.wasi_relay.specs.declared.pair.Stage.{Stage}
 use Rattle.wasi_relay.specs.declared.pair.Stage.TheVariants.{Connecting, Connected, Over}
 use Rattle.wasi_relay.specs.Guest.{Guest, Do, call, give, ◌>>=◌, ◌>>◌}
-use Rattle.wasi_relay.specs.Pair.{at_stage, has_open, peer_of, with_flows}
+use Rattle.wasi_relay.specs.Pair.{at_stage, beside, breaks_beside, ended_as, has_open, peer_of, with_flows}
 use Rattle.wasi_relay.specs.Replies.{handle_at}
 use Rattle.wasi_relay.specs.Copying.{copied}
-use Rattle.wasi_relay.specs.Serving.{after_connect, both_broken, closed, closed_with, drop_all, over, over_at_end, served, served_at, served_both, served_from, shut_down}
+use Rattle.wasi_relay.specs.Serving.{after_connect, after_copies, both_broken, closed, closed_with, drop_all, over, over_at_end, served, served_at, served_both, served_from, shut_down}
 use Rattle.wasi_relay.proofs.Past.{Copies, Goes, Past, Replies, push}
 use Rattle.wasi_relay.proofs.Grown.{Any, Away, Distinct, FlowAt, FlowIs, Fresh, Grows, IsTcp, Other, PairIs, PairsAre, StageIs, flow_grows, fresh_grows, pair_grows, pairs_grow, pairs_stay, side_grows, tcp_grows}
 use Rattle.wasi_relay.proofs.Copies.{Dir, IsQuiet, copies, quiet_grows, quietly}
@@ -89,6 +89,14 @@ module _ (contexts : List WasiSocketsCtx) where
         still (Call 0 (guest.TcpShutdown client.socket Both)) tt (λ a. (shut_down target >> (drop_all client >> drop_all target)) next) past h (λ r now i.
         still (Call 0 (guest.TcpShutdown target.socket Both)) tt (λ a. (drop_all client >> drop_all target) next) now i (λ q then_ j.
         drops client (λ a. drop_all target next) then_ j (λ p last l. drops target next last l k)))
+
+  -- so is one that breaks beside another
+  beside_is : (past : Past contexts) (from to : OpId) (other : DirEnd) (before : ℕ) (flow : Flow) → FlowIs contexts past from to flow → FlowIs contexts past from to (beside other before flow)
+  beside_is past from to other before flow h = by_test (breaks_beside other before flow)
+    where
+      by_test : (b : Bool) → FlowIs contexts past from to (if b then ended_as Broken flow else flow)
+      by_test true = broken_at flow.end (told_in from past.log) (past.may to) (taken_in to past.log) flow.bytes h
+      by_test false = h
 
   -- where nothing more was told or let write, none was to some
   fewer : {past now : Past contexts} {Told Let : OpId → Type 0} → Grows contexts past now (Any contexts) (Any contexts) → Grows contexts past now Told Let
@@ -189,7 +197,7 @@ module _ (contexts : List WasiSocketsCtx) where
             flow_is = d.base.frame.flow_is;
           }
 
-      to_held : (up down : Flow) (past : Past contexts) → Dir contexts t c (λ e. apart (sym e)) (Frame pair peer c t up) (keep_down pair peer up) peer pair.client past down → Held past (with_flows up down pair)
+      to_held : (up down : Flow) (past : Past contexts) → Dir contexts t c (λ e. apart (sym e)) (Frame pair peer c t up) (keep_down pair peer up) peer pair.client past down → Held past (after_copies up down pair)
       to_held up down past d =
           let six = d.base.frame.six in
           record {
@@ -200,16 +208,16 @@ module _ (contexts : List WasiSocketsCtx) where
               input = six.input;
               output = six.output;
               stage = subst (λ (st : Stage). StageIs contexts past.log st t) (sym stage_is) (six.peer_input, six.peer_output);
-              up = d.base.frame.flow_is;
-              down = d.flow_is;
+              up = beside_is past c t down.end pair.up.bytes up d.base.frame.flow_is;
+              down = beside_is past t c up.end pair.down.bytes down d.flow_is;
             };
             others = d.base.frame.others;
           }
 
       both_serve : (past : Past contexts) → Held past pair → Copies contexts (served_both peer pair next) past
       both_serve past h =
-          copies contexts c t apart (Frame pair peer t c pair.down) (keep_up pair peer) pair.client peer pair.up (λ up. (copied peer pair.client pair.down >>= λ down. give (with_flows up down pair)) next) past (from_held past h)
-          (λ up now d. copies contexts t c (λ e. apart (sym e)) (Frame pair peer c t up) (keep_down pair peer up) peer pair.client pair.down (λ down. next (with_flows up down pair)) now (turned_down up now d) (λ down last e. k (with_flows up down pair) last (to_held up down last e)))
+          copies contexts c t apart (Frame pair peer t c pair.down) (keep_up pair peer) pair.client peer pair.up (λ up. (copied peer pair.client pair.down >>= λ down. give (after_copies up down pair)) next) past (from_held past h)
+          (λ up now d. copies contexts t c (λ e. apart (sym e)) (Frame pair peer c t up) (keep_down pair peer up) peer pair.client pair.down (λ down. next (after_copies up down pair)) now (turned_down up now d) (λ down last e. k (after_copies up down pair) last (to_held up down last e)))
 
     -- == connecting
     breaks_both : (pair : Pair) (past : Past contexts) → Held past pair → Held past (both_broken pair)
