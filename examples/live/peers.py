@@ -431,15 +431,16 @@ def no_descriptor_is_left():
 
 
 class Relay:
-    """A run of `relay --live` to a listener of our own."""
+    """A run of `relay --live` to a listener of our own. `descriptors`: how many it may have."""
 
-    def __init__(self, connections):
+    def __init__(self, connections, descriptors=None):
         self.server = socket.create_server(("127.0.0.1", 0), backlog=64)
         self.server.settimeout(PATIENCE)
         self.port = free_port(socket.SOCK_STREAM)
         words = [self.port, self.server.getsockname()[1], connections]
+        few = None if descriptors is None else lambda: resource.setrlimit(resource.RLIMIT_NOFILE, (descriptors, descriptors))
         pipe = subprocess.PIPE
-        self.program = subprocess.Popen([*PROGRAM, "relay", "--live", *map(str, words)], stdout=pipe, stderr=pipe, text=True)
+        self.program = subprocess.Popen([*PROGRAM, "relay", "--live", *map(str, words)], stdout=pipe, stderr=pipe, text=True, preexec_fn=few)
 
     def __enter__(self):
         return self
@@ -544,6 +545,46 @@ def an_answer_before_a_reset():
     return same("an answer before a reset", (got == answer, status), (True, 0))
 
 
+def few_descriptors():
+    """Twelve clients at once, with descriptors for eight pairs; with one more, which an accept takes and no target gets; and
+    no client, with none for any pair. No target answers before all pairs are open that there can be."""
+    seen = []
+    for descriptors, count in ((20, 12), (21, 12), (4, 0)):
+        go = threading.Event()
+        with Relay(12, descriptors) as relay:
+
+            def answer(target, go=go):
+                data = target.recv(9)
+                go.wait(PATIENCE)
+                target.sendall(data.upper())
+                target.close()
+
+            def serve(server):
+                try:
+                    while True:
+                        beside(lambda target=server.accept()[0]: answer(target))
+                except OSError:
+                    pass
+
+            beside(lambda server=relay.server: serve(server))
+            clients = [relay.connect() for _ in range(count)]
+            answers = []
+            for client in clients:
+                client.sendall(b"hi")
+            time.sleep(1)
+            go.set()
+            for client in clients:
+                answers.append(seen_by(client))
+                client.close()
+            try:
+                lines, status, said = relay.end()
+                ended = (len(lines), status, said.splitlines()[:1])
+            except subprocess.TimeoutExpired as why:
+                ended = why
+            seen.append((answers.count(b"HI"), ended))
+    return same("few descriptors", seen, [(12, (12, 0, [])), (12, (12, 0, [])), (0, (0, 25, ["status 25"]))])
+
+
 TESTS = [
     the_two_scripts,
     connect_from_a_bound_port,
@@ -559,6 +600,7 @@ TESTS = [
     clients_that_reset,
     targets_that_reset,
     an_answer_before_a_reset,
+    few_descriptors,
 ]
 
 if __name__ == "__main__":

@@ -277,15 +277,55 @@ module _ (contexts : List WasiSocketsCtx) where
         by_stage (Connected peer) e = both_serve pair peer (λ after. over_at_end after next) e (λ after now i. over_ends after next now i k) past h
         by_stage Over e = k pair past h
 
-  -- == all pairs
-  pub record All (past : Past contexts) (pairs : List Pair) : Type 0 where
+  -- == an arrival that waits
+  -- Beside the network sockets of all pairs it is of another one, which told nothing yet, and nothing was let write to it.
+  pub record Alone (past : Past contexts) (client : Peer) (sides : List (OpId × OpId)) : Type 0 where
+    pub side : OpId
+    pub socket : IsTcp past.log client.socket side
+    pub input : IsSide past.log client.input side
+    pub output : IsSide past.log client.output side
+    pub away : Away side sides
+    pub told : told_in side past.log ≡ []
+    pub may : past.may side ≡ []
+
+  abbrev pub Aside : Past contexts → Option Peer → List (OpId × OpId) → Type 0
+  Aside past None sides = Unit {0}
+  Aside past (Some client) sides = Alone past client sides
+
+  aside_grows : (waiting : Option Peer) (sides : List (OpId × OpId)) (past now : Past contexts) {Told Let : OpId → Type 0} → Grows contexts past now Told Let → ((side : OpId) → Away side sides → Told side × Let side) → Aside past waiting sides → Aside now waiting sides
+  aside_grows None sides past now g k h = tt
+  aside_grows (Some client) sides past now g k h =
+      let both = k h.side h.away in
+      record {
+        side = h.side;
+        socket = tcp_grows contexts g client.socket h.side h.socket;
+        input = side_grows contexts g client.input h.side h.input;
+        output = side_grows contexts g client.output h.side h.output;
+        away = h.away;
+        told = g.told h.side both.0 ∙ h.told;
+        may = g.may h.side both.1 ∙ h.may;
+      }
+
+  -- == all pairs, and the arrival that waits
+  pub record All (past : Past contexts) (pairs : List Pair) (waiting : Option Peer) : Type 0 where
     pub sides : List (OpId × OpId)
     pub fresh : Fresh contexts past
     pub are : PairsAre contexts past pairs sides
     pub distinct : Distinct sides
+    pub aside : Aside past waiting sides
 
-  pub all_stays : (pairs : List Pair) (past now : Past contexts) → Grows contexts past now (Any contexts) (Any contexts) → All past pairs → All now pairs
-  all_stays pairs past now g h = record { sides = h.sides; fresh = fresh_grows contexts g (λ s n. (tt, tt)) h.fresh; are = pairs_stay contexts g pairs h.sides h.are; distinct = h.distinct }
+  pub all_stays : (pairs : List Pair) (waiting : Option Peer) (past now : Past contexts) → Grows contexts past now (Any contexts) (Any contexts) → All past pairs waiting → All now pairs waiting
+  all_stays pairs waiting past now g h = record {
+    sides = h.sides;
+    fresh = fresh_grows contexts g (λ s n. (tt, tt)) h.fresh;
+    are = pairs_stay contexts g pairs h.sides h.are;
+    distinct = h.distinct;
+    aside = aside_grows waiting h.sides past now g (λ s a. (tt, tt)) h.aside;
+  }
+
+  -- it waits no longer
+  pub none_waits : (pairs : List Pair) (waiting : Option Peer) (past : Past contexts) → All past pairs waiting → All past pairs None
+  none_waits pairs waiting past h = record { sides = h.sides; fresh = h.fresh; are = h.are; distinct = h.distinct; aside = tt }
 
   record Split (past : Past contexts) (done : List Pair) (pair : Pair) (pairs : List Pair) (sides : List (OpId × OpId)) : Type 0 where
     before : List (OpId × OpId)
@@ -308,17 +348,23 @@ module _ (contexts : List WasiSocketsCtx) where
   join past [] pairs (x ∷ before) behind a b = absurd a
   join past (d ∷ done) pairs [] behind a b = absurd a
 
-  abbrev Beside : List Pair → List Pair → List (OpId × OpId) → List (OpId × OpId) → Past contexts → Type 0
-  Beside done pairs before behind past = PairsAre contexts past done before × PairsAre contexts past pairs behind
+  -- what is known beside the pair in the middle
+  abbrev Beside : List Pair → List Pair → Option Peer → List (OpId × OpId) → OpId × OpId → List (OpId × OpId) → Past contexts → Type 0
+  Beside done pairs waiting before two behind past = PairsAre contexts past done before × PairsAre contexts past pairs behind × Aside past waiting (before ++ two ∷ behind)
 
-  keep_beside : (done pairs : List Pair) (before : List (OpId × OpId)) (two : OpId × OpId) (behind : List (OpId × OpId)) → Middle before two behind → (past now : Past contexts) → Grows contexts past now (Other contexts two.0 two.1) (Other contexts two.0 two.1) → Beside done pairs before behind past → Beside done pairs before behind now
-  keep_beside done pairs before two behind m past now g h = (pairs_grow contexts two.0 two.1 g done before m.first_before m.second_before h.0, pairs_grow contexts two.0 two.1 g pairs behind m.first_behind m.second_behind h.1)
+  other_side : (before : List (OpId × OpId)) (two : OpId × OpId) (behind : List (OpId × OpId)) (side : OpId) → Away side (before ++ two ∷ behind) → Other contexts two.0 two.1 side
+  other_side before two behind side a = let m = away_mid side before two behind a in (λ e. m.0 (sym e), λ e. m.1 (sym e))
 
-  pub serve_from : (done pairs : List Pair) (next : List Pair → Guest) (past : Past contexts) → All past (done ++ pairs) → ((all : List Pair) (now : Past contexts) → All now all → Copies contexts (next all) now) → Copies contexts (served_from done pairs next) past
-  serve_from done [] next past h k = k done past (subst (All past) (append-nil done) h)
-  serve_from done (pair ∷ pairs) next past h k =
+  keep_beside : (done pairs : List Pair) (waiting : Option Peer) (before : List (OpId × OpId)) (two : OpId × OpId) (behind : List (OpId × OpId)) → Middle before two behind → (past now : Past contexts) → Grows contexts past now (Other contexts two.0 two.1) (Other contexts two.0 two.1) → Beside done pairs waiting before two behind past → Beside done pairs waiting before two behind now
+  keep_beside done pairs waiting before two behind m past now g h =
+      (pairs_grow contexts two.0 two.1 g done before m.first_before m.second_before h.0, pairs_grow contexts two.0 two.1 g pairs behind m.first_behind m.second_behind h.1, aside_grows waiting (before ++ two ∷ behind) past now g (λ side a. let o = other_side before two behind side a in (o, o)) h.2)
+
+  pub serve_from : (done pairs : List Pair) (waiting : Option Peer) (next : List Pair → Guest) (past : Past contexts) → All past (done ++ pairs) waiting → ((all : List Pair) (now : Past contexts) → All now all waiting → Copies contexts (next all) now) → Copies contexts (served_from done pairs next) past
+  serve_from done [] waiting next past h k = k done past (subst (λ (ps : List Pair). All past ps waiting) (append-nil done) h)
+  serve_from done (pair ∷ pairs) waiting next past h k =
       let p = split past done pair pairs h.sides h.are in
       let d : Distinct (p.before ++ p.two ∷ p.behind) = subst Distinct p.cut h.distinct in
+      let w : Aside past waiting (p.before ++ p.two ∷ p.behind) = subst (Aside past waiting) p.cut h.aside in
       let m = middle p.before p.two p.behind d in
-      serve_one p.two.0 p.two.1 m.apart (Beside done pairs p.before p.behind) (keep_beside done pairs p.before p.two p.behind m) pair (λ after. served_from (done ++ after ∷ []) pairs next) past (record { fresh = h.fresh; pair_is = p.its; others = (p.done_are, p.are) })
-      (λ after now i. serve_from (done ++ after ∷ []) pairs next now (subst (All now) (sym (append_assoc done (after ∷ []) pairs)) (record { sides = p.before ++ p.two ∷ p.behind; fresh = i.fresh; are = join now done (after ∷ pairs) p.before (p.two ∷ p.behind) i.others.0 (i.pair_is, i.others.1); distinct = d })) k)
+      serve_one p.two.0 p.two.1 m.apart (Beside done pairs waiting p.before p.two p.behind) (keep_beside done pairs waiting p.before p.two p.behind m) pair (λ after. served_from (done ++ after ∷ []) pairs next) past (record { fresh = h.fresh; pair_is = p.its; others = (p.done_are, p.are, w) })
+      (λ after now i. serve_from (done ++ after ∷ []) pairs waiting next now (subst (λ (ps : List Pair). All now ps waiting) (sym (append_assoc done (after ∷ []) pairs)) (record { sides = p.before ++ p.two ∷ p.behind; fresh = i.fresh; are = join now done (after ∷ pairs) p.before (p.two ∷ p.behind) i.others.0 (i.pair_is, i.others.1); distinct = d; aside = i.others.2 })) k)
