@@ -1,6 +1,6 @@
 #!/usr/bin/env python3
-"""Runs `kaxtubor live` against peers in python3, over loopback addresses alone, and says what was seen. Each run is
-recorded, and `kaxtubor replay` replays it.
+"""Runs `kaxtubor live` and `kaxtubor relay --live` against peers in python3, over loopback addresses alone, and says what
+was seen. Each script's run is recorded, and `kaxtubor replay` replays it.
 
     examples/live/peers.py [PROGRAM..]     PROGRAM: the words that run the program; ./kaxtubor at the top without
 """
@@ -430,6 +430,161 @@ def no_descriptor_is_left():
     return same("no descriptor is left", counts, [("ok 10001\n", 0)] * 4)
 
 
+class Relay:
+    """A run of `relay --live` to a listener of our own. `descriptors`: how many it may have."""
+
+    def __init__(self, connections, descriptors=None):
+        self.server = socket.create_server(("127.0.0.1", 0), backlog=64)
+        self.server.settimeout(PATIENCE)
+        self.port = free_port(socket.SOCK_STREAM)
+        words = [self.port, self.server.getsockname()[1], connections]
+        few = None if descriptors is None else lambda: resource.setrlimit(resource.RLIMIT_NOFILE, (descriptors, descriptors))
+        pipe = subprocess.PIPE
+        self.program = subprocess.Popen([*PROGRAM, "relay", "--live", *map(str, words)], stdout=pipe, stderr=pipe, text=True, preexec_fn=few)
+
+    def __enter__(self):
+        return self
+
+    def __exit__(self, *cause):
+        self.server.close()
+        self.program.kill()
+        self.program.communicate()
+
+    def connect(self):
+        """Returns a client of the relay, which may have to begin to listen first."""
+        end = time.monotonic() + PATIENCE
+        while True:
+            try:
+                one = socket.create_connection(("127.0.0.1", self.port), timeout=PATIENCE)
+            except ConnectionRefusedError:
+                if time.monotonic() > end or self.program.poll() is not None:
+                    raise
+                time.sleep(0.01)
+            else:
+                one.settimeout(10)
+                return one
+
+    def pair(self):
+        """Returns a client and its target, which have talked."""
+        client = self.connect()
+        client.sendall(b"hi")
+        target, _ = self.server.accept()
+        target.settimeout(10)
+        heard = target.recv(9)
+        target.sendall(b"ok")
+        if (heard, client.recv(9)) != (b"hi", b"ok"):
+            raise SystemExit("the relay gave other bytes")
+        return client, target
+
+    def end(self):
+        """Returns the lines, the status and what was said."""
+        lines, said = self.program.communicate(timeout=10)
+        return lines.splitlines(), self.program.returncode, said
+
+
+def reset(one):
+    one.setsockopt(socket.SOL_SOCKET, socket.SO_LINGER, struct.pack("ii", 1, 0))
+    one.close()
+
+
+def seen_by(one):
+    """Returns what this socket reads, or why it reads nothing."""
+    try:
+        return one.recv(9)
+    except OSError as why:
+        return str(why)
+
+
+def resets_in_a_relay(name, which):
+    """In each of 16 pairs, which are as many as may be open, one side resets and the other waits. Then one more is served."""
+    with Relay(17) as relay:
+        pairs = [relay.pair() for _ in range(16)]
+        for pair in pairs:
+            reset(pair[which])
+        seen = set()
+        for pair in pairs:
+            if seen <= {b""}:
+                seen.add(seen_by(pair[1 - which]))
+        try:
+            client, target = relay.pair()
+            target.close()
+            seen.add(client.recv(9))
+            client.close()
+            ended = relay.end()
+        except (OSError, subprocess.TimeoutExpired) as why:
+            ended = why
+    lines = [f"pair {k} up broken 2 down broken 2" for k in range(1, 17)] + ["pair 17 up clean 2 down clean 2"]
+    return same(name, (seen, ended), ({b""}, (lines, 0, "")))
+
+
+def clients_that_reset():
+    return resets_in_a_relay("clients of a relay that reset", 0)
+
+
+def targets_that_reset():
+    return resets_in_a_relay("targets of a relay that reset", 1)
+
+
+def an_answer_before_a_reset():
+    """A target answers with more than one turn copies and closes, with bytes of its client unread: so it resets."""
+    answer = b"no" * 10000
+    with Relay(1) as relay:
+        client, target = relay.pair()
+        client.sendall(b"." * 100)
+        time.sleep(0.5)
+        target.sendall(answer)
+        target.close()
+        got = b""
+        try:
+            while data := client.recv(1 << 16):
+                got += data
+        except OSError as why:
+            got = why
+        client.close()
+        _, status, _ = relay.end()
+    return same("an answer before a reset", (got == answer, status), (True, 0))
+
+
+def few_descriptors():
+    """Twelve clients at once, with descriptors for eight pairs; with one more, which an accept takes and no target gets; and
+    no client, with none for any pair. No target answers before all pairs are open that there can be."""
+    seen = []
+    for descriptors, count in ((20, 12), (21, 12), (4, 0)):
+        go = threading.Event()
+        with Relay(12, descriptors) as relay:
+
+            def answer(target, go=go):
+                data = target.recv(9)
+                go.wait(PATIENCE)
+                target.sendall(data.upper())
+                target.close()
+
+            def serve(server):
+                try:
+                    while True:
+                        beside(lambda target=server.accept()[0]: answer(target))
+                except OSError:
+                    pass
+
+            beside(lambda server=relay.server: serve(server))
+            clients = [relay.connect() for _ in range(count)]
+            answers = []
+            for client in clients:
+                client.sendall(b"hi")
+            time.sleep(1)
+            go.set()
+            for client in clients:
+                answers.append(seen_by(client))
+                client.close()
+            try:
+                lines, status, said = relay.end()
+                ended = (len(lines), status, said.splitlines()[:1])
+            except subprocess.TimeoutExpired as why:
+                ended = why
+            seen.append((answers.count(b"HI"), ended))
+    return same("few descriptors", seen, [(12, (12, 0, [])), (12, (12, 0, [])), (0, (0, 25, ["status 25"]))])
+
+
 TESTS = [
     the_two_scripts,
     connect_from_a_bound_port,
@@ -442,6 +597,10 @@ TESTS = [
     rules_over_every_address,
     a_thousand_at_once,
     no_descriptor_is_left,
+    clients_that_reset,
+    targets_that_reset,
+    an_answer_before_a_reset,
+    few_descriptors,
 ]
 
 if __name__ == "__main__":

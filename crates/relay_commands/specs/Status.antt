@@ -7,7 +7,7 @@ use Rattle.wasi_program.specs.Status as program
 use Rattle.wasi_relay.specs.declared.service.RelayEnd.{RelayEnd}
 use Rattle.wasi_relay.specs.declared.service.RelayEnd.TheVariants as relay
 use Rattle.relay_commands.specs.declared.status.RelayStatus.{RelayStatus}
-use Rattle.relay_commands.specs.declared.status.RelayStatus.TheVariants.{Of, SetupRefused, Budget}
+use Rattle.relay_commands.specs.declared.status.RelayStatus.TheVariants.{Of, SetupRefused, Budget, Unserved}
 use Rattle.relay_commands.specs.declared.status.Unwritten.{Unwritten}
 use Rattle.relay_commands.specs.declared.status.Unwritten.TheVariants as unwritten
 
@@ -15,10 +15,12 @@ abbrev pub number_of : RelayStatus → ℕ
 number_of (Of s) = program.number_of s
 number_of SetupRefused = 18
 number_of Budget = 19
+number_of Unserved = 25
 
 -- how a relay's end is reported
 abbrev pub status_of : Result RelayEnd StepError → RelayStatus
 status_of (Ok relay.Served) = Of status.Ok
+status_of (Ok relay.Unserved) = Unserved
 status_of (Ok (relay.SetupRefused code)) = SetupRefused
 status_of (Ok relay.Budget) = Budget
 status_of (Err error.Memory) = Of status.Memory

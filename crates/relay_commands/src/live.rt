@@ -27,11 +27,13 @@ const TCP_CONTEXT: WasiSocketsCtx = WasiSocketsCtx {
 };
 
 /// How a relay over the system's sockets ended: with the code, where a call of its setup was
-/// refused.
+/// refused, and how many of how many connections had a pair.
 #[derive(Clone, Copy, Debug, PartialEq, Eq)]
 pub struct LiveEnd {
     pub status: RelayStatus,
     pub refused: Option<CodeWord>,
+    pub paired: usize,
+    pub ordered: u32,
 }
 
 /// The code of a setup that was refused.
@@ -62,10 +64,10 @@ pub fn relay_live<R: Net + Eprint + Clock, K: Sink>(
     sink: &mut K,
 ) -> LiveEnd {
     let Ok(world) = network(rt, alloc, &order) else {
-        return without_memory();
+        return without_memory(&order);
     };
     let Ok(contexts) = vec![in alloc; TCP_CONTEXT] else {
-        return without_memory();
+        return without_memory(&order);
     };
     let mut progress = Progress::new(rt, is_shown);
     let done = relay(alloc, world, contexts, order, &mut progress);
@@ -77,13 +79,17 @@ pub fn relay_live<R: Net + Eprint + Clock, K: Sink>(
     LiveEnd {
         status: status_after(end, written),
         refused: refused_with(end),
+        paired: pairs.len(),
+        ordered: order.connections,
     }
 }
 
 /// No relay began, for lack of memory.
-fn without_memory() -> LiveEnd {
+fn without_memory(order: &Order) -> LiveEnd {
     LiveEnd {
         status: RelayStatus::Of(Status::Memory),
         refused: None,
+        paired: 0,
+        ordered: order.connections,
     }
 }

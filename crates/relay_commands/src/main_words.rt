@@ -24,10 +24,10 @@ pub struct RelayMain<K> {
 /// port of 127.0.0.1, connects so many arrivals to the other port, and copies both ways, over the
 /// network that the scenario plans, in at most so many turns. Writes a line for each pair, in order
 /// of arrival: `pair K up WORD N down WORD N`, with what became of each direction and how many
-/// bytes were written. Other words are status 1, a refused call of the setup is status 18, and
-/// turns that ran out are status 19.
+/// bytes were written. Other words are status 1, a refused call of the setup is status 18, turns
+/// that ran out are status 19, and an arrival that had no pair is status 25.
 ///
-/// The words are tested first. A write that fails is status 6 before 18 and 19. Takes memory for
+/// The words are tested first. A write that fails is status 6 before 18, 19 and 25. Takes memory for
 /// the scenario, for its plan, for each pair and for what the relay takes.
 pub fn relay_main<C: Source, K: Sink>(
     alloc: Global,

@@ -40,6 +40,23 @@ fn end_at_budget<R: Eprint>(rt: &R, number: u8) -> ExitCode
     ExitCode::from(number)
 }
 
+/// Prints that not every connection had a pair, with how many of how many had one where that is
+/// known. Returns the status as the program's.
+fn end_unserved<R: Eprint>(rt: &R, number: u8, counts: Option<(usize, u32)>) -> ExitCode
+    ensures { exit_status result ≡ number }
+{
+    let printed = match counts {
+        Some((paired, ordered)) => eprintln!(rt;
+            "status {number}\nof {ordered} connections {paired} were relayed: the others weren't accepted, or had no socket for their target (see ulimit -n)"
+        ),
+        None => eprintln!(rt;
+            "status {number}\nnot all connections were relayed: some weren't accepted, or had no socket for their target"
+        ),
+    };
+    let _ = printed;
+    ExitCode::from(number)
+}
+
 /// Prints the status that a program that reads a scenario ends with, with the scenario's bad line.
 /// Returns the status as the program's.
 fn end_of_status<R: Eprint + Files>(rt: &R, number: u8, line: u32) -> ExitCode
@@ -62,6 +79,7 @@ pub fn end_of_relay<R: Eprint + Files>(rt: &R, number: u8, line: u32) -> ExitCod
     match number {
         18 => end_at_setup(rt, number, None),
         19 => end_at_budget(rt, number),
+        25 => end_unserved(rt, number, None),
         _ => end_of_status(rt, number, line),
     }
 }
@@ -75,5 +93,6 @@ pub fn end_of_live<R: Eprint>(rt: &R, ended: LiveEnd) -> ExitCode
         RelayStatus::Of(status) => end(rt, status, 0, None),
         RelayStatus::SetupRefused => end_at_setup(rt, number, ended.refused),
         RelayStatus::Budget => end_at_budget(rt, number),
+        RelayStatus::Unserved => end_unserved(rt, number, Some((ended.paired, ended.ordered))),
     }
 }

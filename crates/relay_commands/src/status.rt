@@ -16,6 +16,8 @@ pub enum RelayStatus {
     SetupRefused,
     /// All turns were made, or no further step could be.
     Budget,
+    /// Not every connection that was ordered had a pair.
+    Unserved,
 }
 
 /// Why the lines of pairs weren't all written.
@@ -36,6 +38,7 @@ impl RelayStatus {
             RelayStatus::Of(status) => status.number(),
             RelayStatus::SetupRefused => 18,
             RelayStatus::Budget => 19,
+            RelayStatus::Unserved => 25,
         }
     }
 }
@@ -46,6 +49,7 @@ fn status_of(end: Result<RelayEnd, StepError>) -> RelayStatus
 {
     match end {
         Ok(RelayEnd::Served) => RelayStatus::Of(Status::Ok),
+        Ok(RelayEnd::Unserved) => RelayStatus::Unserved,
         Ok(RelayEnd::SetupRefused(_)) => RelayStatus::SetupRefused,
         Ok(RelayEnd::Budget) => RelayStatus::Budget,
         Err(StepError::Memory) => RelayStatus::Of(Status::Memory),

@@ -1,6 +1,6 @@
 -- The steps that a relay's guest makes: of those that name an address, a bind to the one that it listens on, and a connect to its
 -- target.
-use Rattle.std.proofs.Common.{◌≡◌, ℕ, zero, suc, ◌==◌, refl, min, length, List, [], ◌∷◌, ◌++◌, Bool, true, false, if◌then◌else◌, Option, Some, None, Result, Ok, Err}
+use Rattle.std.proofs.Common.{◌≡◌, ℕ, zero, suc, ◌+◌, ◌==◌, refl, min, length, List, [], ◌∷◌, ◌++◌, Bool, true, false, if◌then◌else◌, Option, Some, None, Result, Ok, Err}
 use Rattle.wasi_steps.specs.declared.guest_call.GuestCall.{GuestCall}
 use Rattle.wasi_steps.specs.declared.guest_call.GuestCall.TheVariants as guest
 use Rattle.wasi_steps.specs.declared.guest_call.TcpCall.TheVariants as tcp_call
@@ -9,27 +9,25 @@ use Rattle.wasi_steps.specs.declared.guest_call.StreamCall.TheVariants as stream
 use Rattle.wasi_steps.specs.declared.guest_call.P3TcpCall.TheVariants as p3_tcp_call
 use Rattle.wasi_steps.specs.declared.step.Step.{Step}
 use Rattle.wasi_steps.specs.declared.step.Step.TheVariants.{Call}
-use Rattle.wasi_steps.specs.declared.reply.CodeWord.TheVariants.{WouldBlock}
 use Rattle.wasi_steps.specs.declared.reply.Reply.{Reply}
 use Rattle.wasi_steps.specs.declared.reply.Reply.TheVariants as replied
 use Rattle.wasi_relay.specs.declared.order.Order.{Order}
 use Rattle.wasi_relay.specs.declared.setup.Listener.{Listener}
 use Rattle.wasi_relay.specs.declared.service.RelayEnd.{RelayEnd}
-use Rattle.wasi_relay.specs.declared.service.RelayEnd.TheVariants.{Served}
 use Rattle.wasi_relay.specs.declared.pair.Flow.{Flow}
 use Rattle.wasi_relay.specs.declared.pair.Peer.{Peer}
 use Rattle.wasi_relay.specs.declared.pair.Stage.{Stage}
 use Rattle.wasi_relay.specs.declared.pair.Stage.TheVariants.{Connecting, Connected, Over}
 use Rattle.wasi_relay.specs.declared.pair.Pair.{Pair}
-use Rattle.wasi_relay.specs.Guest.{Guest, Do, Ends, Part, one, call, give, ◌>>=◌, Leads, IsNext, Begins}
+use Rattle.wasi_relay.specs.Guest.{Guest, Do, Ends, Part, one, call, give, ◌>>=◌, ◌>>◌, Leads, IsNext, Begins}
 use Rattle.wasi_relay.specs.Order.{family_of}
 use Rattle.wasi_relay.specs.Pair.{is_open, has_open, peer_of}
 use Rattle.wasi_relay.specs.Replies.{number_at, bytes_at}
 use Rattle.wasi_relay.specs.Copying.{broken, after_write, copy_bytes, after_read, within, after_check, copied}
-use Rattle.wasi_relay.specs.Serving.{after_connect, served_both, closed_with, over, over_at_end, served_at, served_from}
+use Rattle.wasi_relay.specs.Serving.{after_connect, served_both, closed, closed_with, over, over_at_end, served_at, served_from}
 use Rattle.wasi_relay.specs.Setup.{Settled, polled, after_poll, after_call, settled, or_end, setup}
 use Rattle.wasi_relay.specs.Setup.{◌>>=◌ as ◌>>>=◌}
-use Rattle.wasi_relay.specs.Turns.{Course, finish, after_create, after_accept, accepted, may_accept, turned, is_served, rounds}
+use Rattle.wasi_relay.specs.Turns.{Course, finish, may_wait, with_pairs, with_waiting, with_taken, unpaired, after_create, paired, after_accept, accepted_beside, accepted, may_accept, turned, is_served, served_end, rounds}
 use Rattle.wasi_relay.specs.RelaySteps.{after_setup, relay_guest, no_course, at_end}
 
 abbrev pub MayMake : Order → Step → Type 0
@@ -123,19 +121,30 @@ module _ (order : Order) where
   from_makes done (pair ∷ pairs) next h = at_makes pair.stage pair _ (λ after. from_makes (done ++ after ∷ []) pairs next h)
 
   -- == turns
-  create_makes : (listener : Listener) (client : Peer) (pairs : List Pair) (reply : Reply) → PartMakes order (after_create order listener client pairs reply)
-  create_makes listener client pairs (replied.Ok fields) next h = (refl, λ reply. h _)
-  create_makes listener client pairs _ next h = (tt, λ a. (tt, λ b. (tt, λ d. (tt, λ reply. h _))))
+  unpaired_makes : (client : Peer) (at : Course) (reply : Reply) → PartMakes order (unpaired client at reply)
+  unpaired_makes client at reply =
+      choice (may_wait at reply) (give (with_waiting client at)) (closed client >> give (with_pairs at.pairs at)) (gives (with_waiting client at))
+      (λ next h. (tt, λ a. (tt, λ b. (tt, λ d. (tt, λ r. h _)))))
+
+  create_makes : (listener : Listener) (client : Peer) (at : Course) (reply : Reply) → PartMakes order (after_create order listener client at reply)
+  create_makes listener client at (replied.Ok fields) next h = (refl, λ reply. h _)
+  create_makes listener client at reply next h = unpaired_makes client at reply next h
+
+  pair_makes : (listener : Listener) (client : Peer) (at : Course) → PartMakes order (paired order listener client at)
+  pair_makes listener client at next h = (tt, λ reply. create_makes listener client at reply next h)
 
   accept_makes : (listener : Listener) (at : Course) (reply : Reply) → PartMakes order (after_accept order listener at reply)
-  accept_makes listener at (replied.Ok fields) next h = (tt, λ reply. create_makes listener _ at.pairs reply _ (λ pairs. h _))
-  accept_makes listener at (replied.Err WouldBlock) next h = h at
-  accept_makes listener at _ next h = h _
+  accept_makes listener at (replied.Ok fields) next h = pair_makes listener _ (with_taken (at.taken + 1) at) next h
+  accept_makes listener at reply next h = h _
 
-  accepted_makes : (listener : Listener) (at : Course) → PartMakes order (accepted order listener at)
-  accepted_makes listener at =
+  beside_makes : (waiting : Option Peer) (listener : Listener) (at : Course) → PartMakes order (accepted_beside waiting order listener at)
+  beside_makes (Some client) listener at = pair_makes listener client at
+  beside_makes None listener at =
       choice (may_accept order at) (call (guest.Tcp (tcp_call.Accept listener.socket)) >>= after_accept order listener at) (give at)
       (both (call (guest.Tcp (tcp_call.Accept listener.socket))) (after_accept order listener at) (makes (Call 0 (guest.Tcp (tcp_call.Accept listener.socket))) tt) (accept_makes listener at)) (gives at)
+
+  accepted_makes : (listener : Listener) (at : Course) → PartMakes order (accepted order listener at)
+  accepted_makes listener at = beside_makes at.waiting listener at
 
   turn_makes : (listener : Listener) (at : Course) → PartMakes order (turned order listener at)
   turn_makes listener at next h = (tt, λ reply. accepted_makes listener at _ (λ new. from_makes [] new.pairs _ (λ pairs. h _)))
@@ -143,7 +152,7 @@ module _ (order : Order) where
   rounds_make : (listener : Listener) (left : ℕ) (at : Course) → PartMakes order (rounds order listener left at)
   rounds_make listener zero at next h = h _
   rounds_make listener (suc left) at next h =
-      choice (is_served order at) (give (finish Served at)) (turned order listener at >>= rounds order listener left) (gives (finish Served at)) (λ n k. turn_makes listener at _ (λ new. rounds_make listener left new n k)) next h
+      choice (is_served order at) (give (finish (served_end order at) at)) (turned order listener at >>= rounds order listener left) (gives (finish (served_end order at) at)) (λ n k. turn_makes listener at _ (λ new. rounds_make listener left new n k)) next h
 
   -- == setup
   again_makes : (again : Part (Result Settled RelayEnd)) (left : ℕ) (reply : Reply) → PartMakes order again → PartMakes order (after_poll again left reply)

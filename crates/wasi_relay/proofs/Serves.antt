@@ -26,10 +26,10 @@ use Rattle.wasi_relay.specs.declared.pair.Peer.{Peer}
 use Rattle.wasi_relay.specs.declared.pair.Stage.{Stage}
 use Rattle.wasi_relay.specs.declared.pair.Stage.TheVariants.{Connecting, Connected, Over}
 use Rattle.wasi_relay.specs.Guest.{Guest, Do, call, give, ◌>>=◌, ◌>>◌}
-use Rattle.wasi_relay.specs.Pair.{at_stage, has_open, peer_of, with_flows}
+use Rattle.wasi_relay.specs.Pair.{at_stage, beside, breaks_beside, ended_as, has_open, peer_of, with_flows}
 use Rattle.wasi_relay.specs.Replies.{handle_at}
 use Rattle.wasi_relay.specs.Copying.{copied}
-use Rattle.wasi_relay.specs.Serving.{after_connect, both_broken, closed, closed_with, drop_all, over, over_at_end, served, served_at, served_both, served_from, shut_down}
+use Rattle.wasi_relay.specs.Serving.{after_connect, after_copies, both_broken, closed, closed_with, drop_all, over, over_at_end, served, served_at, served_both, served_from, shut_down}
 use Rattle.wasi_relay.proofs.Past.{Copies, Goes, Past, Replies, push}
 use Rattle.wasi_relay.proofs.Grown.{Any, Away, Distinct, FlowAt, FlowIs, Fresh, Grows, IsTcp, Other, PairIs, PairsAre, StageIs, flow_grows, fresh_grows, pair_grows, pairs_grow, pairs_stay, side_grows, tcp_grows}
 use Rattle.wasi_relay.proofs.Copies.{Dir, IsQuiet, copies, quiet_grows, quietly}
@@ -91,6 +91,14 @@ module _ (contexts : List WasiSocketsCtx) where
         still (Call 0 (guest.Tcp (tcp_call.Shutdown client.socket Both))) tt (λ a. (shut_down target >> (drop_all client >> drop_all target)) next) past h (λ r now i.
         still (Call 0 (guest.Tcp (tcp_call.Shutdown target.socket Both))) tt (λ a. (drop_all client >> drop_all target) next) now i (λ q then_ j.
         drops client (λ a. drop_all target next) then_ j (λ p last l. drops target next last l k)))
+
+  -- so is one that breaks beside another
+  beside_is : (past : Past contexts) (from to : OpId) (other : DirEnd) (before : ℕ) (flow : Flow) → FlowIs contexts past from to flow → FlowIs contexts past from to (beside other before flow)
+  beside_is past from to other before flow h = by_test (breaks_beside other before flow)
+    where
+      by_test : (b : Bool) → FlowIs contexts past from to (if b then ended_as Broken flow else flow)
+      by_test true = broken_at flow.end (told_in from past.log) (past.may to) (taken_in to past.log) flow.bytes h
+      by_test false = h
 
   -- where nothing more was told or let write, none was to some
   fewer : {past now : Past contexts} {Told Let : OpId → Type 0} → Grows contexts past now (Any contexts) (Any contexts) → Grows contexts past now Told Let
@@ -191,7 +199,7 @@ module _ (contexts : List WasiSocketsCtx) where
             flow_is = d.base.frame.flow_is;
           }
 
-      to_held : (up down : Flow) (past : Past contexts) → Dir contexts t c (λ e. apart (sym e)) (Frame pair peer c t up) (keep_down pair peer up) peer pair.client past down → Held past (with_flows up down pair)
+      to_held : (up down : Flow) (past : Past contexts) → Dir contexts t c (λ e. apart (sym e)) (Frame pair peer c t up) (keep_down pair peer up) peer pair.client past down → Held past (after_copies up down pair)
       to_held up down past d =
           let six = d.base.frame.six in
           record {
@@ -202,16 +210,16 @@ module _ (contexts : List WasiSocketsCtx) where
               input = six.input;
               output = six.output;
               stage = subst (λ (st : Stage). StageIs contexts past.log st t) (sym stage_is) (six.peer_input, six.peer_output);
-              up = d.base.frame.flow_is;
-              down = d.flow_is;
+              up = beside_is past c t down.end pair.up.bytes up d.base.frame.flow_is;
+              down = beside_is past t c up.end pair.down.bytes down d.flow_is;
             };
             others = d.base.frame.others;
           }
 
       both_serve : (past : Past contexts) → Held past pair → Copies contexts (served_both peer pair next) past
       both_serve past h =
-          copies contexts c t apart (Frame pair peer t c pair.down) (keep_up pair peer) pair.client peer pair.up (λ up. (copied peer pair.client pair.down >>= λ down. give (with_flows up down pair)) next) past (from_held past h)
-          (λ up now d. copies contexts t c (λ e. apart (sym e)) (Frame pair peer c t up) (keep_down pair peer up) peer pair.client pair.down (λ down. next (with_flows up down pair)) now (turned_down up now d) (λ down last e. k (with_flows up down pair) last (to_held up down last e)))
+          copies contexts c t apart (Frame pair peer t c pair.down) (keep_up pair peer) pair.client peer pair.up (λ up. (copied peer pair.client pair.down >>= λ down. give (after_copies up down pair)) next) past (from_held past h)
+          (λ up now d. copies contexts t c (λ e. apart (sym e)) (Frame pair peer c t up) (keep_down pair peer up) peer pair.client pair.down (λ down. next (after_copies up down pair)) now (turned_down up now d) (λ down last e. k (after_copies up down pair) last (to_held up down last e)))
 
     -- == connecting
     breaks_both : (pair : Pair) (past : Past contexts) → Held past pair → Held past (both_broken pair)
@@ -271,15 +279,55 @@ module _ (contexts : List WasiSocketsCtx) where
         by_stage (Connected peer) e = both_serve pair peer (λ after. over_at_end after next) e (λ after now i. over_ends after next now i k) past h
         by_stage Over e = k pair past h
 
-  -- == all pairs
-  pub record All (past : Past contexts) (pairs : List Pair) : Type 0 where
+  -- == an arrival that waits
+  -- Beside the network sockets of all pairs it is of another one, which told nothing yet, and nothing was let write to it.
+  pub record Alone (past : Past contexts) (client : Peer) (sides : List (OpId × OpId)) : Type 0 where
+    pub side : OpId
+    pub socket : IsTcp past.log client.socket side
+    pub input : IsSide past.log client.input side
+    pub output : IsSide past.log client.output side
+    pub away : Away side sides
+    pub told : told_in side past.log ≡ []
+    pub may : past.may side ≡ []
+
+  abbrev pub Aside : Past contexts → Option Peer → List (OpId × OpId) → Type 0
+  Aside past None sides = Unit {0}
+  Aside past (Some client) sides = Alone past client sides
+
+  aside_grows : (waiting : Option Peer) (sides : List (OpId × OpId)) (past now : Past contexts) {Told Let : OpId → Type 0} → Grows contexts past now Told Let → ((side : OpId) → Away side sides → Told side × Let side) → Aside past waiting sides → Aside now waiting sides
+  aside_grows None sides past now g k h = tt
+  aside_grows (Some client) sides past now g k h =
+      let both = k h.side h.away in
+      record {
+        side = h.side;
+        socket = tcp_grows contexts g client.socket h.side h.socket;
+        input = side_grows contexts g client.input h.side h.input;
+        output = side_grows contexts g client.output h.side h.output;
+        away = h.away;
+        told = g.told h.side both.0 ∙ h.told;
+        may = g.may h.side both.1 ∙ h.may;
+      }
+
+  -- == all pairs, and the arrival that waits
+  pub record All (past : Past contexts) (pairs : List Pair) (waiting : Option Peer) : Type 0 where
     pub sides : List (OpId × OpId)
     pub fresh : Fresh contexts past
     pub are : PairsAre contexts past pairs sides
     pub distinct : Distinct sides
+    pub aside : Aside past waiting sides
 
-  pub all_stays : (pairs : List Pair) (past now : Past contexts) → Grows contexts past now (Any contexts) (Any contexts) → All past pairs → All now pairs
-  all_stays pairs past now g h = record { sides = h.sides; fresh = fresh_grows contexts g (λ s n. (tt, tt)) h.fresh; are = pairs_stay contexts g pairs h.sides h.are; distinct = h.distinct }
+  pub all_stays : (pairs : List Pair) (waiting : Option Peer) (past now : Past contexts) → Grows contexts past now (Any contexts) (Any contexts) → All past pairs waiting → All now pairs waiting
+  all_stays pairs waiting past now g h = record {
+    sides = h.sides;
+    fresh = fresh_grows contexts g (λ s n. (tt, tt)) h.fresh;
+    are = pairs_stay contexts g pairs h.sides h.are;
+    distinct = h.distinct;
+    aside = aside_grows waiting h.sides past now g (λ s a. (tt, tt)) h.aside;
+  }
+
+  -- it waits no longer
+  pub none_waits : (pairs : List Pair) (waiting : Option Peer) (past : Past contexts) → All past pairs waiting → All past pairs None
+  none_waits pairs waiting past h = record { sides = h.sides; fresh = h.fresh; are = h.are; distinct = h.distinct; aside = tt }
 
   record Split (past : Past contexts) (done : List Pair) (pair : Pair) (pairs : List Pair) (sides : List (OpId × OpId)) : Type 0 where
     before : List (OpId × OpId)
@@ -302,17 +350,23 @@ module _ (contexts : List WasiSocketsCtx) where
   join past [] pairs (x ∷ before) behind a b = absurd a
   join past (d ∷ done) pairs [] behind a b = absurd a
 
-  abbrev Beside : List Pair → List Pair → List (OpId × OpId) → List (OpId × OpId) → Past contexts → Type 0
-  Beside done pairs before behind past = PairsAre contexts past done before × PairsAre contexts past pairs behind
+  -- what is known beside the pair in the middle
+  abbrev Beside : List Pair → List Pair → Option Peer → List (OpId × OpId) → OpId × OpId → List (OpId × OpId) → Past contexts → Type 0
+  Beside done pairs waiting before two behind past = PairsAre contexts past done before × PairsAre contexts past pairs behind × Aside past waiting (before ++ two ∷ behind)
 
-  keep_beside : (done pairs : List Pair) (before : List (OpId × OpId)) (two : OpId × OpId) (behind : List (OpId × OpId)) → Middle before two behind → (past now : Past contexts) → Grows contexts past now (Other contexts two.0 two.1) (Other contexts two.0 two.1) → Beside done pairs before behind past → Beside done pairs before behind now
-  keep_beside done pairs before two behind m past now g h = (pairs_grow contexts two.0 two.1 g done before m.first_before m.second_before h.0, pairs_grow contexts two.0 two.1 g pairs behind m.first_behind m.second_behind h.1)
+  other_side : (before : List (OpId × OpId)) (two : OpId × OpId) (behind : List (OpId × OpId)) (side : OpId) → Away side (before ++ two ∷ behind) → Other contexts two.0 two.1 side
+  other_side before two behind side a = let m = away_mid side before two behind a in (λ e. m.0 (sym e), λ e. m.1 (sym e))
 
-  pub serve_from : (done pairs : List Pair) (next : List Pair → Guest) (past : Past contexts) → All past (done ++ pairs) → ((all : List Pair) (now : Past contexts) → All now all → Copies contexts (next all) now) → Copies contexts (served_from done pairs next) past
-  serve_from done [] next past h k = k done past (subst (All past) (append-nil done) h)
-  serve_from done (pair ∷ pairs) next past h k =
+  keep_beside : (done pairs : List Pair) (waiting : Option Peer) (before : List (OpId × OpId)) (two : OpId × OpId) (behind : List (OpId × OpId)) → Middle before two behind → (past now : Past contexts) → Grows contexts past now (Other contexts two.0 two.1) (Other contexts two.0 two.1) → Beside done pairs waiting before two behind past → Beside done pairs waiting before two behind now
+  keep_beside done pairs waiting before two behind m past now g h =
+      (pairs_grow contexts two.0 two.1 g done before m.first_before m.second_before h.0, pairs_grow contexts two.0 two.1 g pairs behind m.first_behind m.second_behind h.1, aside_grows waiting (before ++ two ∷ behind) past now g (λ side a. let o = other_side before two behind side a in (o, o)) h.2)
+
+  pub serve_from : (done pairs : List Pair) (waiting : Option Peer) (next : List Pair → Guest) (past : Past contexts) → All past (done ++ pairs) waiting → ((all : List Pair) (now : Past contexts) → All now all waiting → Copies contexts (next all) now) → Copies contexts (served_from done pairs next) past
+  serve_from done [] waiting next past h k = k done past (subst (λ (ps : List Pair). All past ps waiting) (append-nil done) h)
+  serve_from done (pair ∷ pairs) waiting next past h k =
       let p = split past done pair pairs h.sides h.are in
       let d : Distinct (p.before ++ p.two ∷ p.behind) = subst Distinct p.cut h.distinct in
+      let w : Aside past waiting (p.before ++ p.two ∷ p.behind) = subst (Aside past waiting) p.cut h.aside in
       let m = middle p.before p.two p.behind d in
-      serve_one p.two.0 p.two.1 m.apart (Beside done pairs p.before p.behind) (keep_beside done pairs p.before p.two p.behind m) pair (λ after. served_from (done ++ after ∷ []) pairs next) past (record { fresh = h.fresh; pair_is = p.its; others = (p.done_are, p.are) })
-      (λ after now i. serve_from (done ++ after ∷ []) pairs next now (subst (All now) (sym (append_assoc done (after ∷ []) pairs)) (record { sides = p.before ++ p.two ∷ p.behind; fresh = i.fresh; are = join now done (after ∷ pairs) p.before (p.two ∷ p.behind) i.others.0 (i.pair_is, i.others.1); distinct = d })) k)
+      serve_one p.two.0 p.two.1 m.apart (Beside done pairs waiting p.before p.two p.behind) (keep_beside done pairs waiting p.before p.two p.behind m) pair (λ after. served_from (done ++ after ∷ []) pairs next) past (record { fresh = h.fresh; pair_is = p.its; others = (p.done_are, p.are, w) })
+      (λ after now i. serve_from (done ++ after ∷ []) pairs waiting next now (subst (λ (ps : List Pair). All now ps waiting) (sym (append_assoc done (after ∷ []) pairs)) (record { sides = p.before ++ p.two ∷ p.behind; fresh = i.fresh; are = join now done (after ∷ pairs) p.before (p.two ∷ p.behind) i.others.0 (i.pair_is, i.others.1); distinct = d; aside = i.others.2 })) k)

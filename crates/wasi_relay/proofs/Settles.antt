@@ -241,7 +241,7 @@ module _ (contexts : List WasiSocketsCtx) where
 
     -- == the guest
     by_setup : (given : Result Listener RelayEnd) (now : Past contexts) → Calm now → Copies contexts (after_setup order given at_end) now
-    by_setup (Ok listener) now h = rounds_copy contexts order listener listener.turns no_course at_end now (record { sides = []; fresh = λ side n. (h.told side, h.may side); are = tt; distinct = tt }) (λ done last all. all_copied contexts last done.pairs all.sides all.are)
+    by_setup (Ok listener) now h = rounds_copy contexts order listener listener.turns no_course at_end now (record { sides = []; fresh = λ side n. (h.told side, h.may side); are = tt; distinct = tt; aside = tt }) (λ done last all. all_copied contexts last done.pairs all.sides all.are)
     by_setup (Err end) now h = tt
 
     guest_copies : Copies contexts (relay_guest order) (nothing_done contexts)

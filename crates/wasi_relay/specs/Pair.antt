@@ -1,5 +1,5 @@
 -- Pairs of an arrival and a target.
-use Rattle.std.specs.Prelude.{ℕ, ◌+◌, ◌-◌, ◌^◌, ◌||◌, not, min, Bool, true, false, List, count_by, Option, Some, None}
+use Rattle.std.specs.Prelude.{ℕ, ◌+◌, ◌-◌, ◌^◌, ◌==◌, ◌&&◌, ◌||◌, if◌then◌else◌, not, min, Bool, true, false, List, count_by, Option, Some, None}
 use Rattle.wasi_relay.specs.declared.pair.DirEnd.{DirEnd}
 use Rattle.wasi_relay.specs.declared.pair.DirEnd.TheVariants.{Open, Clean, Broken}
 use Rattle.wasi_relay.specs.declared.pair.Flow.{Flow}
@@ -12,6 +12,11 @@ abbrev pub is_open : DirEnd → Bool
 is_open Open = true
 is_open Clean = false
 is_open Broken = false
+
+abbrev pub is_broken : DirEnd → Bool
+is_broken Open = false
+is_broken Clean = false
+is_broken Broken = true
 
 abbrev pub stage_is_over : Stage → Bool
 stage_is_over Over = true
@@ -40,6 +45,13 @@ first_flow = record { end = Open; bytes = 0 }
 
 abbrev pub ended_as : DirEnd → Flow → Flow
 ended_as end flow = record { end = end; bytes = flow.bytes }
+
+-- beside a direction with this end, one that is open and has written no more than so many bytes breaks where that one broke
+abbrev pub breaks_beside : DirEnd → ℕ → Flow → Bool
+breaks_beside other before flow = (is_broken other && is_open flow.end) && (flow.bytes == before)
+
+abbrev pub beside : DirEnd → ℕ → Flow → Flow
+beside other before flow = if breaks_beside other before flow then ended_as Broken flow else flow
 
 abbrev pub written_more : ℕ → Flow → Flow
 written_more count flow = record { end = flow.end; bytes = min (flow.bytes + count) (2 ^ 64 - 1) }

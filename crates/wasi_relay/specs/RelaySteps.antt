@@ -1,5 +1,5 @@
 -- What a relay does, whole.
-use Rattle.std.specs.Prelude.{◌≡◌, [], List, Some, IfSome, Result, Ok, Err}
+use Rattle.std.specs.Prelude.{◌≡◌, [], List, Some, None, IfSome, Result, Ok, Err}
 use Rattle.wasi_world.specs.declared.call.Entry.{Entry}
 use Rattle.wasi_world.specs.declared.outcome.WasiSocketsCtx.{WasiSocketsCtx}
 use Rattle.wasi_world.specs.Seen.{Seen}
@@ -20,7 +20,7 @@ use Rattle.wasi_relay.specs.Turns.{Course, Finish, finish, rounds}
 
 -- before the first turn
 abbrev pub no_course : Course
-no_course = record { taken = 0; pairs = [] }
+no_course = record { taken = 0; pairs = []; waiting = None }
 
 abbrev pub after_setup : Order → Result Listener RelayEnd → Part Finish
 after_setup order (Ok listener) = rounds order listener listener.turns no_course

@@ -13,7 +13,7 @@ use Rattle.wasi_relay.specs.declared.pair.Stage.{Stage}
 use Rattle.wasi_relay.specs.declared.pair.Stage.TheVariants.{Connecting, Connected, Over}
 use Rattle.wasi_relay.specs.declared.pair.Pair.{Pair}
 use Rattle.wasi_relay.specs.Guest.{Part, give, call, ◌>>=◌, ◌>>◌}
-use Rattle.wasi_relay.specs.Pair.{peer_of, has_open, ended_as, at_stage, with_flows}
+use Rattle.wasi_relay.specs.Pair.{peer_of, has_open, ended_as, beside, at_stage, with_flows}
 use Rattle.wasi_relay.specs.Replies.{handle_at}
 use Rattle.wasi_relay.specs.Copying.{copied}
 
@@ -32,11 +32,15 @@ connected pair = do
   give (after_connect pair reply)
 
 -- == a pair that is connected: up, then down
+-- the pair after a turn's copying; beside a direction that broke, the other one ends in the first turn in which it writes nothing
+abbrev pub after_copies : Flow → Flow → Pair → Pair
+after_copies up down pair = with_flows (beside down.end pair.up.bytes up) (beside up.end pair.down.bytes down) pair
+
 abbrev pub served_both : Peer → Pair → Part Pair
 served_both target pair = do
   up ← copied pair.client target pair.up
   down ← copied target pair.client pair.down
-  give (with_flows up down pair)
+  give (after_copies up down pair)
 
 -- == the end of a pair
 abbrev pub shut_down : Peer → Part Reply

@@ -2,7 +2,7 @@
 
 ghost use Rattle.std.specs.Prelude.{◌≡◌};
 ghost use Rattle.wasi_relay.specs.Went.{Went};
-ghost use Rattle.wasi_relay.specs.Pair.{ended_as, written_more};
+ghost use Rattle.wasi_relay.specs.Pair.{breaks_beside, beside, ended_as, written_more};
 ghost use Rattle.wasi_relay.specs.Copying.{copied, after_check, within, after_read};
 ghost use Rattle.wasi_relay.specs.Copying.{copy_bytes, after_write, broken};
 
@@ -25,6 +25,24 @@ impl Flow {
             end,
             bytes: self.bytes,
         }
+    }
+
+    /// Whether it breaks beside another with this end: where that one broke, if it is open and has
+    /// written no more than so many bytes.
+    fn breaks_beside(self, other: DirEnd, before: u64) -> bool
+        ensures { result ≡ breaks_beside other before self }
+    {
+        other.is_broken() && self.end.is_open() && self.bytes == before
+    }
+
+    /// The direction beside another with this end, after it had written so many bytes.
+    pub(crate) fn beside(self, other: DirEnd, before: u64) -> Flow
+        ensures { result ≡ beside other before self }
+    {
+        if self.breaks_beside(other, before) {
+            return self.ended_as(DirEnd::Broken);
+        }
+        self
     }
 
     /// The direction, after so many more bytes were written.

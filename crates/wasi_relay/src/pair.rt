@@ -1,7 +1,7 @@
 //! An arrival and the target that it is connected to.
 
 ghost use Rattle.std.specs.Prelude.{◌≡◌};
-ghost use Rattle.wasi_relay.specs.Pair.{is_open, is_over, has_open, peer_of};
+ghost use Rattle.wasi_relay.specs.Pair.{is_open, is_broken, is_over, has_open, peer_of};
 ghost use Rattle.wasi_relay.specs.Pair.{first_flow, first_pair};
 
 use wasi_world::Handle;
@@ -66,6 +66,16 @@ impl DirEnd {
         match self {
             DirEnd::Open => true,
             DirEnd::Clean | DirEnd::Broken => false,
+        }
+    }
+
+    /// Whether a stream broke.
+    pub(crate) fn is_broken(self) -> bool
+        ensures { result ≡ is_broken self }
+    {
+        match self {
+            DirEnd::Broken => true,
+            DirEnd::Open | DirEnd::Clean => false,
         }
     }
 }

@@ -20,8 +20,11 @@ use wasi_world::{WasiSocketsCtx, World};
 /// How a relay ends.
 #[derive(Clone, Copy, Debug, PartialEq, Eq)]
 pub enum RelayEnd {
-    /// All arrivals that were ordered are over.
+    /// All arrivals that were ordered are over, and each had a pair.
     Served,
+    /// All arrivals are over that could be taken, of which some had no pair; or no descriptor or
+    /// memory was left to take one, while no pair was open that would give some back.
+    Unserved,
     /// All turns that were ordered were made.
     Budget,
     /// A call of the setup was refused with this code.
@@ -60,6 +63,7 @@ pub fn relay<W: World, I: Idle<W>>(
     let mut at = Progress {
         taken: 0,
         pairs: PairList::new(alloc),
+        waiting: None,
     };
     let end = serve(alloc, &mut session, order, &mut at, idle);
     Relayed {

@@ -5,13 +5,13 @@ ghost use Rattle.wasi_relay.specs.Went.{Went, given};
 ghost use Rattle.wasi_relay.specs.Pair.{at_stage, with_flows};
 ghost use Rattle.wasi_relay.specs.OpenPairs.{is_open_at, open_places};
 ghost use Rattle.wasi_relay.specs.Serving.{served, served_both, served_each, connected};
-ghost use Rattle.wasi_relay.specs.Serving.{after_connect, both_broken};
+ghost use Rattle.wasi_relay.specs.Serving.{after_connect, after_copies, both_broken};
 ghost use Rattle.wasi_relay.specs.Serving.{over, over_at_end, closed, closed_with};
 ghost use Rattle.wasi_relay.specs.Serving.{closed_both, shut_down, drop_all};
 
 use crate::calls::{call, handle_at};
 use crate::copying::copy;
-use crate::pair::{DirEnd, Pair, Peer, Stage};
+use crate::pair::{DirEnd, Flow, Pair, Peer, Stage};
 use std::alloc::Global;
 use wasi_addr::ShutdownType;
 use wasi_session::{GuestCall, PollableCall, Reply, Session, StepError, TcpCall};
@@ -42,6 +42,19 @@ impl Pair {
             stage: self.stage,
             up: self.up.ended_as(DirEnd::Broken),
             down: self.down.ended_as(DirEnd::Broken),
+        }
+    }
+
+    /// The pair after a turn's copying.
+    fn after_copies(self, up: Flow, down: Flow) -> Pair
+        ensures { result ≡ after_copies up down self }
+    {
+        Pair {
+            client: self.client,
+            target: self.target,
+            stage: self.stage,
+            up: up.beside(down.end, self.up.bytes),
+            down: down.beside(up.end, self.down.bytes),
         }
     }
 
@@ -111,7 +124,8 @@ fn connect<W: World>(session: &mut Session<W>, pair: Pair) -> Result<Pair, StepE
     Ok(pair.after_connect(&reply))
 }
 
-/// Copies up, then down.
+/// Copies up, then down. Once one direction broke, the other ends in the first turn in which it
+/// writes nothing: so what a broken side had sent is still copied, and nothing is waited for.
 fn serve_both<W: World>(
     alloc: Global,
     session: &mut Session<W>,
@@ -122,13 +136,7 @@ fn serve_both<W: World>(
 {
     let up = copy(alloc, session, pair.client, target, pair.up)?;
     let down = copy(alloc, session, target, pair.client, pair.down)?;
-    Ok(Pair {
-        client: pair.client,
-        target: pair.target,
-        stage: pair.stage,
-        up,
-        down,
-    })
+    Ok(pair.after_copies(up, down))
 }
 
 /// Closes a pair that has no open direction.

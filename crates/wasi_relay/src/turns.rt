@@ -1,11 +1,14 @@
 //! The turns of a relay: in each an arrival is accepted and begins to be connected to the target,
 //! and each pair is served.
 
-ghost use Rattle.std.specs.Prelude.{◌≡◌, ◌<◌};
+ghost use Rattle.std.specs.Prelude.{◌≡◌, ◌<◌, None};
 ghost use Rattle.wasi_relay.specs.Went.{Went, given};
-ghost use Rattle.wasi_relay.specs.Turns.{course_of, is_served, may_accept};
-ghost use Rattle.wasi_relay.specs.Turns.{turned, accepted, after_accept, paired, begun};
-ghost use Rattle.wasi_relay.specs.Turns.{rounds, last_end, finished};
+ghost use Rattle.wasi_relay.specs.Turns.{course_of, is_served, may_accept, has_pair};
+ghost use Rattle.wasi_relay.specs.Turns.{is_lack, tells_lack, may_wait, taken_lacking};
+ghost use Rattle.wasi_relay.specs.Turns.{taken_refused, taken_after};
+ghost use Rattle.wasi_relay.specs.Turns.{turned, accepted, accepted_beside, after_accept};
+ghost use Rattle.wasi_relay.specs.Turns.{paired, unpaired, begun};
+ghost use Rattle.wasi_relay.specs.Turns.{rounds, served_end, last_end, finished};
 
 use crate::calls::{call, handle_at, step};
 use crate::idle::Idle;
@@ -30,6 +33,29 @@ pub(crate) struct Progress {
     pub taken: u32,
     /// The pairs of those that have one, in order of arrival.
     pub pairs: PairList,
+    /// The arrival that waits for a socket for its target.
+    pub waiting: Option<Peer>,
+}
+
+/// Whether a code may be of a lack of descriptors or memory. That of descriptors has no code of its
+/// own in 0.2, and is `unknown`.
+fn is_lack(code: CodeWord) -> bool
+    ensures { result ≡ is_lack code }
+{
+    match code {
+        CodeWord::Unknown | CodeWord::OutOfMemory | CodeWord::NewSocketLimit => true,
+        _ => false,
+    }
+}
+
+/// Whether a reply is a refusal for such a lack.
+fn tells_lack(reply: &Reply) -> bool
+    ensures { result ≡ tells_lack reply.now }
+{
+    match reply {
+        Reply::Err(code) => is_lack(*code),
+        _ => false,
+    }
 }
 
 impl Progress {
@@ -37,7 +63,7 @@ impl Progress {
     fn is_served(&self, order: &Order) -> bool
         ensures { result ≡ is_served order.now (course_of self.now) }
     {
-        self.taken == order.connections && self.pairs.open_count() == 0
+        self.taken == order.connections && self.pairs.open_count() == 0 && self.waiting.is_none()
     }
 
     /// Whether one more may be accepted.
@@ -45,6 +71,66 @@ impl Progress {
         ensures { result ≡ may_accept order.now (course_of self.now) }
     {
         self.taken < order.connections && self.pairs.open_count() < MOST_OPEN
+    }
+
+    /// Whether a pair is open, which gives descriptors and memory back once it is over.
+    fn has_pair(&self) -> bool
+        ensures { result ≡ has_pair (course_of self.now) }
+    {
+        self.pairs.open_count() != 0
+    }
+
+    /// Whether an arrival that got this reply in place of a socket for its target waits for one.
+    fn may_wait(&self, reply: &Reply) -> bool
+        ensures { result ≡ may_wait (course_of self.now) reply.now }
+    {
+        tells_lack(reply) && self.has_pair()
+    }
+
+    /// How many arrivals are taken after an accept that was refused for lack of descriptors or
+    /// memory: no more while a pair is open, else all, since nothing would give some back.
+    fn taken_lacking(&self, order: &Order) -> u32
+        ensures { result ≡ taken_lacking order.now (course_of self.now) }
+    {
+        if self.has_pair() {
+            self.taken
+        } else {
+            order.connections
+        }
+    }
+
+    /// How many arrivals are taken after an accept that was refused: one more, which is over without
+    /// a pair, unless something was lacking.
+    fn taken_refused(&self, order: &Order, reply: &Reply) -> u32
+        requires { self.now.taken < order.now.connections }
+        ensures { result ≡ taken_refused order.now (course_of self.now) reply.now }
+    {
+        if tells_lack(reply) {
+            return self.taken_lacking(order);
+        }
+        self.taken + 1
+    }
+
+    /// How many arrivals are taken after an accept that gave none: `would-block` takes none.
+    fn taken_after(&self, order: &Order, reply: &Reply) -> u32
+        requires { self.now.taken < order.now.connections }
+        ensures { result ≡ taken_after order.now (course_of self.now) reply.now }
+    {
+        match reply {
+            Reply::Err(CodeWord::WouldBlock) => self.taken,
+            _ => self.taken_refused(order, reply),
+        }
+    }
+
+    /// How it ends once all arrivals are over.
+    fn served_end(&self, order: &Order) -> RelayEnd
+        ensures { result ≡ served_end order.now (course_of self.now) }
+    {
+        if self.pairs.as_slice().len() == order.connections as usize {
+            RelayEnd::Served
+        } else {
+            RelayEnd::Unserved
+        }
     }
 }
 
@@ -63,7 +149,7 @@ pub(crate) fn make_turns<W: World, I: Idle<W>>(
     let mut left = listener.turns;
     while left > 0 {
         if at.is_served(&order) {
-            return Ok(RelayEnd::Served);
+            return Ok(at.served_end(&order));
         }
         left -= 1;
         let moved = make_turn(alloc, session, order, listener, at)?;
@@ -77,7 +163,7 @@ fn last_end(at: &Progress, order: &Order) -> RelayEnd
     ensures { result ≡ last_end order.now (course_of at.now) }
 {
     if at.is_served(order) {
-        return RelayEnd::Served;
+        return at.served_end(order);
     }
     RelayEnd::Budget
 }
@@ -94,14 +180,14 @@ fn make_turn<W: World>(
         (given (course_of at.new) result) }
 {
     step(session, Step::Turn)?;
-    let before = at.taken;
+    let (taken, waited) = (at.taken, at.waiting.is_some());
     accept(session, order, listener, at)?;
-    let arrived = at.taken != before;
+    let arrived = at.taken != taken || at.waiting.is_some() != waited;
     let moved = at.pairs.serve_each(alloc, session)?;
     Ok(moved | arrived)
 }
 
-/// Accepts an arrival, if one may be.
+/// Accepts an arrival, if one may be; but one that waits for a socket for its target goes first.
 fn accept<W: World>(
     session: &mut Session<W>,
     order: Order,
@@ -111,6 +197,22 @@ fn accept<W: World>(
     ensures { Went (accepted order listener (course_of at.old)) session.old session.new
         (given (course_of at.new) result) }
 {
+    match at.waiting {
+        Some(client) => pair_up(session, order, listener, at, client),
+        None => accept_next(session, order, listener, at),
+    }
+}
+
+/// Accepts an arrival, if one may be.
+fn accept_next<W: World>(
+    session: &mut Session<W>,
+    order: Order,
+    listener: Listener,
+    at: &mut Progress,
+) -> Result<(), StepError>
+    ensures { Went (accepted_beside None order listener (course_of at.old)) session.old
+        session.new (given (course_of at.new) result) }
+{
     if !at.may_accept(&order) {
         return Ok(());
     }
@@ -119,8 +221,7 @@ fn accept<W: World>(
     after_accept(session, order, listener, at, &reply)
 }
 
-/// Goes on by the reply of an accept: `would-block` takes no arrival, and another refusal is an
-/// arrival that is over without a pair.
+/// Goes on by the reply of an accept.
 fn after_accept<W: World>(
     session: &mut Session<W>,
     order: Order,
@@ -140,42 +241,59 @@ fn after_accept<W: World>(
                 output: handle_at(fields.as_slice(), 2),
             };
             at.taken += 1;
-            pair_up(session, order, listener, &mut at.pairs, client)
+            pair_up(session, order, listener, at, client)
         }
-        Reply::Err(CodeWord::WouldBlock) => Ok(()),
         _ => {
-            at.taken += 1;
+            at.taken = at.taken_after(&order, reply);
             Ok(())
         }
     }
 }
 
-/// Begins to connect an arrival to the target. Where there is no socket for that, it is closed.
+/// Begins to connect an arrival to the target, if there is a socket for that.
 fn pair_up<W: World>(
     session: &mut Session<W>,
     order: Order,
     listener: Listener,
-    pairs: &mut PairList,
+    at: &mut Progress,
     client: Peer,
 ) -> Result<(), StepError>
-    ensures { Went (paired order listener client pairs.old.items) session.old session.new
-        (given pairs.new.items result) }
+    ensures { Went (paired order listener client (course_of at.old)) session.old session.new
+        (given (course_of at.new) result) }
 {
-    pairs.reserve()?;
+    at.pairs.reserve()?;
     let family = family_of(order.target);
     let reply = call(session, GuestCall::Tcp(TcpCall::Create { family }))?;
-    match reply {
+    match &reply {
         Reply::Ok(fields) => {
             let target = handle_at(fields.as_slice(), 0);
             begin_connect(session, order, listener, target)?;
-            pairs.push_reserved(client, target);
+            at.pairs.push_reserved(client, target);
+            at.waiting = None;
             Ok(())
         }
-        _ => {
-            close(session, client)?;
-            Ok(())
-        }
+        _ => leave_unpaired(session, at, client, &reply),
     }
+}
+
+/// Has an arrival wait that got no socket for its target, if an open pair may give one back. Else it
+/// is closed.
+fn leave_unpaired<W: World>(
+    session: &mut Session<W>,
+    at: &mut Progress,
+    client: Peer,
+    reply: &Reply,
+) -> Result<(), StepError>
+    ensures { Went (unpaired client (course_of at.old) reply.now) session.old session.new
+        (given (course_of at.new) result) }
+{
+    if at.may_wait(reply) {
+        at.waiting = Some(client);
+        return Ok(());
+    }
+    close(session, client)?;
+    at.waiting = None;
+    Ok(())
 }
 
 /// Begins to connect a socket to the target.

@@ -8,4 +8,4 @@ pub returns-in_err-down : goal.returns-in_err-down
 returns-in_err-down g c = went_then _ c.in_ok-up.ensures (went_quits _ c.from_residual-in_err-down.result c.from_residual-in_err-down.ensures.0 c.in_err-down.ensures)
 
 pub returns : goal.returns
-returns g c = went_then _ c.in_ok-up.ensures (went_then _ c.in_ok-down.ensures (went_give _))
+returns g c = rw c.after_copies.ensures (went_then _ c.in_ok-up.ensures (went_then _ c.in_ok-down.ensures (went_give _)))
