@@ -582,7 +582,7 @@ def few_descriptors():
             except subprocess.TimeoutExpired as why:
                 ended = why
             seen.append((answers.count(b"HI"), ended))
-    return same("few descriptors", seen, [(12, (12, 0, [])), (12, (12, 0, [])), (0, (0, 25, ["status 25"]))])
+    return same("few descriptors", seen, [(12, (12, 0, [])), (12, (12, 0, [])), (0, (0, 26, ["status 26"]))])
 
 
 TESTS = [

@@ -303,7 +303,7 @@ sides are closed. A break is seen where the relay reads from a side or writes to
 other takes no bytes, nor after that side closed its direction.
 
 Where descriptors or memory are lacking for one more connection, it waits until a pair is over. Where no pair is open then,
-it takes no more connections and ends with 25.
+it takes no more connections and ends with 26.
 
 With --live it waits without using the processor, and on a terminal it shows once a second on standard error how many
 connections are open and over, and how many bytes went each way. A relay does 4294967295 steps at most, and six or seven
@@ -313,7 +313,7 @@ The program ends with 0, or prints its status on standard error, with what is wr
     1  the words aren't in order            8  scenario.txt can't be read
     2  a bad line in scenario.txt           18 it can't listen: a call of its setup was refused
     6  a write failed                       19 TURNS turns were made, or all steps
-    7  memory ran out                       25 an arrival had no pair: its accept was refused, or no socket was left for
+    7  memory ran out                       26 an arrival had no pair: its accept was refused, or no socket was left for
                                                its target
 
 example: cat scenario.txt; kaxtubor relay 80 81 1 10

@@ -15,7 +15,7 @@ abbrev pub number_of : RelayStatus → ℕ
 number_of (Of s) = program.number_of s
 number_of SetupRefused = 18
 number_of Budget = 19
-number_of Unserved = 25
+number_of Unserved = 26
 
 -- how a relay's end is reported
 abbrev pub status_of : Result RelayEnd StepError → RelayStatus

@@ -25,9 +25,9 @@ pub struct RelayMain<K> {
 /// network that the scenario plans, in at most so many turns. Writes a line for each pair, in order
 /// of arrival: `pair K up WORD N down WORD N`, with what became of each direction and how many
 /// bytes were written. Other words are status 1, a refused call of the setup is status 18, turns
-/// that ran out are status 19, and an arrival that had no pair is status 25.
+/// that ran out are status 19, and an arrival that had no pair is status 26.
 ///
-/// The words are tested first. A write that fails is status 6 before 18, 19 and 25. Takes memory for
+/// The words are tested first. A write that fails is status 6 before 18, 19 and 26. Takes memory for
 /// the scenario, for its plan, for each pair and for what the relay takes.
 pub fn relay_main<C: Source, K: Sink>(
     alloc: Global,

@@ -79,7 +79,7 @@ pub fn end_of_relay<R: Eprint + Files>(rt: &R, number: u8, line: u32) -> ExitCod
     match number {
         18 => end_at_setup(rt, number, None),
         19 => end_at_budget(rt, number),
-        25 => end_unserved(rt, number, None),
+        26 => end_unserved(rt, number, None),
         _ => end_of_status(rt, number, line),
     }
 }

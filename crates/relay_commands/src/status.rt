@@ -38,7 +38,7 @@ impl RelayStatus {
             RelayStatus::Of(status) => status.number(),
             RelayStatus::SetupRefused => 18,
             RelayStatus::Budget => 19,
-            RelayStatus::Unserved => 25,
+            RelayStatus::Unserved => 26,
         }
     }
 }
