@@ -1,9 +1,11 @@
 -- Each line of a generated script is a step.
-use Rattle.wasi_run.proofs.Words.{◌/◌, ◌%◌, ◌^◌, ◌==◌, replicate, slice_index_or, ◌≡◌, ℕ, zero, suc, ◌+◌, ◌*◌, ◌<◌, ◌≤◌, true, false, List, [], ◌∷◌, ◌++◌, Some, length, refl, ap, sym, ◌∙◌, append_assoc, append-nil, length-append, add-one, arith, and_parts, nat_tests, lines_from, lines_of, rest_from, rest_of, Step, Drop, IsStep, line_of, step_of, AllSteps}
+use Rattle.wasi_run.proofs.Words.{◌/◌, ◌%◌, ◌^◌, ◌==◌, replicate, slice_index_or, ◌≡◌, ℕ, zero, suc, ◌+◌, ◌*◌, ◌<◌, ◌≤◌, true, false, List, [], ◌∷◌, ◌++◌, Some, length, refl, ap, sym, ◌∙◌, append_assoc, append-nil, length-append, add-one, arith, and_parts, nat_tests, lines_from, lines_of, rest_from, rest_of, Step, IsStep, line_of, step_of, AllSteps}
 use Rattle.std.proofs.Common.{IsTrue}
 use Rattle.std.specs.List.{list_all}
 use Rattle.world_text.specs.Written.{AreBytes}
 use Rattle.wasi_steps.specs.Names.{ends_no_line}
+use Rattle.wasi_steps.specs.declared.guest_call.GuestCall.TheVariants as guest
+use Rattle.wasi_steps.specs.declared.guest_call.PollableCall.TheVariants as pollable_call
 use Rattle.wasi_steps.proofs.NameLaws.{text_unbroken}
 use Rattle.wasi_run.specs.Script.{IsValid}
 use Rattle.wasi_steps.proofs.SettingLaws.{◌and◌}
@@ -68,7 +70,7 @@ fits_in [] i d h k = k
 fits_in (s ∷ steps) zero d h k = h.0
 fits_in (s ∷ steps) (suc i) d h k = fits_in steps i d h.1 k
 
-drop_fits : (h : ℕ) → h ≤ 4294967295 → IsStep 1 (call (Drop h))
+drop_fits : (h : ℕ) → h ≤ 4294967295 → IsStep 1 (call (guest.Pollable (pollable_call.Drop h)))
 drop_fits h e = record { context = omega arith; width = omega arith; arguments = (e, tt) }
 
 port_fits : (x : ℕ) → port_of x ≤ 65535

@@ -5,8 +5,14 @@ use Rattle.wasi_addr.specs.declared.address.IpSocketAddress.TheVariants as socke
 use Rattle.wasi_addr.specs.declared.address.ShutdownType.TheVariants.{Both}
 use Rattle.wasi_addr.specs.declared.address.SocketAddressFamily.TheVariants.{Ipv4}
 use Rattle.wasi_steps.specs.declared.guest_call.GuestCall.{GuestCall}
-use Rattle.wasi_steps.specs.declared.guest_call.GuestCall.TheVariants.{Network, TcpCreate, TcpStartConnect, TcpFinishConnect, CheckWrite, Write, TcpShutdown, Drop, Subscribe, UdpCreate}
-use Rattle.wasi_steps.specs.declared.guest_call.GuestCall.TheVariants.{P3TcpCreate, P3TcpConnect, P3TcpRemoteAddress, P3TcpIsListening, P3TcpSend, P3Write, P3Result, P3UdpCreate, P3UdpSend, P3UdpReceive}
+use Rattle.wasi_steps.specs.declared.guest_call.GuestCall.TheVariants as guest
+use Rattle.wasi_steps.specs.declared.guest_call.TcpCall.TheVariants as tcp_call
+use Rattle.wasi_steps.specs.declared.guest_call.UdpCall.TheVariants as udp_call
+use Rattle.wasi_steps.specs.declared.guest_call.NameCall.TheVariants as name_call
+use Rattle.wasi_steps.specs.declared.guest_call.StreamCall.TheVariants as stream_call
+use Rattle.wasi_steps.specs.declared.guest_call.PollableCall.TheVariants as pollable_call
+use Rattle.wasi_steps.specs.declared.guest_call.P3TcpCall.TheVariants as p3_tcp_call
+use Rattle.wasi_steps.specs.declared.guest_call.P3UdpCall.TheVariants as p3_udp_call
 use Rattle.drawn_scripts.specs.declared.drawn.Drawn.{Drawn}
 use Rattle.drawn_scripts.specs.declared.drawn.Drawn.TheVariants.{OfTwo, OfBoth}
 use Rattle.drawn_scripts.specs.declared.drawn.Block.{Block}
@@ -49,43 +55,43 @@ call c = step.Call 0 c
 -- a TCP socket of 0.2 is connected, and written to by its stream
 abbrev pub tcp2_block : ℕ → ℕ → List Step
 tcp2_block s x =
-    call (TcpCreate Ipv4)
-    ∷ call (TcpStartConnect s 1 (loopback (port_of x)))
-    ∷ call (TcpFinishConnect s)
-    ∷ call (CheckWrite (s + 2))
-    ∷ call (Write (s + 2) (bytes_of x))
-    ∷ call (TcpShutdown s Both)
-    ∷ call (Drop (s + 1))
-    ∷ call (Drop (s + 2))
-    ∷ call (Drop s)
+    call (guest.Tcp (tcp_call.Create Ipv4))
+    ∷ call (guest.Tcp (tcp_call.StartConnect s 1 (loopback (port_of x))))
+    ∷ call (guest.Tcp (tcp_call.FinishConnect s))
+    ∷ call (guest.Stream (stream_call.CheckWrite (s + 2)))
+    ∷ call (guest.Stream (stream_call.Write (s + 2) (bytes_of x)))
+    ∷ call (guest.Tcp (tcp_call.Shutdown s Both))
+    ∷ call (guest.Pollable (pollable_call.Drop (s + 1)))
+    ∷ call (guest.Pollable (pollable_call.Drop (s + 2)))
+    ∷ call (guest.Pollable (pollable_call.Drop s))
     ∷ []
 
 -- a TCP socket of 0.3 is connected, and written to by its end, whose drop fills the result
 abbrev pub tcp3_block : ℕ → ℕ → List Step
 tcp3_block s x =
-    call (P3TcpCreate Ipv4)
-    ∷ call (P3TcpConnect s (loopback (port_of x)))
-    ∷ call (P3TcpSend s)
-    ∷ call (P3Write (s + 1) (bytes_of x))
-    ∷ call (P3TcpRemoteAddress s)
-    ∷ call (Drop (s + 1))
-    ∷ call (P3Result (s + 2))
-    ∷ call (P3TcpIsListening s)
-    ∷ call (Drop s)
+    call (guest.P3Tcp (p3_tcp_call.Create Ipv4))
+    ∷ call (guest.P3Tcp (p3_tcp_call.Connect s (loopback (port_of x))))
+    ∷ call (guest.P3Tcp (p3_tcp_call.Send s))
+    ∷ call (guest.P3Tcp (p3_tcp_call.Write (s + 1) (bytes_of x)))
+    ∷ call (guest.P3Tcp (p3_tcp_call.RemoteAddress s))
+    ∷ call (guest.Pollable (pollable_call.Drop (s + 1)))
+    ∷ call (guest.P3Tcp (p3_tcp_call.Result (s + 2)))
+    ∷ call (guest.P3Tcp (p3_tcp_call.IsListening s))
+    ∷ call (guest.Pollable (pollable_call.Drop s))
     ∷ []
 
 -- a UDP socket of 0.3 sends a datagram, and waits for one until the line after gives it up; one of 0.2 is watched
 abbrev pub udp_block : ℕ → ℕ → ℕ → List Step
 udp_block s x before =
-    call (P3UdpCreate Ipv4)
-    ∷ call (P3UdpSend s (record { bytes = bytes_of x; remote_address = Some (loopback (port_of x)) }))
-    ∷ call (P3UdpReceive s)
+    call (guest.P3Udp (p3_udp_call.Create Ipv4))
+    ∷ call (guest.P3Udp (p3_udp_call.Send s (record { bytes = bytes_of x; remote_address = Some (loopback (port_of x)) })))
+    ∷ call (guest.P3Udp (p3_udp_call.Receive s))
     ∷ step.Cancel before
-    ∷ call (UdpCreate Ipv4)
-    ∷ call (Subscribe (s + 1))
-    ∷ call (Drop (s + 2))
-    ∷ call (Drop (s + 1))
-    ∷ call (Drop s)
+    ∷ call (guest.Udp (udp_call.Create Ipv4))
+    ∷ call (guest.Pollable (pollable_call.Subscribe (s + 1)))
+    ∷ call (guest.Pollable (pollable_call.Drop (s + 2)))
+    ∷ call (guest.Pollable (pollable_call.Drop (s + 1)))
+    ∷ call (guest.Pollable (pollable_call.Drop s))
     ∷ []
 
 abbrev pub block : Block → ℕ → ℕ → ℕ → List Step
@@ -95,7 +101,7 @@ block of.Udp s x before = udp_block s x before
 
 -- the step at one of the nine places, after this line
 abbrev pub step_in : Block → ℕ → ℕ → ℕ → ℕ → Step
-step_in kind s x before place = slice_index_or (block kind s x before) place (call (Drop s))
+step_in kind s x before place = slice_index_or (block kind s x before) place (call (guest.Pollable (pollable_call.Drop s)))
 
 -- which block stands at this number
 abbrev pub one_of : ℕ → Block
@@ -109,7 +115,7 @@ block_at OfBoth i = one_of (i % 3)
 
 -- the steps: a network, and then blocks of nine
 abbrev pub generated_step : Drawn → ℕ → ℕ → Step
-generated_step kind seed zero = call Network
+generated_step kind seed zero = call (guest.Names name_call.Network)
 generated_step kind seed (suc k) = step_in (block_at kind (k / 9)) (2 + 3 * (k / 9)) (drawn seed (k / 9 + 1)) (suc k) (k % 9)
 
 abbrev pub generated_steps : Drawn → ℕ → ℕ → List Step

@@ -3,7 +3,8 @@
 ghost use Rattle.std.specs.Prelude.{◌≡◌, ◌+◌, ◌<◌, ◌≤◌, ◌^◌, ◌++◌, OnOk, codes, decimal};
 ghost use Rattle.std.specs.Prelude.{slice_index_or, string_bytes};
 ghost use Rattle.world_text.specs.Fields.{bytes_text};
-ghost use Rattle.wasi_steps.specs.declared.guest_call.GuestCall.TheVariants.{Drop};
+ghost use Rattle.wasi_steps.specs.declared.guest_call.GuestCall.TheVariants as guest;
+ghost use Rattle.wasi_steps.specs.declared.guest_call.PollableCall.TheVariants as pollable_call;
 ghost use Rattle.drawn_scripts.specs.Generate.{block_at, byte_of, bytes_of, call, count_of, port_of};
 ghost use Rattle.drawn_scripts.specs.Generate.{script_line, step_in, tcp2_block, tcp3_block};
 ghost use Rattle.drawn_scripts.specs.Generate.{udp_block};
@@ -94,7 +95,7 @@ fn push_tcp2(text: &mut String, socket: u32, x: u64, place: u32) -> Result<(), A
     requires room { socket + 2 < 2 ^ 32 }
     requires within { place < 9 }
     ensures { OnOk result (string_bytes text.new ≡ string_bytes text.old ++ script_line
-        (slice_index_or (tcp2_block socket x) place (call (Drop socket)))) }
+        (slice_index_or (tcp2_block socket x) place (call (guest.Pollable (pollable_call.Drop socket))))) }
 {
     match place {
         0 => text.push_str("0 tcp-create 4\n"),
@@ -121,7 +122,7 @@ fn push_tcp3(text: &mut String, socket: u32, x: u64, place: u32) -> Result<(), A
     requires room { socket + 2 < 2 ^ 32 }
     requires within { place < 9 }
     ensures { OnOk result (string_bytes text.new ≡ string_bytes text.old ++ script_line
-        (slice_index_or (tcp3_block socket x) place (call (Drop socket)))) }
+        (slice_index_or (tcp3_block socket x) place (call (guest.Pollable (pollable_call.Drop socket))))) }
 {
     match place {
         0 => text.push_str("0 p3-tcp-create 4\n"),
@@ -154,7 +155,7 @@ fn push_udp(
     requires room { socket + 2 < 2 ^ 32 }
     requires within { place < 9 }
     ensures { OnOk result (string_bytes text.new ≡ string_bytes text.old ++ script_line
-        (slice_index_or (udp_block socket x before) place (call (Drop socket)))) }
+        (slice_index_or (udp_block socket x before) place (call (guest.Pollable (pollable_call.Drop socket))))) }
 {
     match place {
         0 => text.push_str("0 p3-udp-create 4\n"),

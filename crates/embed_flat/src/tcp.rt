@@ -4,7 +4,7 @@ use crate::args::{Args, Refusal};
 use crate::op;
 use socket_common::Setting;
 use wasi_addr::ShutdownType;
-use wasi_steps::{GuestCall, TcpSetting};
+use wasi_steps::{TcpCall, TcpSetting};
 use wasi_world::{Handle, Opt};
 
 /// Which half is shut down: 0 is receive, 1 is send, 2 is both.
@@ -50,17 +50,17 @@ fn setting(number: u32, args: &Args<'_>) -> Result<TcpSetting, Refusal> {
 }
 
 /// A bind or a connect.
-fn addressed(number: u32, args: &Args<'_>) -> Result<GuestCall, Refusal> {
+fn addressed(number: u32, args: &Args<'_>) -> Result<TcpCall, Refusal> {
     let socket = args.word(0)?;
     let network = args.word(1)?;
     let addr = args.address(2)?;
     match number {
-        op::TCP_START_BIND => Ok(GuestCall::TcpStartBind {
+        op::TCP_START_BIND => Ok(TcpCall::StartBind {
             socket,
             network,
             addr,
         }),
-        op::TCP_START_CONNECT => Ok(GuestCall::TcpStartConnect {
+        op::TCP_START_CONNECT => Ok(TcpCall::StartConnect {
             socket,
             network,
             addr,
@@ -70,23 +70,23 @@ fn addressed(number: u32, args: &Args<'_>) -> Result<GuestCall, Refusal> {
 }
 
 /// A call with the socket as its one argument.
-fn bare(number: u32, socket: Handle) -> Option<GuestCall> {
+fn bare(number: u32, socket: Handle) -> Option<TcpCall> {
     match number {
-        op::TCP_FINISH_BIND => Some(GuestCall::TcpFinishBind { socket }),
-        op::TCP_FINISH_CONNECT => Some(GuestCall::TcpFinishConnect { socket }),
-        op::TCP_START_LISTEN => Some(GuestCall::TcpStartListen { socket }),
-        op::TCP_FINISH_LISTEN => Some(GuestCall::TcpFinishListen { socket }),
-        op::TCP_ACCEPT => Some(GuestCall::TcpAccept { socket }),
-        op::TCP_LOCAL_ADDRESS => Some(GuestCall::TcpLocalAddress { socket }),
-        op::TCP_REMOTE_ADDRESS => Some(GuestCall::TcpRemoteAddress { socket }),
-        op::TCP_IS_LISTENING => Some(GuestCall::TcpIsListening { socket }),
-        op::TCP_ADDRESS_FAMILY => Some(GuestCall::TcpAddressFamily { socket }),
+        op::TCP_FINISH_BIND => Some(TcpCall::FinishBind { socket }),
+        op::TCP_FINISH_CONNECT => Some(TcpCall::FinishConnect { socket }),
+        op::TCP_START_LISTEN => Some(TcpCall::StartListen { socket }),
+        op::TCP_FINISH_LISTEN => Some(TcpCall::FinishListen { socket }),
+        op::TCP_ACCEPT => Some(TcpCall::Accept { socket }),
+        op::TCP_LOCAL_ADDRESS => Some(TcpCall::LocalAddress { socket }),
+        op::TCP_REMOTE_ADDRESS => Some(TcpCall::RemoteAddress { socket }),
+        op::TCP_IS_LISTENING => Some(TcpCall::IsListening { socket }),
+        op::TCP_ADDRESS_FAMILY => Some(TcpCall::AddressFamily { socket }),
         _ => None,
     }
 }
 
 /// The call on a TCP socket that has this number.
-pub fn tcp_call(number: u32, args: &Args<'_>) -> Result<GuestCall, Refusal> {
+pub fn tcp_call(number: u32, args: &Args<'_>) -> Result<TcpCall, Refusal> {
     if matches!(number, op::TCP_START_BIND | op::TCP_START_CONNECT) {
         return addressed(number, args);
     }
@@ -95,12 +95,12 @@ pub fn tcp_call(number: u32, args: &Args<'_>) -> Result<GuestCall, Refusal> {
         return Ok(call);
     }
     if let Some(option) = option_of(number) {
-        return Ok(GuestCall::TcpGet { socket, option });
+        return Ok(TcpCall::Get { socket, option });
     }
     if number == op::TCP_SHUTDOWN {
         let how = shutdown_type(args, 1)?;
-        return Ok(GuestCall::TcpShutdown { socket, how });
+        return Ok(TcpCall::Shutdown { socket, how });
     }
     let setting = setting(number, args)?;
-    Ok(GuestCall::TcpSet { socket, setting })
+    Ok(TcpCall::Set { socket, setting })
 }

@@ -6,7 +6,7 @@ use crate::args::{Args, Refusal};
 use crate::memory::bytes_at;
 use crate::op;
 use wasi_addr::IpSocketAddress;
-use wasi_steps::{GuestCall, UdpOption, UdpSetting};
+use wasi_steps::{UdpCall, UdpOption, UdpSetting};
 use wasi_world::{Handle, Octets, OutgoingDatagram, OutgoingDatagrams};
 
 /// How many bytes an outgoing datagram takes in memory.
@@ -116,39 +116,39 @@ fn datagrams(args: &Args<'_>) -> Result<OutgoingDatagrams, Refusal> {
 }
 
 /// A call with the socket as its one argument.
-fn bare(number: u32, socket: Handle) -> Option<GuestCall> {
+fn bare(number: u32, socket: Handle) -> Option<UdpCall> {
     match number {
-        op::UDP_FINISH_BIND => Some(GuestCall::UdpFinishBind { socket }),
-        op::UDP_LOCAL_ADDRESS => Some(GuestCall::UdpLocalAddress { socket }),
-        op::UDP_REMOTE_ADDRESS => Some(GuestCall::UdpRemoteAddress { socket }),
-        op::UDP_ADDRESS_FAMILY => Some(GuestCall::UdpAddressFamily { socket }),
-        op::UDP_CHECK_SEND => Some(GuestCall::UdpCheckSend { outgoing: socket }),
+        op::UDP_FINISH_BIND => Some(UdpCall::FinishBind { socket }),
+        op::UDP_LOCAL_ADDRESS => Some(UdpCall::LocalAddress { socket }),
+        op::UDP_REMOTE_ADDRESS => Some(UdpCall::RemoteAddress { socket }),
+        op::UDP_ADDRESS_FAMILY => Some(UdpCall::AddressFamily { socket }),
+        op::UDP_CHECK_SEND => Some(UdpCall::CheckSend { outgoing: socket }),
         _ => None,
     }
 }
 
 /// A call with more arguments.
-fn further(number: u32, socket: Handle, args: &Args<'_>) -> Result<GuestCall, Refusal> {
+fn further(number: u32, socket: Handle, args: &Args<'_>) -> Result<UdpCall, Refusal> {
     match number {
-        op::UDP_START_BIND => Ok(GuestCall::UdpStartBind {
+        op::UDP_START_BIND => Ok(UdpCall::StartBind {
             socket,
             network: args.word(1)?,
             addr: args.address(2)?,
         }),
-        op::UDP_STREAM => Ok(GuestCall::UdpStream {
+        op::UDP_STREAM => Ok(UdpCall::Stream {
             socket,
             remote: args.maybe_address(1)?,
         }),
         // One datagram at a time, since each has a list of its own in the guest's memory.
-        op::UDP_RECEIVE => Ok(GuestCall::UdpReceive {
+        op::UDP_RECEIVE => Ok(UdpCall::Receive {
             incoming: socket,
             max_results: args.wide(1)?.min(1),
         }),
-        op::UDP_SEND => Ok(GuestCall::UdpSend {
+        op::UDP_SEND => Ok(UdpCall::Send {
             outgoing: socket,
             datagrams: datagrams(args)?,
         }),
-        _ => Ok(GuestCall::UdpSet {
+        _ => Ok(UdpCall::Set {
             socket,
             setting: setting(number, args)?,
         }),
@@ -156,13 +156,13 @@ fn further(number: u32, socket: Handle, args: &Args<'_>) -> Result<GuestCall, Re
 }
 
 /// The call on a UDP socket or one of its streams that has this number.
-pub fn udp_call(number: u32, args: &Args<'_>) -> Result<GuestCall, Refusal> {
+pub fn udp_call(number: u32, args: &Args<'_>) -> Result<UdpCall, Refusal> {
     let socket = args.word(0)?;
     if let Some(call) = bare(number, socket) {
         return Ok(call);
     }
     if let Some(option) = option_of(number) {
-        return Ok(GuestCall::UdpGet { socket, option });
+        return Ok(UdpCall::Get { socket, option });
     }
     further(number, socket, args)
 }

@@ -5,7 +5,7 @@ ghost use Rattle.examples.specs.Checked.{ConnectsChecked};
 
 use std::alloc::{AllocError, Global};
 use wasi_addr::{IpSocketAddress, Ipv4SocketAddress, SocketAddressFamily};
-use wasi_session::{GuestCall, Reply, Session, Step};
+use wasi_session::{GuestCall, NameCall, Reply, Session, Step, StreamCall, TcpCall};
 use wasi_world::{Octets, WasiSocketsCtx, World};
 
 /// A guest that makes two sockets, connects each, one to port 80 and one to port 25, and writes to
@@ -13,22 +13,22 @@ use wasi_world::{Octets, WasiSocketsCtx, World};
 pub fn guest_calls(alloc: Global) -> Result<Vec<GuestCall>, AllocError> {
     let hello = Octets::copy_of(alloc, b"hello")?;
     let calls = [
-        GuestCall::Network,
-        GuestCall::TcpCreate {
+        GuestCall::Names(NameCall::Network),
+        GuestCall::Tcp(TcpCall::Create {
             family: SocketAddressFamily::Ipv4,
-        },
+        }),
         connect(2, 80),
-        GuestCall::TcpFinishConnect { socket: 2 },
-        GuestCall::CheckWrite { output: 4 },
-        GuestCall::Write {
+        GuestCall::Tcp(TcpCall::FinishConnect { socket: 2 }),
+        GuestCall::Stream(StreamCall::CheckWrite { output: 4 }),
+        GuestCall::Stream(StreamCall::Write {
             output: 4,
             bytes: hello,
-        },
-        GuestCall::TcpCreate {
+        }),
+        GuestCall::Tcp(TcpCall::Create {
             family: SocketAddressFamily::Ipv4,
-        },
+        }),
         connect(5, 25),
-        GuestCall::TcpFinishConnect { socket: 5 },
+        GuestCall::Tcp(TcpCall::FinishConnect { socket: 5 }),
     ];
     let mut list = Vec::new(alloc);
     for call in calls {
@@ -40,11 +40,11 @@ pub fn guest_calls(alloc: Global) -> Result<Vec<GuestCall>, AllocError> {
 /// Begins to connect a socket to this port of 127.0.0.1, by the network with handle 1.
 fn connect(socket: u32, port: u16) -> GuestCall {
     let address = (127, 0, 0, 1);
-    GuestCall::TcpStartConnect {
+    GuestCall::Tcp(TcpCall::StartConnect {
         socket,
         network: 1,
         addr: IpSocketAddress::Ipv4(Ipv4SocketAddress { port, address }),
-    }
+    })
 }
 
 /// Makes the guest's calls one after another, all in context 0, until one traps or memory runs out,

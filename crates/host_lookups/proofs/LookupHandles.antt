@@ -1,6 +1,6 @@
 -- The handle of a lookup that was begun.
 use Rattle.std.proofs.Common.{◌≡◌, ℕ, List, Some, None, refl, length}
-use Rattle.wasi_records.specs.declared.name_lookup.Lookup.{Lookup as NameLookup}
+use Rattle.lookup_records.specs.declared.name_lookup.Lookup.{Lookup as NameLookup}
 use Rattle.std.specs.Prelude.{Result, Ok, Err}
 use Rattle.wasi_world.specs.Asks.{AsksFor, Give}
 use Rattle.wasi_world.specs.Seen.{Seen}
@@ -13,10 +13,10 @@ use Rattle.wasi_jobs.specs.declared.job.HostJob.{HostJob}
 use Rattle.wasi_jobs.specs.declared.job.HostJob.TheVariants as job
 use Rattle.host_store.specs.declared.kind.Kind.TheVariants as kind
 use Rattle.host_store.specs.declared.machine.Machine.{Machine}
-use Rattle.wasi_records.specs.Stops.{Stop, fault_outcome, host_outcome}
+use Rattle.record_common.specs.Stops.{Stop, fault_outcome, host_outcome}
 use Rattle.host_store.specs.Jobs.{jobs_with}
 use Rattle.host_store.specs.Kinds.{HandleTable, make_asks}
-use Rattle.wasi_records.specs.NameLookup.{is_looking}
+use Rattle.lookup_records.specs.NameLookup.{is_looking}
 use Rattle.host_lookups.specs.NameLookupCalls.{looked_up, lookup_handle}
 use Rattle.wasi_records.specs.declared.records.Record.{Record}
 use Rattle.wasi_records.specs.Records.{lookup_pushed}

@@ -8,7 +8,7 @@ use Rattle.wasi_world.specs.Seen.{Seen}
 use Rattle.wasi_world.specs.Asks.{Give, bind, AsksFor}
 use Rattle.wasi_world.specs.Typed.{ask_lookup}
 use Rattle.wasi_world.proofs.Walks.{asks_end, asks_err, reaches_in, reaches_on}
-use Rattle.wasi_records.specs.Names.{own_of}
+use Rattle.record_common.specs.Names.{own_of}
 use Rattle.host_store.specs.declared.beside.Beside.{Beside}
 use Rattle.host_store.specs.Beside.{beside_polled, besided}
 use Rattle.host_lookups.specs.Resolves.{Resolved, begun_lookup, looks_up, names_outcome, polled_lookup}

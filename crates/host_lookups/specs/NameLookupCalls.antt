@@ -9,14 +9,14 @@ use Rattle.wasi_world.specs.declared.outcome.TrapKind.TheVariants.{NoSuchHandle}
 use Rattle.wasi_world.specs.Asks.{Asks, Give, bind}
 use Rattle.wasi_jobs.specs.declared.job.HostJob.TheVariants as job
 use Rattle.host_store.specs.declared.kind.Kind.TheVariants as kind
-use Rattle.wasi_records.specs.declared.name_lookup.Lookup.{Lookup}
-use Rattle.wasi_records.specs.declared.name_lookup.Lookup.TheVariants.{Found, Failed}
+use Rattle.lookup_records.specs.declared.name_lookup.Lookup.{Lookup}
+use Rattle.lookup_records.specs.declared.name_lookup.Lookup.TheVariants.{Found, Failed}
 use Rattle.host_store.specs.declared.machine.Machine.{Machine}
-use Rattle.wasi_records.specs.Stops.{Stop, Code, Trap}
+use Rattle.record_common.specs.Stops.{Stop, Code, Trap}
 use Rattle.host_store.specs.GivingBack.{given_back}
 use Rattle.host_store.specs.Jobs.{jobs_with}
 use Rattle.host_store.specs.Kinds.{HandleTable, make_asks}
-use Rattle.wasi_records.specs.NameLookup.{is_looking, looks_on, unresolvable, poll_lookup_asks, next_of}
+use Rattle.lookup_records.specs.NameLookup.{is_looking, looks_on, unresolvable, poll_lookup_asks, next_of}
 use Rattle.wasi_records.specs.Records.{lookup_put, lookup_pushed}
 use Rattle.host_store.specs.Store.{Records}
 

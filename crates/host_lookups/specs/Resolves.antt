@@ -11,8 +11,8 @@ use Rattle.wasi_world.specs.declared.outcome.Answer.{Answer}
 use Rattle.wasi_world.specs.declared.outcome.Answer.TheVariants.{Ready, Pending}
 use Rattle.wasi_world.specs.Asks.{Asks, Give, bind}
 use Rattle.wasi_world.specs.Typed.{ask_lookup}
-use Rattle.wasi_records.specs.Names.{own_of}
-use Rattle.wasi_records.specs.Stops.{StopOf, Code}
+use Rattle.record_common.specs.Names.{own_of}
+use Rattle.record_common.specs.Stops.{StopOf, Code}
 use Rattle.host_store.specs.declared.beside.Beside.{Beside}
 use Rattle.host_store.specs.declared.beside.BesideCall.TheVariants.{Resolve}
 use Rattle.host_store.specs.Beside.{beside_as, beside_polled, beside_without, besided}

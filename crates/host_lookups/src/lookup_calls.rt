@@ -3,21 +3,21 @@
 ghost use Rattle.std.specs.Prelude.{◌≡◌, IfOk, OnErr, OnOk, false, length, Ok};
 ghost use Rattle.wasi_world.specs.Asks.{AsksFor};
 ghost use Rattle.wasi_world.specs.Seen.{Seen};
-ghost use Rattle.wasi_records.specs.NameLookup.{is_looking};
+ghost use Rattle.lookup_records.specs.NameLookup.{is_looking};
 ghost use Rattle.wasi_records.specs.Records.{lookup_at, lookup_pushed};
-ghost use Rattle.wasi_records.specs.Stops.{host_outcome};
+ghost use Rattle.record_common.specs.Stops.{host_outcome};
 ghost use Rattle.host_store.specs.Jobs.{jobs_with};
 ghost use Rattle.host_store.specs.KnownSides.{KnowsSides};
 ghost use Rattle.host_lookups.specs.NameLookupCalls.{resolve_host, resolved, lookup_handle, next_at, drop_lookup_at, lookup_ready};
 
 use host_store::{Kind, Store, handles};
+use lookup_records::{Addresses, Lookup, unresolvable};
+use record_common::SocketError;
 use std::alloc::{AllocError, Global};
 use wasi_addr::IpAddress;
 use wasi_jobs::{HostJob, JobList};
 use wasi_names::HostName;
-use wasi_records::{
-    Addresses, Lookup, Record, RecordId, RecordList, SocketError, find, find_mut, unresolvable,
-};
+use wasi_records::{Record, RecordId, RecordList, find, find_mut};
 use wasi_table::Table;
 use wasi_world::{Handle, OpId, TrapKind, World};
 

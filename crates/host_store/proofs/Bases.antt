@@ -13,7 +13,7 @@ use Rattle.wasi_streams.specs.declared.fault.Fault.TheVariants as fault
 use Rattle.wasi_streams.specs.declared.fault.HostError.{HostError}
 use Rattle.wasi_streams.specs.declared.fault.HostError.TheVariants as error
 use Rattle.wasi_streams.specs.HostError.{of_fault}
-use Rattle.wasi_records.specs.Stops.{Stop, StopOf, Code, Trap, fault_outcome}
+use Rattle.record_common.specs.Stops.{Stop, StopOf, Code, Trap, fault_outcome}
 use Rattle.host_store.specs.declared.machine.Machine.{Machine}
 use Rattle.host_store.specs.BaseStops.{BaseStop, base_outcome, ends_as, named_as, renamed, trap_of}
 use Rattle.host_store.specs.Block.{after_call, give}

@@ -4,7 +4,7 @@ use Rattle.std.specs.declared.alloc.AllocError.{AllocError}
 use Rattle.wasi_world.specs.Seen.{Seen}
 use Rattle.wasi_world.specs.Asks.{Asks, bind, AsksFor}
 use Rattle.wasi_world.proofs.Walks.{asks_end, reaches_in}
-use Rattle.wasi_records.specs.Stops.{Stop}
+use Rattle.record_common.specs.Stops.{Stop}
 use Rattle.host_store.specs.Block.{give, or_stop}
 use Rattle.host_store.specs.Lines.{same_stop}
 

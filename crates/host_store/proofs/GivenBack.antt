@@ -3,15 +3,16 @@ use Rattle.std.proofs.Common.{◌≡◌, ℕ, zero, suc, ◌+◌, List, [], ◌�
 use Rattle.std.specs.Prelude.{slice_set}
 use Rattle.wasi_records.specs.declared.records.Record.{Record}
 use Rattle.wasi_records.specs.declared.records.Record.TheVariants.{Udp}
-use Rattle.wasi_records.specs.declared.udp.UdpRecord.{UdpRecord}
-use Rattle.wasi_records.specs.declared.udp.UdpRecord.TheVariants.{Closed}
+use Rattle.udp_records.specs.declared.udp.UdpRecord.{UdpRecord}
+use Rattle.udp_records.specs.declared.udp.UdpRecord.TheVariants.{Closed}
 use Rattle.wasi_records.specs.Numbered.{record_gone, item_at}
 use Rattle.host_store.specs.GivingBack.{given_back}
 use Rattle.wasi_records.specs.Records.{udp2_at}
-use Rattle.wasi_records.specs.Sides.{Weight, Tally, no_socket, held_by, held_in}
+use Rattle.record_common.specs.Sides.{Weight, Tally, no_socket}
+use Rattle.wasi_records.specs.Sides.{held_by, held_in}
 use Rattle.host_store.specs.Store.{Records}
-use Rattle.wasi_records.specs.Udp.{udp_holds, udp_side}
-use Rattle.wasi_records.proofs.SideCounts.{same_tally}
+use Rattle.udp_records.specs.Udp.{udp_holds, udp_side}
+use Rattle.record_common.proofs.SideCounts.{same_tally}
 use Rattle.wasi_records.proofs.UdpLookups.{held_in-udp_swap}
 
 -- what is left of a record that goes holds none

@@ -13,9 +13,9 @@ use Rattle.wasi_records.specs.Records.{tcp2_at, tcp2_put}
 use Rattle.wasi_records.specs.declared.records.Record.{Record}
 use Rattle.wasi_jobs.specs.declared.job.HostJob.{HostJob}
 use Rattle.wasi_jobs.specs.declared.job.HostJob.TheVariants.{Write}
-use Rattle.wasi_records.specs.declared.socket.TcpRecord.{TcpRecord}
+use Rattle.tcp_records.specs.declared.socket.TcpRecord.{TcpRecord}
 use Rattle.host_store.specs.Store.{Records, with_socket}
-use Rattle.wasi_records.specs.Halves.{works_in, begins_job}
+use Rattle.tcp_records.specs.Halves.{works_in, begins_job}
 use Rattle.host_store.specs.Jobs.{jobs_with, with_job, is_going, turn_job, turn_jobs, write_at}
 use Rattle.wasi_records.proofs.Lookups.{set_there}
 

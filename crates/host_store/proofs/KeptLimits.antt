@@ -7,10 +7,11 @@ use Rattle.std.proofs.lemmas.Option.{same_Some}
 use Rattle.wasi_world.specs.declared.outcome.WasiSocketsCtx.{WasiSocketsCtx}
 use Rattle.wasi_records.specs.declared.records.Record.{Record}
 use Rattle.wasi_records.specs.declared.records.Record.TheVariants.{Tcp, Udp, Lookup, InputPipe, OutputPipe, Slot as SlotRecord, Gone}
-use Rattle.wasi_records.specs.declared.socket.TcpRecord.{TcpRecord}
+use Rattle.tcp_records.specs.declared.socket.TcpRecord.{TcpRecord}
 use Rattle.wasi_records.specs.Numbered.{item_at}
 use Rattle.wasi_records.specs.Records.{tcp2_at}
-use Rattle.wasi_records.specs.Used.{held_in, used_in, used}
+use Rattle.tcp_records.specs.Used.{held_in}
+use Rattle.wasi_records.specs.Used.{used_in, used}
 use Rattle.host_store.specs.declared.limits.Limit.{Limit}
 use Rattle.host_store.specs.Limits.{limit_in, with_limit_by, limit_or, most_of, most_at}
 use Rattle.host_store.specs.Store.{Records}

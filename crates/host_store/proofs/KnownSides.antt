@@ -19,16 +19,20 @@ use Rattle.wasi_tcp.specs.Socket.{side_of, new_asks}
 use Rattle.host_store.specs.declared.store.StandingCall.{StandingCall}
 use Rattle.host_store.specs.Standing.{stood}
 use Rattle.host_store.specs.Store.{Records, with_record, with_socket, with_udp}
-use Rattle.wasi_records.specs.Sockets.{new_record}
-use Rattle.wasi_records.specs.Sides.{Weight, Tally, no_socket, made_in, closed_in, held_in, MakesNone, Balances, HoldsFewer}
+use Rattle.tcp_records.specs.Sockets.{new_record}
+use Rattle.record_common.specs.Sides.{Weight, Tally, no_socket, made_in, closed_in, MakesNone, HoldsFewer}
+use Rattle.wasi_records.specs.Sides.{held_in}
+use Rattle.tcp_records.specs.Sides.{Balances}
 use Rattle.host_store.specs.KnownSides.{KnowsSides}
 use Rattle.wasi_records.specs.Records.{tcp2_at, udp2_at}
-use Rattle.wasi_records.specs.declared.socket.TcpRecord.{TcpRecord}
-use Rattle.wasi_records.specs.declared.udp.UdpRecord.{UdpRecord}
-use Rattle.wasi_records.specs.Udp.{udp_holds}
+use Rattle.tcp_records.specs.declared.socket.TcpRecord.{TcpRecord}
+use Rattle.udp_records.specs.declared.udp.UdpRecord.{UdpRecord}
+use Rattle.udp_records.specs.Udp.{udp_holds}
 use Rattle.wasi_records.proofs.UdpLookups.{held_in-udp_swap}
 use Rattle.wasi_jobs.specs.declared.job.HostJob.{HostJob}
-use Rattle.wasi_records.proofs.SideCounts.{Calm, calm_left, created, held_in-append, knows_grown}
+use Rattle.record_common.proofs.SideCounts.{Calm, calm_left, knows_grown}
+use Rattle.tcp_records.proofs.SideCounts.{created}
+use Rattle.wasi_records.proofs.SideCounts.{held_in-append}
 use Rattle.wasi_records.proofs.ConnectCounts.{held_in-swap}
 
 pub knows_then : {s t : Seen} (es : List Entry) (a b : Records) → Passes s es t → ((w : Weight) → held_in b.records w + closed_in es w ≡ held_in a.records w + made_in es w) → KnowsSides s a → KnowsSides t b

@@ -7,7 +7,7 @@ use Rattle.wasi_world.specs.declared.outcome.Refusal.TheVariants as refusal
 use Rattle.wasi_world.specs.declared.outcome.TrapKind.TheVariants.{Full}
 use Rattle.wasi_streams.specs.declared.fault.HostError.{HostError}
 use Rattle.wasi_streams.specs.declared.fault.HostError.TheVariants as error
-use Rattle.wasi_records.specs.Stops.{Stop, StopOf, Code, Trap}
+use Rattle.record_common.specs.Stops.{Stop, StopOf, Code, Trap}
 
 -- that of a call whose codes have no interface's names yet
 abbrev pub BaseStop : Type 0

@@ -9,7 +9,7 @@ use Rattle.host_store.specs.declared.beside.Beside.{Beside}
 use Rattle.host_store.specs.declared.beside.BesideCall.{BesideCall}
 use Rattle.host_store.specs.Standing.{stands_as}
 use Rattle.host_store.specs.Store.{Records}
-use Rattle.wasi_records.specs.Stops.{Code}
+use Rattle.record_common.specs.Stops.{Code}
 use Rattle.host_store.specs.declared.beside.BesideCall.TheVariants.{Send, Receive}
 
 -- the call under this number, and the calls but that

@@ -12,7 +12,7 @@ use Rattle.host_store.specs.declared.error.CallError.{CallError}
 use Rattle.host_store.specs.declared.error.CallError.TheVariants as stream
 use Rattle.wasi_streams.specs.declared.fault.Fault.{Fault}
 use Rattle.wasi_streams.specs.declared.fault.Fault.TheVariants as fault
-use Rattle.wasi_records.specs.Stops.{Code, Stop, Trap}
+use Rattle.record_common.specs.Stops.{Code, Stop, Trap}
 
 -- why a call of a stream gave no value, other than for lack of memory
 pub data CallStop : Type 0 where

@@ -2,18 +2,19 @@
 use Rattle.std.specs.Prelude.{ℕ, Bool, true, false, List, [], ◌∷◌, ◌++◌, Option, Some, None, Result}
 use Rattle.wasi_world.specs.Asks.{Asks, Give, bind}
 use Rattle.wasi_streams.specs.StreamStop.{StreamStop}
-use Rattle.wasi_records.specs.Datagrams.{sends, turn_outgoing}
-use Rattle.wasi_records.specs.NameLookup.{looks_on, turn_lookup_at}
-use Rattle.wasi_records.specs.Receiving.{receives, turn_incoming}
+use Rattle.udp_records.specs.Datagrams.{sends, turn_outgoing}
+use Rattle.lookup_records.specs.NameLookup.{looks_on}
+use Rattle.wasi_records.specs.Records.{turn_lookup_at}
+use Rattle.udp_records.specs.Receiving.{receives, turn_incoming}
 use Rattle.wasi_records.specs.Records.{tcp2_at, tcp2_put, open_at, open_put, lookup_at}
 use Rattle.wasi_records.specs.declared.records.Record.{Record}
 pub use Rattle.wasi_jobs.specs.Jobs.{is_on, other_jobs, is_receive_on, other_than_receive}
 use Rattle.wasi_jobs.specs.declared.job.HostJob.{HostJob}
 use Rattle.wasi_jobs.specs.declared.job.HostJob.TheVariants.{Write, Datagram, Receive, Lookup}
-use Rattle.wasi_records.specs.declared.socket.TcpRecord.{TcpRecord}
-use Rattle.wasi_records.specs.declared.udp.OpenUdp.{OpenUdp}
+use Rattle.tcp_records.specs.declared.socket.TcpRecord.{TcpRecord}
+use Rattle.udp_records.specs.declared.udp.OpenUdp.{OpenUdp}
 use Rattle.host_store.specs.Store.{Records, stream_at}
-use Rattle.wasi_records.specs.Halves.{begins_job, has_job, turn_record}
+use Rattle.tcp_records.specs.Halves.{begins_job, has_job, turn_record}
 
 -- == a job that begins
 abbrev pub jobs_with : List HostJob → HostJob → Bool → List HostJob

@@ -18,7 +18,7 @@ use Rattle.host_store.specs.declared.kind.PlainInput.{PlainInput as InputOf}
 use Rattle.host_store.specs.declared.kind.PlainOutput.{PlainOutput as OutputOf}
 use Rattle.host_store.specs.declared.kind.Watched.{Watched}
 use Rattle.host_store.specs.declared.kind.Watched.TheVariants as watched
-use Rattle.wasi_records.specs.Stops.{Stop, Trap}
+use Rattle.record_common.specs.Stops.{Stop, Trap}
 
 -- the table of handles
 abbrev pub HandleTable : Type 0

@@ -2,7 +2,8 @@
 use Rattle.std.specs.Prelude.{◌≡◌, ◌+◌, IfSome}
 use Rattle.wasi_world.specs.Seen.{Seen}
 use Rattle.host_store.specs.Store.{Records}
-use Rattle.wasi_records.specs.Sides.{Weight, closed_in, held_in, made_in}
+use Rattle.record_common.specs.Sides.{Weight, closed_in, made_in}
+use Rattle.wasi_records.specs.Sides.{held_in}
 
 -- The records hold just the network sockets that were made and not closed, where the log is reported.
 pub record KnowsSides (seen : Seen) (records : Records) : Type 0 where

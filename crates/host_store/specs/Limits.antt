@@ -5,9 +5,10 @@ use Rattle.wasi_world.specs.declared.outcome.WasiSocketsCtx.{WasiSocketsCtx}
 use Rattle.wasi_world.specs.Asks.{Asks}
 use Rattle.wasi_streams.specs.StreamStop.{StreamStop}
 use Rattle.wasi_tcp.specs.Writer.{check_write_asks}
-use Rattle.wasi_records.specs.declared.socket.TcpRecord.{TcpRecord}
-use Rattle.wasi_records.specs.Halves.{writer_asks}
-use Rattle.wasi_records.specs.Used.{held_in, used}
+use Rattle.tcp_records.specs.declared.socket.TcpRecord.{TcpRecord}
+use Rattle.tcp_records.specs.Halves.{writer_asks}
+use Rattle.tcp_records.specs.Used.{held_in}
+use Rattle.wasi_records.specs.Used.{used}
 use Rattle.host_store.specs.declared.limits.Limit.{Limit}
 use Rattle.host_store.specs.Store.{Records}
 

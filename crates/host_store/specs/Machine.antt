@@ -6,10 +6,10 @@ use Rattle.wasi_world.specs.Asks.{Asks, Give}
 use Rattle.wasi_table.specs.Table.{empty}
 use Rattle.host_store.specs.declared.kind.ConnectionEnd.{ConnectionEnd}
 use Rattle.host_store.specs.declared.machine.Machine.{Machine}
-use Rattle.wasi_records.specs.declared.socket.TcpRecord.{TcpRecord}
-use Rattle.wasi_records.specs.Stops.{Stop, Trap}
+use Rattle.tcp_records.specs.declared.socket.TcpRecord.{TcpRecord}
+use Rattle.record_common.specs.Stops.{Stop, Trap}
 use Rattle.host_store.specs.Kinds.{HandleTable, kind_at, place_of, udp_of, tcp3_of, udp3_of, input_of, output_of, incoming_of, outgoing_of, lookup_of, listen3_of, receive3_of, send3_of, result3_of}
-pub use Rattle.wasi_records.specs.Names.{own_of}
+pub use Rattle.record_common.specs.Names.{own_of}
 use Rattle.host_store.specs.Store.{Records, no_records}
 
 -- no handle, no record, no job, no pending call

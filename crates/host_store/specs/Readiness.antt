@@ -6,11 +6,11 @@ use Rattle.wasi_world.specs.declared.outcome.TrapKind.TheVariants.{NoSuchHandle}
 use Rattle.wasi_world.specs.Asks.{Asks, Give, bind}
 use Rattle.host_store.specs.declared.kind.Watched.{Watched}
 use Rattle.host_store.specs.declared.kind.Watched.TheVariants as watched
-use Rattle.wasi_records.specs.declared.socket.TcpRecord.{TcpRecord}
-use Rattle.wasi_records.specs.Stops.{Stop, Trap}
-use Rattle.wasi_records.specs.InProgress.{is_connect}
+use Rattle.tcp_records.specs.declared.socket.TcpRecord.{TcpRecord}
+use Rattle.record_common.specs.Stops.{Stop, Trap}
+use Rattle.tcp_records.specs.InProgress.{is_connect}
 use Rattle.host_store.specs.Store.{Records, with_socket}
-use Rattle.wasi_records.specs.Looks.{ready_reader, ready_socket, ready_writer, socket_ids}
+use Rattle.tcp_records.specs.Looks.{ready_reader, ready_socket, ready_writer, socket_ids}
 
 -- == by what is watched
 abbrev pub ready_record : OpId → Ids → Watched → TcpRecord → Asks (Result Bool Stop × TcpRecord)

@@ -4,11 +4,11 @@ use Rattle.wasi_addr.specs.declared.code.ErrorCode.{ErrorCode}
 use Rattle.wasi_world.specs.declared.ids.Ids.{Ids}
 use Rattle.wasi_world.specs.declared.outcome.Answer.{Answer}
 use Rattle.wasi_world.specs.declared.outcome.Answer.TheVariants.{Ready, Pending}
-use Rattle.wasi_records.specs.declared.socket.TcpRecord.{TcpRecord}
+use Rattle.tcp_records.specs.declared.socket.TcpRecord.{TcpRecord}
 use Rattle.host_store.specs.declared.store.Standing.{Standing}
 use Rattle.host_store.specs.declared.store.StandingCall.{StandingCall}
 use Rattle.host_store.specs.declared.store.StandingCall.TheVariants.{Bind, Listen, DropOutput, UdpCreate, UdpBind, UdpConnect, UdpConnect3, DropOutgoing, Blocking}
-use Rattle.wasi_records.specs.Stops.{Stop, code_stop}
+use Rattle.record_common.specs.Stops.{Stop, code_stop}
 use Rattle.host_store.specs.Store.{Records, with_socket}
 
 -- the number of the pending call

@@ -4,8 +4,8 @@ use Rattle.wasi_addr.specs.declared.code.ErrorCode.{ErrorCode}
 use Rattle.wasi_world.specs.declared.outcome.TrapKind.TheVariants.{NoSuchHandle}
 use Rattle.wasi_world.specs.Asks.{Asks, Give, bind}
 use Rattle.wasi_tcp.specs.Shape.{Socket}
-use Rattle.wasi_records.specs.declared.socket.TcpRecord.{TcpRecord}
-use Rattle.wasi_records.specs.Stops.{Stop, Trap, code_stop}
+use Rattle.tcp_records.specs.declared.socket.TcpRecord.{TcpRecord}
+use Rattle.record_common.specs.Stops.{Stop, Trap, code_stop}
 use Rattle.wasi_streams.specs.StreamStop.{StreamStop}
 use Rattle.wasi_streams.specs.StreamStop as stream
 use Rattle.wasi_jobs.specs.declared.job.HostJob.{HostJob}
@@ -14,9 +14,9 @@ use Rattle.host_store.specs.declared.beside.Beside.{Beside}
 use Rattle.host_store.specs.declared.limits.Limit.{Limit}
 use Rattle.host_store.specs.declared.store.Standing.{Standing}
 use Rattle.wasi_records.specs.Records.{tcp2_put, tcp2_pushed, open_put, udp2_put}
-use Rattle.wasi_records.specs.Sockets.{new_record}
-use Rattle.wasi_records.specs.declared.udp.OpenUdp.{OpenUdp}
-use Rattle.wasi_records.specs.declared.udp.UdpRecord.{UdpRecord}
+use Rattle.tcp_records.specs.Sockets.{new_record}
+use Rattle.udp_records.specs.declared.udp.OpenUdp.{OpenUdp}
+use Rattle.udp_records.specs.declared.udp.UdpRecord.{UdpRecord}
 
 -- == a call that leaves its socket as it was
 abbrev pub code_told : {T : Type 0} → Result T ErrorCode → Result T Stop

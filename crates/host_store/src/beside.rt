@@ -8,7 +8,8 @@ ghost use Rattle.host_store.specs.Beside.{beside_in, beside_with, beside_without
 use std::alloc::{AllocError, Global};
 use std::marker::Model;
 use std::mem;
-use wasi_records::{PendingReceive, PendingSend, RecordId};
+use udp_records::{PendingReceive, PendingSend};
+use wasi_records::RecordId;
 use wasi_world::NameText;
 
 /// What such a call does.

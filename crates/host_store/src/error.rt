@@ -2,13 +2,13 @@
 
 ghost use Rattle.std.specs.Prelude.{◌≡◌, IfOk, Ok};
 ghost use Rattle.wasi_addr.specs.Code.{p2_of_code};
-ghost use Rattle.wasi_records.specs.Stops.{host_outcome};
+ghost use Rattle.record_common.specs.Stops.{host_outcome};
 ghost use Rattle.host_store.specs.BaseStops.{base_outcome, ends_as, named_as};
 
+use record_common::SocketError;
 use std::alloc::AllocError;
 use thiserror::Error;
 use wasi_addr::{ErrorCode, lookup, p2};
-use wasi_records::SocketError;
 use wasi_streams::{Fault, HostError};
 use wasi_world::{Handle, Refusal, TrapKind};
 

@@ -4,7 +4,7 @@
 ghost use Rattle.std.specs.Prelude.{◌≡◌, ℕ, IfErr, IfOk, IfSome, IsSome, Ok, OnErr, OnOk, false, true};
 ghost use Rattle.wasi_world.specs.Asks.{AsksFor};
 ghost use Rattle.wasi_table.specs.Table.{is_full, pushed};
-ghost use Rattle.wasi_records.specs.Stops.{fault_outcome};
+ghost use Rattle.record_common.specs.Stops.{fault_outcome};
 ghost use Rattle.host_store.specs.Store.{Records};
 ghost use Rattle.host_store.specs.KnownSides.{KnowsSides};
 ghost use Rattle.host_store.specs.Kinds.{kind_at, place_of, udp_of, tcp3_of, udp3_of, incoming_of, outgoing_of, lookup_of, is_network, is_error, listen3_of, receive3_of, send3_of, result3_of, plain_output_of, watched_by, watch_of, table_parent, make_asks, taken_out, Names};

@@ -9,7 +9,8 @@ ghost use Rattle.host_store.specs.Standing.{standing_as, call_of, unstood, exclu
 ghost use Rattle.wasi_jobs.specs.Jobs.{other_than_receive};
 ghost use Rattle.host_store.specs.GivingBack.{given_back};
 ghost use Rattle.wasi_records.specs.Numbered.{item_at};
-ghost use Rattle.wasi_records.specs.Sides.{held_by, held_in, no_socket};
+ghost use Rattle.wasi_records.specs.Sides.{held_by, held_in};
+ghost use Rattle.record_common.specs.Sides.{no_socket};
 ghost use Rattle.host_store.specs.Beside.{beside_of, stands_under};
 ghost use Rattle.std.specs.Borrow.{LendsIf, sem};
 ghost use Rattle.host_store.specs.Rows.{store_row};
@@ -23,9 +24,10 @@ use crate::kind::Interface;
 use crate::limits::Limit;
 use std::alloc::Global;
 use std::marker::Model;
+use tcp_records::TcpRecord;
 use wasi_addr::lookup;
 use wasi_jobs::JobList;
-use wasi_records::{RecordId, RecordList, Stored, TcpRecord, close_sides, find, find_mut};
+use wasi_records::{RecordId, RecordList, Stored, close_sides, find, find_mut};
 use wasi_world::{Answer, Handle, Ids, NumberList, Octets, Sock, World};
 
 /// A pending call that blocks, with what is left of it.

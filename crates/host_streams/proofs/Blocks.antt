@@ -17,10 +17,10 @@ use Rattle.host_store.specs.declared.machine.Machine.{Machine}
 use Rattle.host_streams.specs.Blocking.{Blocked, Again, waits_as, looked, look_asks, read_answer, skip_answer, flush_checked, last_checked, write_ended, write_rounds, round_checked, round_written, splice_count, splice_looked, splice_given, splice_written, splice_permitted, write_told}
 use Rattle.wasi_streams.specs.declared.fault.Fault.{Fault}
 use Rattle.wasi_streams.specs.declared.fault.Fault.TheVariants as fault
-use Rattle.wasi_records.specs.Stops.{Stop, fault_outcome}
+use Rattle.record_common.specs.Stops.{Stop, fault_outcome}
 use Rattle.host_store.specs.CallStops.{CallStop, Closed, Failed, Traps, call_outcome, call_fault}
 use Rattle.host_store.specs.Store.{Records}
-use Rattle.wasi_records.specs.Names.{own_of}
+use Rattle.record_common.specs.Names.{own_of}
 use Rattle.host_streams.specs.StreamCalls.{splice_some, splice_read, spliced, check_asks, read_asks, write_asks}
 
 -- == errors

@@ -19,7 +19,7 @@ use Rattle.host_store.specs.declared.machine.Machine.{Machine}
 use Rattle.wasi_records.specs.declared.records.Record.{Record}
 use Rattle.wasi_records.specs.declared.records.Record.TheVariants.{Tcp, Udp, Lookup, InputPipe, OutputPipe, Slot as SlotRecord, Gone}
 use Rattle.host_store.specs.CallStops.{CallStop, call_outcome, plain_outcome}
-use Rattle.wasi_records.specs.Stops.{Stop, fault_outcome}
+use Rattle.record_common.specs.Stops.{Stop, fault_outcome}
 use Rattle.host_store.specs.Kinds.{HandleTable, make_asks}
 use Rattle.host_streams.specs.PlainStreams.{pipe_asks, piped, with_contents, with_input_bytes}
 use Rattle.wasi_records.specs.Records.{input_pipe_at, input_pipe_put, output_pipe_at, output_pipe_put}

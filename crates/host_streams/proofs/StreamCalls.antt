@@ -20,7 +20,7 @@ use Rattle.wasi_streams.specs.declared.fault.Fault.TheVariants as fault
 use Rattle.host_store.specs.declared.machine.Machine.{Machine}
 use Rattle.host_store.specs.declared.kind.Kind.TheVariants.{ErrorValue}
 use Rattle.host_store.specs.CallStops.{CallStop, Traps, call_fault, call_outcome, error_outcome, failed_outcome, IsStreamStop, IfStreamMemory}
-use Rattle.wasi_records.specs.Stops.{fault_outcome}
+use Rattle.record_common.specs.Stops.{fault_outcome}
 use Rattle.host_store.specs.Kinds.{HandleTable, make_asks}
 use Rattle.host_store.specs.Store.{Records}
 use Rattle.host_store.specs.Machine.{with_store, side_at}

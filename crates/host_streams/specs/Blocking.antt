@@ -10,16 +10,16 @@ use Rattle.wasi_world.specs.Asks.{Asks, Give, bind}
 use Rattle.wasi_streams.specs.Streams.{zeros}
 use Rattle.host_store.specs.declared.kind.PlainInput.{PlainInput}
 use Rattle.host_store.specs.declared.machine.Machine.{Machine}
-use Rattle.wasi_records.specs.declared.socket.TcpRecord.{TcpRecord}
+use Rattle.tcp_records.specs.declared.socket.TcpRecord.{TcpRecord}
 use Rattle.host_store.specs.declared.store.BlockingCall.{BlockingCall}
 use Rattle.host_store.specs.declared.store.BlockingCall.TheVariants.{Read, Skip, Write, Finish, Flush, Splice, Block, Poll}
 use Rattle.host_store.specs.declared.store.StandingCall.TheVariants.{Blocking}
-use Rattle.wasi_records.specs.Stops.{Stop, Code, Trap}
+use Rattle.record_common.specs.Stops.{Stop, Code, Trap}
 use Rattle.host_store.specs.CallStops.{CallStop, Closed, Failed, Traps}
 use Rattle.host_store.specs.Kinds.{kind_at, is_readable, is_writable}
 use Rattle.host_store.specs.Machine.{input_at}
-use Rattle.wasi_records.specs.Names.{own_of}
-use Rattle.wasi_records.specs.Looks.{ready_reader}
+use Rattle.record_common.specs.Names.{own_of}
+use Rattle.tcp_records.specs.Looks.{ready_reader}
 use Rattle.host_store.specs.Readiness.{ready_put}
 use Rattle.wasi_records.specs.Records.{tcp2_at}
 use Rattle.host_store.specs.Standing.{standing_as}

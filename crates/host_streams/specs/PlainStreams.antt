@@ -16,7 +16,7 @@ use Rattle.host_store.specs.declared.machine.Machine.{Machine}
 use Rattle.wasi_records.specs.declared.records.Record.{Record}
 use Rattle.wasi_records.specs.declared.records.Record.TheVariants.{InputPipe, OutputPipe}
 use Rattle.host_store.specs.GivingBack.{given_back}
-use Rattle.wasi_records.specs.Stops.{Stop, Trap}
+use Rattle.record_common.specs.Stops.{Stop, Trap}
 use Rattle.host_store.specs.Kinds.{HandleTable, kind_at, plain_output_of, make_asks}
 use Rattle.wasi_records.specs.Records.{input_pipe_at, input_pipe_put, output_pipe_at, output_pipe_put}
 use Rattle.host_store.specs.Store.{Records}

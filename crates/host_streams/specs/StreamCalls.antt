@@ -12,15 +12,15 @@ use Rattle.wasi_tcp.specs.Writer.{write_state_asks}
 use Rattle.wasi_records.specs.Records.{tcp2_at}
 use Rattle.host_store.specs.declared.kind.Kind.TheVariants.{ErrorValue}
 use Rattle.host_store.specs.declared.machine.Machine.{Machine}
-use Rattle.wasi_records.specs.declared.socket.TcpRecord.{TcpRecord}
-use Rattle.wasi_records.specs.Stops.{Stop}
+use Rattle.tcp_records.specs.declared.socket.TcpRecord.{TcpRecord}
+use Rattle.record_common.specs.Stops.{Stop}
 use Rattle.host_store.specs.CallStops.{CallStop, Closed, Traps, failed_with}
 use Rattle.host_store.specs.declared.kind.PlainInput.{PlainInput}
 use Rattle.host_store.specs.declared.kind.PlainOutput.{PlainOutput}
 use Rattle.host_store.specs.Kinds.{kind_at, make_asks, is_readable, is_writable, plain_input_of, plain_output_of}
 use Rattle.host_streams.specs.PlainStreams.{read_plain, check_plain, write_plain, flush_plain}
 use Rattle.host_store.specs.Store.{Records, stream_at}
-use Rattle.wasi_records.specs.Halves.{reader_asks, writer_asks, flush_asks}
+use Rattle.tcp_records.specs.Halves.{reader_asks, writer_asks, flush_asks}
 use Rattle.host_store.specs.Limits.{check_record}
 use Rattle.host_store.specs.Jobs.{write_at}
 use Rattle.host_store.specs.Machine.{with_table, with_store, input_at, output_at, side_at}

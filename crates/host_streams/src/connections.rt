@@ -3,12 +3,12 @@
 ghost use Rattle.std.specs.Prelude.{◌≡◌, false, Some, ◌-◌, min};
 ghost use Rattle.wasi_world.specs.Asks.{AsksFor};
 ghost use Rattle.host_streams.specs.Blocking.{look_at};
-ghost use Rattle.wasi_records.specs.Stops.{fault_outcome};
+ghost use Rattle.record_common.specs.Stops.{fault_outcome};
 ghost use Rattle.wasi_records.specs.Records.{tcp2_at};
 ghost use Rattle.host_store.specs.KnownSides.{KnowsSides};
 ghost use Rattle.host_store.specs.Jobs.{write_at};
 ghost use Rattle.host_store.specs.Store.{stream_at};
-ghost use Rattle.wasi_records.specs.Halves.{reader_asks, writer_asks, flush_asks};
+ghost use Rattle.tcp_records.specs.Halves.{reader_asks, writer_asks, flush_asks};
 ghost use Rattle.wasi_streams.specs.StreamStop.{stream_outcome};
 ghost use Rattle.wasi_tcp.specs.Reader.{read_state_asks};
 ghost use Rattle.wasi_tcp.specs.Writer.{write_state_asks};
@@ -16,8 +16,9 @@ ghost use Rattle.host_store.specs.Limits.{check_record, most_at};
 
 use host_store::{Store, keep_job, limit_of};
 use std::alloc::Global;
+use tcp_records::TcpRecord;
 use wasi_jobs::HostJob;
-use wasi_records::{RecordId, SlotKey, TcpRecord, find, find_mut, find_mut_in};
+use wasi_records::{RecordId, SlotKey, find, find_mut, find_mut_in};
 use wasi_streams::{Fault, StreamError};
 use wasi_world::{Octets, OpId, TrapKind, World};
 

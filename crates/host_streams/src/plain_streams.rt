@@ -4,13 +4,14 @@ ghost use Rattle.std.specs.Prelude.{◌≡◌, false, IfOk, OnErr, Ok};
 ghost use Rattle.wasi_world.specs.Asks.{AsksFor};
 ghost use Rattle.wasi_world.specs.Seen.{Seen};
 ghost use Rattle.wasi_streams.specs.StreamStop.{stream_outcome};
-ghost use Rattle.wasi_records.specs.Stops.{fault_outcome};
+ghost use Rattle.record_common.specs.Stops.{fault_outcome};
 ghost use Rattle.host_store.specs.CallStops.{plain_outcome, call_outcome};
 ghost use Rattle.host_store.specs.Machine.{own_of};
 ghost use Rattle.host_streams.specs.PlainStreams.{read_plain, check_plain, write_pipe_at, write_plain, flush_plain, pipe_asks, input_pipe_asks, output_pipe_asks, plain_asks, contents_at, contents_asks, drop_plain_input, drop_plain_output};
 ghost use Rattle.wasi_records.specs.Records.{output_pipe_at};
 ghost use Rattle.host_store.specs.KnownSides.{KnowsSides};
-ghost use Rattle.wasi_records.specs.Sides.{held_by, no_socket};
+ghost use Rattle.wasi_records.specs.Sides.{held_by};
+ghost use Rattle.record_common.specs.Sides.{no_socket};
 ghost use Rattle.host_store.specs.Views.{state_of, HostKept};
 
 use bytes::Bytes;

@@ -9,10 +9,13 @@ use Rattle.wasi_tcp.specs.Socket.{side_of}
 use Rattle.wasi_tcp.specs.Listener.{accepted_socket, accepted_state}
 use Rattle.wasi_records.specs.Records.{tcp2_at, tcp2_put}
 use Rattle.wasi_records.specs.declared.records.Record.{Record}
-use Rattle.wasi_records.specs.declared.socket.TcpRecord.{TcpRecord}
-use Rattle.wasi_records.specs.Listening.{IsAccepted, Connects, Fails, with_accepted_in, accepted_record, ids_of}
+use Rattle.tcp_records.specs.declared.socket.TcpRecord.{TcpRecord}
+use Rattle.tcp_records.specs.Listening.{IsAccepted, Connects, Fails, accepted_record, ids_of}
+use Rattle.wasi_records.specs.Accepted.{with_accepted_in}
 use Rattle.host_tcp.specs.TcpCalls.{accept_ids_at}
-use Rattle.wasi_records.specs.Sides.{Weight, Tally, tally, held_in, Balances}
+use Rattle.record_common.specs.Sides.{Weight, Tally, tally}
+use Rattle.wasi_records.specs.Sides.{held_in}
+use Rattle.tcp_records.specs.Sides.{Balances}
 use Rattle.host_store.specs.KnownSides.{KnowsSides}
 use Rattle.host_store.specs.Store.{Records}
 use Rattle.wasi_records.proofs.SideCounts.{held_in-append}

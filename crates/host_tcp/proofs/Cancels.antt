@@ -5,13 +5,14 @@ use Rattle.std.proofs.Common.{◌≡◌, ℕ, Some, Result, Ok, Err, sym, ap}
 use Rattle.wasi_world.specs.Asks.{Give, bind, AsksFor}
 use Rattle.wasi_world.specs.Seen.{Seen}
 use Rattle.wasi_world.proofs.Walks.{asks_end, asks_exit}
-use Rattle.wasi_records.specs.declared.tcp_listening.Listening.TheVariants.{Not}
-use Rattle.wasi_records.specs.declared.socket.TcpRecord.{TcpRecord}
+use Rattle.tcp_records.specs.declared.tcp_listening.Listening.TheVariants.{Not}
+use Rattle.tcp_records.specs.declared.socket.TcpRecord.{TcpRecord}
 use Rattle.host_tcp.specs.TcpCancels.{listen_gone, listen_kept}
-use Rattle.wasi_records.specs.Listening.{give_up_asks, side_in, unclosed, with_listening}
-use Rattle.wasi_records.specs.Sides.{Balances, no_socket}
+use Rattle.tcp_records.specs.Listening.{give_up_asks, side_in, unclosed, with_listening}
+use Rattle.tcp_records.specs.Sides.{Balances}
+use Rattle.record_common.specs.Sides.{no_socket}
 use Rattle.host_store.specs.Store.{Records, with_socket}
-use Rattle.wasi_records.proofs.Releases.{given_up_closes, unclosed_holds}
+use Rattle.tcp_records.proofs.Releases.{given_up_closes, unclosed_holds}
 
 -- == a listen
 pub listen_cancelled : (store : Records) (place : ℕ) (r now : TcpRecord) {s t : Seen} (result : Result (Unit {0}) AllocError) → AsksFor (give_up_asks r.listening) s t (λ done. done) result → IfOk result (λ done. now ≡ with_listening r Not)

@@ -8,12 +8,12 @@ use Rattle.wasi_world.proofs.Walks.{asks_err, reaches_in}
 use Rattle.wasi_streams.specs.declared.fault.HostError.{HostError}
 use Rattle.wasi_streams.specs.declared.fault.HostError.TheVariants as error
 use Rattle.wasi_records.specs.declared.records.Record.{Record}
-use Rattle.wasi_records.specs.declared.slot.Slot.{Slot}
-use Rattle.wasi_records.specs.declared.socket.TcpRecord.{TcpRecord}
+use Rattle.tcp_records.specs.declared.slot.Slot.{Slot}
+use Rattle.tcp_records.specs.declared.socket.TcpRecord.{TcpRecord}
 use Rattle.wasi_records.specs.Records.{tcp2_at, tcp2_put}
 use Rattle.wasi_records.specs.Sides.{held_in}
-use Rattle.wasi_records.specs.Slots.{slot_pushed}
-use Rattle.wasi_records.specs.Stops.{StopOf}
+use Rattle.wasi_records.specs.Records.{slot_pushed}
+use Rattle.record_common.specs.Stops.{StopOf}
 use Rattle.wasi_records.proofs.SideCounts.{held_in-set}
 use Rattle.wasi_records.proofs.SlotCounts.{held_in-slot_pushed}
 use Rattle.wasi_tcp.specs.Socket.{side_of}

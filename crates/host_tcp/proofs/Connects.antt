@@ -14,9 +14,10 @@ use Rattle.wasi_tcp.specs.declared.socket.TcpState.TheVariants as state
 use Rattle.wasi_tcp.specs.Connecting.{start_connect_in}
 use Rattle.wasi_tcp.specs.Shape.{Socket}
 use Rattle.wasi_tcp.specs.Socket.{bound_asks}
-use Rattle.wasi_records.specs.declared.socket.TcpRecord.{TcpRecord}
-use Rattle.wasi_records.specs.Stops.{Code}
-use Rattle.wasi_records.proofs.SideCounts.{Any, Calm, calm_bound, calm_then}
+use Rattle.tcp_records.specs.declared.socket.TcpRecord.{TcpRecord}
+use Rattle.record_common.specs.Stops.{Code}
+use Rattle.record_common.proofs.SideCounts.{Any, Calm, calm_then}
+use Rattle.tcp_records.proofs.SideCounts.{calm_bound}
 use Rattle.host_store.specs.declared.beside.Beside.{Beside}
 use Rattle.host_store.specs.BaseStops.{BaseStop, base_outcome}
 use Rattle.host_store.specs.Beside.{begun_beside, beside_polled, besided, polled_beside}

@@ -4,7 +4,7 @@ use Rattle.std.proofs.Common.{arith, ◌∙◌}
 use Rattle.std.proofs.lemmas.Bool.Decides.{nat_tests}
 use Rattle.wasi_world.specs.declared.ids.OpId.{OpId}
 use Rattle.wasi_world.specs.Asks.{bind}
-use Rattle.wasi_records.specs.Ends.{half_of, receive_half, send_half, look_to_read, look_to_write, read_by_half, write_by_half}
+use Rattle.tcp_records.specs.Ends.{half_of, receive_half, send_half, look_to_read, look_to_write, read_by_half, write_by_half}
 use Rattle.wasi_records.specs.Records.{tcp2_at}
 use Rattle.host_store.specs.declared.kind.ConnectionEnd.{ConnectionEnd}
 use Rattle.host_store.specs.Block.{after_call, give}

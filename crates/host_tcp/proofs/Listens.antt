@@ -13,12 +13,14 @@ use Rattle.wasi_streams.specs.declared.fault.HostError.TheVariants as error
 use Rattle.wasi_tcp.specs.Shape.{Socket}
 use Rattle.wasi_tcp.specs.Socket.{side_of}
 use Rattle.wasi_records.specs.declared.records.Record.{Record}
-use Rattle.wasi_records.specs.declared.socket.TcpRecord.{TcpRecord}
+use Rattle.tcp_records.specs.declared.socket.TcpRecord.{TcpRecord}
 use Rattle.wasi_records.specs.Records.{tcp2_at, tcp2_pushed, tcp2_put}
-use Rattle.wasi_records.specs.Sides.{Balances, Tally, Weight, given_by, held_in, holds, no_socket, tally}
-use Rattle.wasi_records.specs.Stops.{Code}
-use Rattle.wasi_records.specs.Sockets.{new_record}
-use Rattle.wasi_records.proofs.ConnectCounts.{balances_as}
+use Rattle.tcp_records.specs.Sides.{Balances, given_by, holds}
+use Rattle.record_common.specs.Sides.{Tally, Weight, no_socket, tally}
+use Rattle.wasi_records.specs.Sides.{held_in}
+use Rattle.record_common.specs.Stops.{Code}
+use Rattle.tcp_records.specs.Sockets.{new_record}
+use Rattle.tcp_records.proofs.ConnectCounts.{balances_as}
 use Rattle.wasi_records.proofs.SideCounts.{held_in-append}
 use Rattle.host_store.specs.declared.kind.Interface.TheVariants.{P3}
 use Rattle.host_store.specs.BaseStops.{BaseStop, base_outcome, ends_as}

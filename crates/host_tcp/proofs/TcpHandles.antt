@@ -17,9 +17,9 @@ use Rattle.wasi_tcp.specs.Socket.{side_of, new_asks}
 use Rattle.wasi_records.specs.declared.records.Record.{Record}
 use Rattle.wasi_records.specs.declared.records.Record.TheVariants.{Tcp}
 use Rattle.wasi_records.specs.Records.{tcp2_at}
-use Rattle.wasi_records.specs.Sockets.{new_record}
-use Rattle.wasi_records.specs.Stops.{Stop, SocketError, host_outcome}
-use Rattle.wasi_records.proofs.Hosts.{host_refused}
+use Rattle.tcp_records.specs.Sockets.{new_record}
+use Rattle.record_common.specs.Stops.{Stop, SocketError, host_outcome}
+use Rattle.record_common.proofs.Hosts.{host_refused}
 use Rattle.host_store.specs.declared.kind.Kind.{Kind}
 use Rattle.host_store.specs.declared.kind.Kind.TheVariants.{Tcp2}
 use Rattle.host_store.specs.declared.machine.Machine.{Machine}

@@ -7,12 +7,12 @@ use Rattle.wasi_world.specs.declared.ids.OpId.{OpId}
 use Rattle.wasi_world.specs.declared.outcome.Answer.{Answer}
 use Rattle.wasi_world.specs.declared.outcome.Answer.TheVariants.{Ready, Pending}
 use Rattle.wasi_world.specs.Asks.{Asks, Give, bind}
-use Rattle.wasi_records.specs.declared.socket.TcpRecord.{TcpRecord}
-use Rattle.wasi_records.specs.declared.tcp_binding.InProgress.TheVariants as tcp
-use Rattle.wasi_records.specs.Binding.{begin_bind_asks, poll_bind_asks}
-use Rattle.wasi_records.specs.Names.{own_of}
-use Rattle.wasi_records.specs.Sockets.{with_progress}
-use Rattle.wasi_records.specs.Stops.{Code}
+use Rattle.tcp_records.specs.declared.socket.TcpRecord.{TcpRecord}
+use Rattle.tcp_records.specs.declared.tcp_binding.InProgress.TheVariants as tcp
+use Rattle.tcp_records.specs.Binding.{begin_bind_asks, poll_bind_asks}
+use Rattle.record_common.specs.Names.{own_of}
+use Rattle.tcp_records.specs.Sockets.{with_progress}
+use Rattle.record_common.specs.Stops.{Code}
 use Rattle.host_store.specs.declared.kind.Interface.{Interface}
 use Rattle.host_store.specs.declared.kind.Interface.TheVariants.{P2, P3}
 use Rattle.host_store.specs.declared.store.StandingCall.{StandingCall}

@@ -5,13 +5,14 @@ use Rattle.wasi_world.specs.declared.ids.OpId.{OpId}
 use Rattle.wasi_world.specs.declared.outcome.TrapKind.TheVariants.{NoSuchHandle}
 use Rattle.wasi_world.specs.Asks.{Asks, Give, bind}
 use Rattle.wasi_records.specs.declared.records.Record.TheVariants.{Slot as SlotRecord}
-use Rattle.wasi_records.specs.declared.slot.Slot.{Slot}
-use Rattle.wasi_records.specs.declared.socket.TcpRecord.{TcpRecord}
-use Rattle.wasi_records.specs.Ends.{has_half, shut_half}
-use Rattle.wasi_records.specs.Holding.{let_go_asks}
+use Rattle.tcp_records.specs.declared.slot.Slot.{Slot}
+use Rattle.tcp_records.specs.declared.socket.TcpRecord.{TcpRecord}
+use Rattle.tcp_records.specs.Ends.{has_half, shut_half}
+use Rattle.tcp_records.specs.Holding.{let_go_asks}
 use Rattle.wasi_records.specs.Records.{tcp2_at}
-use Rattle.wasi_records.specs.Stops.{Trap}
-use Rattle.wasi_records.specs.Slots.{StreamEnd, slot_at, slot_pushed, slot_for, filled}
+use Rattle.record_common.specs.Stops.{Trap}
+use Rattle.tcp_records.specs.Slots.{StreamEnd, slot_for, filled}
+use Rattle.wasi_records.specs.Records.{slot_at, slot_pushed}
 use Rattle.host_store.specs.declared.kind.ConnectionEnd.{ConnectionEnd}
 use Rattle.host_store.specs.BaseStops.{BaseStop}
 use Rattle.host_tcp.specs.Dropping.{let_go_at}

@@ -8,11 +8,11 @@ use Rattle.wasi_world.specs.declared.outcome.Answer.{Answer}
 use Rattle.wasi_world.specs.Asks.{Asks, Give, bind}
 use Rattle.wasi_tcp.specs.Connecting.{finish_connect_asks, start_connect_asks}
 use Rattle.wasi_tcp.specs.Shape.{Socket}
-use Rattle.wasi_records.specs.declared.socket.TcpRecord.{TcpRecord}
-use Rattle.wasi_records.specs.InProgress.{is_nothing}
-use Rattle.wasi_records.specs.Names.{own_of}
-use Rattle.wasi_records.specs.Sockets.{inner_answered, with_inner}
-use Rattle.wasi_records.specs.Stops.{Code}
+use Rattle.tcp_records.specs.declared.socket.TcpRecord.{TcpRecord}
+use Rattle.tcp_records.specs.InProgress.{is_nothing}
+use Rattle.record_common.specs.Names.{own_of}
+use Rattle.tcp_records.specs.Sockets.{inner_answered, with_inner}
+use Rattle.record_common.specs.Stops.{Code}
 use Rattle.host_store.specs.declared.beside.BesideCall.TheVariants.{Connect}
 use Rattle.host_store.specs.Beside.{beside_as, beside_polled, besided}
 use Rattle.host_store.specs.Lines.{Answered, tcp_at}

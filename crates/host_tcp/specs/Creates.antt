@@ -10,9 +10,9 @@ use Rattle.wasi_tcp.specs.Socket.{new_asks, side_of}
 use Rattle.host_store.specs.declared.kind.Kind.{Kind}
 use Rattle.host_store.specs.declared.kind.Kind.TheVariants.{Tcp2}
 use Rattle.host_store.specs.declared.machine.Machine.{Machine}
-use Rattle.wasi_records.specs.Stops.{Stop, code_stop}
+use Rattle.record_common.specs.Stops.{Stop, code_stop}
 use Rattle.host_store.specs.Kinds.{make_asks}
-pub use Rattle.wasi_records.specs.Names.{own_of}
+pub use Rattle.record_common.specs.Names.{own_of}
 use Rattle.host_store.specs.Store.{with_record}
 use Rattle.host_store.specs.Limits.{with_limit}
 

@@ -5,14 +5,14 @@ use Rattle.wasi_world.specs.declared.ids.Ids.{Ids}
 use Rattle.wasi_world.specs.declared.outcome.Answer.{Answer}
 use Rattle.wasi_world.specs.declared.outcome.Answer.TheVariants.{Ready}
 use Rattle.wasi_world.specs.Asks.{Asks, Give, bind}
-use Rattle.wasi_records.specs.declared.socket.TcpRecord.{TcpRecord}
+use Rattle.tcp_records.specs.declared.socket.TcpRecord.{TcpRecord}
 use Rattle.host_store.specs.declared.store.StandingCall.TheVariants.{DropOutput}
-use Rattle.wasi_records.specs.Names.{own_of}
+use Rattle.record_common.specs.Names.{own_of}
 use Rattle.host_store.specs.Store.{Records, with_socket}
 use Rattle.host_store.specs.Standing.{stood}
 use Rattle.host_store.specs.GivingBack.{given_back}
-use Rattle.wasi_records.specs.Releasing.{release_asks}
-use Rattle.wasi_records.specs.Looks.{wait_writer}
+use Rattle.tcp_records.specs.Releasing.{release_asks}
+use Rattle.tcp_records.specs.Looks.{wait_writer}
 
 -- and is given back then
 abbrev pub released : Records → ℕ → TcpRecord → Records

@@ -8,12 +8,12 @@ use Rattle.wasi_world.specs.declared.outcome.Answer.{Answer}
 use Rattle.wasi_world.specs.declared.outcome.Answer.TheVariants.{Ready, Pending}
 use Rattle.wasi_world.specs.Asks.{Asks, Give, bind}
 use Rattle.wasi_tcp.specs.Shape.{Socket}
-use Rattle.wasi_records.specs.declared.socket.TcpRecord.{TcpRecord}
-use Rattle.wasi_records.specs.InProgress.{is_nothing}
-use Rattle.wasi_records.specs.Listening.{accept_record_asks, listen_once, look_accept_asks, poll_listen_asks}
-use Rattle.wasi_records.specs.Names.{own_of}
+use Rattle.tcp_records.specs.declared.socket.TcpRecord.{TcpRecord}
+use Rattle.tcp_records.specs.InProgress.{is_nothing}
+use Rattle.tcp_records.specs.Listening.{accept_record_asks, listen_once, look_accept_asks, poll_listen_asks}
+use Rattle.record_common.specs.Names.{own_of}
 use Rattle.wasi_records.specs.Records.{tcp2_at}
-use Rattle.wasi_records.specs.Stops.{Code}
+use Rattle.record_common.specs.Stops.{Code}
 use Rattle.host_store.specs.declared.kind.Interface.TheVariants.{P3}
 use Rattle.host_store.specs.declared.kind.Kind.TheVariants.{Listen3}
 use Rattle.host_store.specs.declared.machine.Machine.{Machine}

@@ -7,10 +7,10 @@ use Rattle.wasi_world.specs.declared.outcome.TrapKind.TheVariants.{NoSuchHandle}
 use Rattle.wasi_world.specs.Asks.{Asks, Give, bind}
 use Rattle.wasi_tcp.specs.Shape.{Socket}
 use Rattle.wasi_tcp.specs.Options.{get_option_asks, set_option_asks, set_backlog_asks}
-use Rattle.wasi_records.specs.declared.socket.TcpRecord.{TcpRecord}
-use Rattle.wasi_records.specs.Stops.{Stop, Trap}
+use Rattle.tcp_records.specs.declared.socket.TcpRecord.{TcpRecord}
+use Rattle.record_common.specs.Stops.{Stop, Trap}
 use Rattle.host_store.specs.Store.{Records, put_back, code_told}
-use Rattle.wasi_records.specs.Sockets.{inner_answered}
+use Rattle.tcp_records.specs.Sockets.{inner_answered}
 
 -- what it answers; the records stay as they were
 abbrev pub looked_at : {T : Type 0} → Records → (Socket → Asks (Result T ErrorCode × Socket)) → Option TcpRecord → Asks (Result T Stop × Records)

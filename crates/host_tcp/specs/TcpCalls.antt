@@ -7,28 +7,29 @@ use Rattle.wasi_world.specs.declared.outcome.Answer.TheVariants.{Ready, Pending}
 use Rattle.wasi_world.specs.declared.outcome.TrapKind.TheVariants.{NoSuchHandle}
 use Rattle.wasi_world.specs.Asks.{Asks, Give, bind}
 use Rattle.host_store.specs.declared.kind.Interface.TheVariants.{P2}
-use Rattle.wasi_records.specs.declared.socket.TcpRecord.{TcpRecord}
+use Rattle.tcp_records.specs.declared.socket.TcpRecord.{TcpRecord}
 use Rattle.host_store.specs.declared.store.StandingCall.TheVariants.{Bind, Listen}
-use Rattle.wasi_records.specs.Stops.{Stop, Code, Trap, code_stop}
+use Rattle.record_common.specs.Stops.{Stop, Code, Trap, code_stop}
 use Rattle.host_store.specs.Store.{Records, with_socket, put_back}
 use Rattle.host_store.specs.Standing.{call_answered}
-use Rattle.wasi_records.specs.Listening.{poll_listen_asks, accept_record_asks, begin_listen_asks, ids_of, with_accepted_in}
+use Rattle.tcp_records.specs.Listening.{poll_listen_asks, accept_record_asks, begin_listen_asks, ids_of}
+use Rattle.wasi_records.specs.Accepted.{with_accepted_in}
 use Rattle.wasi_addr.specs.declared.address.IpSocketAddress.{IpSocketAddress}
 use Rattle.wasi_addr.specs.declared.p2.ErrorCode.TheVariants.{ConcurrencyConflict, NotInProgress}
 use Rattle.host_store.specs.declared.store.StandingCall.TheVariants as standing
-use Rattle.wasi_records.specs.InProgress.{is_nothing}
-use Rattle.wasi_records.specs.Names.{own_of}
+use Rattle.tcp_records.specs.InProgress.{is_nothing}
+use Rattle.record_common.specs.Names.{own_of}
 use Rattle.wasi_world.specs.declared.ids.OpId.{OpId}
-use Rattle.wasi_records.specs.declared.tcp_binding.InProgress.{InProgress}
-use Rattle.wasi_records.specs.declared.tcp_binding.InProgress.TheVariants as doing
+use Rattle.tcp_records.specs.declared.tcp_binding.InProgress.{InProgress}
+use Rattle.tcp_records.specs.declared.tcp_binding.InProgress.TheVariants as doing
 use Rattle.wasi_addr.specs.declared.p2.ErrorCode.TheVariants as p2
 use Rattle.wasi_tcp.specs.Shape.{Socket}
 use Rattle.wasi_records.specs.Records.{tcp2_put}
 use Rattle.wasi_records.specs.declared.records.Record.{Record}
 use Rattle.wasi_addr.specs.declared.address.ShutdownType.{ShutdownType}
-use Rattle.wasi_records.specs.Binding.{begin_bind_asks}
-use Rattle.wasi_records.specs.Sockets.{begin_connect_asks, with_progress}
-use Rattle.wasi_records.specs.Shutdowns.{shut_record}
+use Rattle.tcp_records.specs.Binding.{begin_bind_asks}
+use Rattle.tcp_records.specs.Sockets.{begin_connect_asks, with_progress}
+use Rattle.tcp_records.specs.Shutdowns.{shut_record}
 
 abbrev pub relisten_at : Records → Ids → ℕ → Option TcpRecord → Asks (Result (Answer (Unit {0})) Stop × Records)
 relisten_at store ids place None = Give (Err (Trap NoSuchHandle), store)

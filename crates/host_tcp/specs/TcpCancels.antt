@@ -1,14 +1,14 @@
 -- How the pending calls of TCP sockets are given up.
 use Rattle.std.specs.Prelude.{ℕ, Option, Some, None}
 use Rattle.wasi_world.specs.Asks.{Asks, Give, bind}
-use Rattle.wasi_records.specs.declared.tcp_binding.InProgress.TheVariants as doing
+use Rattle.tcp_records.specs.declared.tcp_binding.InProgress.TheVariants as doing
 pub use Rattle.wasi_jobs.specs.Jobs.{is_datagram_on, other_than_datagram}
-use Rattle.wasi_records.specs.declared.tcp_listening.Listening.TheVariants.{Not}
-use Rattle.wasi_records.specs.declared.socket.TcpRecord.{TcpRecord}
-use Rattle.wasi_records.specs.declared.udp.UdpInProgress.TheVariants.{Nothing}
-use Rattle.wasi_records.specs.Listening.{give_up_asks, side_in, unclosed, with_listening}
+use Rattle.tcp_records.specs.declared.tcp_listening.Listening.TheVariants.{Not}
+use Rattle.tcp_records.specs.declared.socket.TcpRecord.{TcpRecord}
+use Rattle.udp_records.specs.declared.udp.UdpInProgress.TheVariants.{Nothing}
+use Rattle.tcp_records.specs.Listening.{give_up_asks, side_in, unclosed, with_listening}
 use Rattle.host_store.specs.Store.{Records, with_socket}
-use Rattle.wasi_records.specs.Sockets.{with_progress}
+use Rattle.tcp_records.specs.Sockets.{with_progress}
 
 -- == a bind is forgotten: the socket is as it was
 abbrev pub cancel_bind_at : Records → ℕ → Option TcpRecord → Records

@@ -7,8 +7,9 @@ ghost use Rattle.host_tcp.specs.Binds.{bound_as, bind_of, rebind_of};
 ghost use Rattle.host_store.specs.KnownSides.{KnowsSides};
 
 use host_store::{Interface, StandingCall, Store, StoreError, unnamed};
+use tcp_records::{InProgress, TcpRecord};
 use wasi_addr::IpSocketAddress;
-use wasi_records::{InProgress, RecordId, TcpRecord, find_mut};
+use wasi_records::{RecordId, find_mut};
 use wasi_world::{Answer, Ids, TrapKind, World};
 
 /// Leaves nothing in progress where a bind of 0.3 is done: no call finishes it there.

@@ -9,7 +9,8 @@ ghost use Rattle.host_store.specs.KnownSides.{KnowsSides};
 
 use host_store::Store;
 use std::alloc::AllocError;
-use wasi_records::{InProgress, RecordId, TcpRecord, find_mut};
+use tcp_records::{InProgress, TcpRecord};
+use wasi_records::{RecordId, find_mut};
 use wasi_world::World;
 
 /// Gives up the bind of the TCP socket with this record number: the socket stays as it was,

@@ -2,7 +2,8 @@
 
 ghost use Rattle.std.specs.Prelude.{◌≡◌, List, [], ◌∷◌, ◌++◌, OnErr, false};
 ghost use Rattle.wasi_world.specs.Asks.{AsksFor, outcome};
-ghost use Rattle.wasi_records.specs.Sides.{Balances, no_socket};
+ghost use Rattle.tcp_records.specs.Sides.{Balances};
+ghost use Rattle.record_common.specs.Sides.{no_socket};
 ghost use Rattle.host_store.specs.BaseStops.{ends_as};
 ghost use Rattle.host_store.specs.Beside.{begun_beside, polled_beside};
 ghost use Rattle.host_tcp.specs.Connects.{connects, reconnects, connect_of, reconnect_of};
@@ -10,8 +11,9 @@ ghost use Rattle.host_store.specs.KnownSides.{KnowsSides};
 ghost use Rattle.host_store.specs.declared.beside.Beside.{Beside};
 
 use host_store::{Beside, BesideCall, BesideList, Store, StoreError, unnamed};
+use tcp_records::TcpRecord;
 use wasi_addr::{ErrorCode, IpSocketAddress};
-use wasi_records::{RecordId, TcpRecord, find_mut};
+use wasi_records::{RecordId, find_mut};
 use wasi_world::{Answer, Ids, OpId, Refusal, TrapKind, World};
 
 /// Keeps the call that was added last where it is pending, and takes it out else.

@@ -3,7 +3,7 @@
 ghost use Rattle.std.specs.Prelude.{◌≡◌, IfOk, false};
 ghost use Rattle.wasi_world.specs.Asks.{AsksFor};
 ghost use Rattle.wasi_world.specs.Seen.{Seen};
-ghost use Rattle.wasi_records.specs.Ends.{take_receive_end, take_send_end};
+ghost use Rattle.tcp_records.specs.Ends.{take_receive_end, take_send_end};
 ghost use Rattle.wasi_records.specs.Records.{tcp2_at};
 ghost use Rattle.host_store.specs.BaseStops.{ends_as};
 ghost use Rattle.host_tcp.specs.ConnectionEnds.{close_end, drop_end, drop_slot, end_of, fill, let_go, open_in, shut_at, take_end};
@@ -11,8 +11,9 @@ ghost use Rattle.host_store.specs.KnownSides.{KnowsSides};
 
 use host_store::{ConnectionEnd, Store, StoreError};
 use std::alloc::AllocError;
+use tcp_records::{Slot, TcpRecord};
 use wasi_addr::{ErrorCode, ShutdownType};
-use wasi_records::{Record, RecordId, Slot, TcpRecord, find, find_mut};
+use wasi_records::{Record, RecordId, find, find_mut};
 use wasi_world::{OpId, TrapKind, World};
 
 /// The end of a half of the TCP socket with this record number, which was taken, or why not.

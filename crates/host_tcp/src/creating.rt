@@ -2,16 +2,18 @@
 
 ghost use Rattle.std.specs.Prelude.{◌≡◌, ◌-◌, false, OnOk, Ok};
 ghost use Rattle.wasi_world.specs.Asks.{AsksFor, outcome};
-ghost use Rattle.wasi_records.specs.Stops.{host_outcome};
+ghost use Rattle.record_common.specs.Stops.{host_outcome};
 ghost use Rattle.host_tcp.specs.Making.{MakesTcp};
 ghost use Rattle.host_store.specs.Limits.{with_limit};
 ghost use Rattle.host_tcp.specs.Creates.{create_asks};
 ghost use Rattle.host_store.specs.KnownSides.{KnowsSides};
 
 use host_store::{Kind, Store, handles, keep_limit};
+use record_common::SocketError;
 use std::alloc::AllocError;
+use tcp_records::TcpRecord;
 use wasi_addr::SocketAddressFamily;
-use wasi_records::{Record, RecordId, SocketError, TcpRecord};
+use wasi_records::{Record, RecordId};
 use wasi_table::Table;
 use wasi_tcp::TcpSocket;
 use wasi_world::{Handle, OpId, Refusal, WasiSocketsCtx, World};

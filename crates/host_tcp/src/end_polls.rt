@@ -2,7 +2,7 @@
 
 ghost use Rattle.std.specs.Prelude.{◌≡◌, ◌≤◌, ◌<◌, ◌^◌, [], length, false};
 ghost use Rattle.wasi_world.specs.Asks.{AsksFor, outcome};
-ghost use Rattle.wasi_records.specs.Ends.{half_of, receive_half, send_half, look_to_read, look_to_write, read_by_half, write_by_half};
+ghost use Rattle.tcp_records.specs.Ends.{half_of, receive_half, send_half, look_to_read, look_to_write, read_by_half, write_by_half};
 ghost use Rattle.wasi_records.specs.Records.{tcp2_at};
 ghost use Rattle.host_store.specs.BaseStops.{ends_as};
 ghost use Rattle.host_tcp.specs.EndPolls.{ends_by, looked, not_yet, read_end, read_told, write_end, write_told};
@@ -11,8 +11,9 @@ ghost use Rattle.host_store.specs.KnownSides.{KnowsSides};
 use crate::connection_ends::close_end;
 use host_store::{ConnectionEnd, Store, StoreError};
 use std::alloc::{AllocError, Global};
+use tcp_records::{StreamResult, TcpRecord};
 use wasi_addr::{ErrorCode, ShutdownType};
-use wasi_records::{RecordId, StreamResult, TcpRecord, find_mut};
+use wasi_records::{RecordId, find_mut};
 use wasi_world::{Answer, Octets, OpId, Refusal, World};
 
 /// How many bytes one read of 0.3 asks for at most.

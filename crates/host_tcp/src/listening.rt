@@ -2,9 +2,10 @@
 
 ghost use Rattle.std.specs.Prelude.{◌≡◌, ◌+◌, ◌<◌, ◌^◌, false, IfOk};
 ghost use Rattle.wasi_world.specs.Asks.{AsksFor, outcome};
-ghost use Rattle.wasi_records.specs.Listening.{TakesOne};
+ghost use Rattle.tcp_records.specs.Listening.{TakesOne};
 ghost use Rattle.wasi_records.specs.Records.{tcp2_at};
-ghost use Rattle.wasi_records.specs.Sides.{Balances, no_socket};
+ghost use Rattle.tcp_records.specs.Sides.{Balances};
+ghost use Rattle.record_common.specs.Sides.{no_socket};
 ghost use Rattle.host_store.specs.BaseStops.{ends_as};
 ghost use Rattle.host_tcp.specs.Listens.{listens, relistens, listen_in, relisten_in, make_listener, listen_of, relisten_of, look_accept, accept_in};
 ghost use Rattle.host_tcp.specs.TcpCalls.{accept_ids_at};
@@ -12,8 +13,9 @@ ghost use Rattle.host_store.specs.KnownSides.{KnowsSides};
 
 use crate::binding::leave_bound;
 use host_store::{Interface, Kind, StandingCall, Store, StoreError, handles, unnamed};
+use tcp_records::TcpRecord;
 use wasi_addr::ErrorCode;
-use wasi_records::{Record, RecordId, TcpRecord, find_mut};
+use wasi_records::{Record, RecordId, find_mut};
 use wasi_table::Table;
 use wasi_world::{Answer, Handle, Ids, OpId, Refusal, TrapKind, World};
 

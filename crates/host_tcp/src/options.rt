@@ -4,12 +4,14 @@ ghost use Rattle.std.specs.Prelude.{◌≡◌, ◌≤◌, false, IfOk};
 ghost use Rattle.wasi_world.specs.Asks.{AsksFor};
 ghost use Rattle.socket_common.specs.Options.{largest_value, option_of, number_of};
 ghost use Rattle.wasi_records.specs.Records.{tcp2_at};
-ghost use Rattle.wasi_records.specs.Stops.{host_outcome};
+ghost use Rattle.record_common.specs.Stops.{host_outcome};
 ghost use Rattle.host_store.specs.KnownSides.{KnowsSides};
 ghost use Rattle.host_tcp.specs.Options.{get_option_at, set_option_at, set_backlog_at};
 
 use host_store::Store;
-use wasi_records::{RecordId, SocketError, TcpRecord, find, find_mut};
+use record_common::SocketError;
+use tcp_records::TcpRecord;
+use wasi_records::{RecordId, find, find_mut};
 use wasi_tcp::Setting;
 use wasi_world::{OpId, Opt, TrapKind, World};
 

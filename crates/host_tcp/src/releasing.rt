@@ -2,14 +2,15 @@
 
 ghost use Rattle.std.specs.Prelude.{◌≡◌, false, Ok};
 ghost use Rattle.wasi_world.specs.Asks.{AsksFor};
-ghost use Rattle.wasi_records.specs.Holding.{drop_listener_asks, drop_socket_asks};
+ghost use Rattle.tcp_records.specs.Holding.{drop_listener_asks, drop_socket_asks};
 ghost use Rattle.wasi_records.specs.Records.{tcp2_at};
 ghost use Rattle.host_tcp.specs.Dropping.{release_at, let_go_at, wait_at, drop_output_at, released};
 ghost use Rattle.host_store.specs.KnownSides.{KnowsSides};
 
 use host_store::{StandingCall, Store};
 use std::alloc::AllocError;
-use wasi_records::{RecordId, TcpRecord, find_mut};
+use tcp_records::TcpRecord;
+use wasi_records::{RecordId, find_mut};
 use wasi_world::{Answer, Ids, OpId, World};
 
 /// Releases what the TCP socket with this record number has: its listener, its open halves, the

@@ -4,21 +4,21 @@
 ghost use Rattle.std.specs.Prelude.{◌≡◌, None, Ok, false, ◌+◌, ◌<◌, ◌^◌, IfOk};
 ghost use Rattle.wasi_world.specs.Asks.{AsksFor};
 ghost use Rattle.wasi_records.specs.Records.{tcp2_at};
-ghost use Rattle.wasi_records.specs.Stops.{host_outcome};
+ghost use Rattle.record_common.specs.Stops.{host_outcome};
 ghost use Rattle.host_tcp.specs.TcpCalls.{relisten_at, start_bind_at, finish_at, start_connect_at, start_listen_at, accept_at, accept_ids_at, shutdown_at};
 ghost use Rattle.host_store.specs.KnownSides.{KnowsSides};
 ghost use Rattle.wasi_world.specs.Seen.{Seen};
-ghost use Rattle.wasi_records.specs.InProgress.{is_started};
-ghost use Rattle.wasi_records.specs.Listening.{TakesOne};
+ghost use Rattle.tcp_records.specs.InProgress.{is_started};
+ghost use Rattle.tcp_records.specs.Listening.{TakesOne};
 ghost use Rattle.host_store.specs.Lines.{finish_connect_of, on_tcp, told_of};
-ghost use Rattle.wasi_records.specs.Sockets.{tell_local_asks, tell_remote_asks};
+ghost use Rattle.tcp_records.specs.Sockets.{tell_local_asks, tell_remote_asks};
 ghost use Rattle.wasi_tcp.specs.Addresses.{is_listening};
 
 use host_store::{Interface, StandingCall, Store};
+use record_common::SocketError;
+use tcp_records::{AsyncOperation, InProgress, TcpRecord};
 use wasi_addr::{ErrorCode, IpSocketAddress, ShutdownType, SocketAddressFamily, p2};
-use wasi_records::{
-    AsyncOperation, InProgress, RecordId, SocketError, TcpRecord, find, find_mut, keep_accepted,
-};
+use wasi_records::{RecordId, find, find_mut, keep_accepted};
 use wasi_world::{Answer, Ids, OpId, TrapKind, World};
 
 /// Polls the listen of the TCP socket with this record number. If it is still pending it is

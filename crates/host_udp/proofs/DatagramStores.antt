@@ -8,24 +8,25 @@ use Rattle.wasi_world.specs.declared.outcome.Answer.{Answer}
 use Rattle.wasi_world.specs.declared.outcome.TrapKind.TheVariants.{NoSuchHandle}
 use Rattle.wasi_world.specs.Asks.{Asks, Give, AsksFor}
 use Rattle.wasi_world.specs.Seen.{Seen}
-use Rattle.wasi_records.specs.declared.datagrams.Outgoing.{Outgoing}
+use Rattle.udp_records.specs.declared.datagrams.Outgoing.{Outgoing}
 use Rattle.wasi_jobs.specs.declared.job.HostJob.{HostJob}
 use Rattle.wasi_jobs.specs.declared.job.HostJob.TheVariants.{Receive}
 use Rattle.wasi_records.specs.declared.records.Record.{Record}
 use Rattle.host_store.specs.declared.store.StandingCall.{StandingCall}
-use Rattle.wasi_records.specs.declared.udp.OpenUdp.{OpenUdp}
+use Rattle.udp_records.specs.declared.udp.OpenUdp.{OpenUdp}
 use Rattle.host_udp.specs.DatagramCalls.{StoreLost, StoreLoses, check_send_by, incoming_looked, with_receive}
-use Rattle.wasi_records.specs.Stops.{SocketError, Trap, host_outcome}
+use Rattle.record_common.specs.Stops.{SocketError, Trap, host_outcome}
 use Rattle.host_store.specs.Jobs.{jobs_with, with_job}
-use Rattle.wasi_records.specs.Receiving.{StreamLoses, receives}
+use Rattle.udp_records.specs.Receiving.{StreamLoses, receives}
 use Rattle.wasi_records.specs.Records.{open_at, open_put}
 use Rattle.host_store.specs.KnownSides.{KnowsSides}
-use Rattle.wasi_records.specs.Sides.{MakesNone, held_in}
+use Rattle.record_common.specs.Sides.{MakesNone}
+use Rattle.wasi_records.specs.Sides.{held_in}
 use Rattle.host_store.specs.Standing.{stood}
 use Rattle.host_store.specs.Store.{Records, with_open_udp}
 use Rattle.host_store.proofs.JobLists.{with_job_is}
 use Rattle.host_store.proofs.KnownSides.{knows_none, knows_same, knows_stood}
-use Rattle.wasi_records.proofs.ReceiveLists.{err_then, nothing_lost, on_err}
+use Rattle.udp_records.proofs.ReceiveLists.{err_then, nothing_lost, on_err}
 use Rattle.wasi_records.proofs.UdpLookups.{open_found, open_back, held_in-open}
 
 -- == the network sockets

@@ -15,13 +15,13 @@ use Rattle.wasi_world.proofs.Walks.{asks_end, asks_err, asks_then, reaches_in, r
 use Rattle.socket_common.specs.Rounds.{PollsRounds}
 use Rattle.wasi_udp.specs.Receive.{datagram_of, wanting}
 use Rattle.wasi_udp.specs.Send.{at_remote}
-use Rattle.wasi_records.specs.declared.udp.OpenUdp.{OpenUdp}
+use Rattle.udp_records.specs.declared.udp.OpenUdp.{OpenUdp}
 use Rattle.wasi_addr.specs.declared.code.ErrorCode.{ErrorCode}
 use Rattle.wasi_streams.specs.declared.fault.HostError.{HostError}
 use Rattle.wasi_streams.specs.declared.fault.HostError.TheVariants as error
-use Rattle.wasi_records.specs.Binding.{bind_answer, left_of}
-use Rattle.wasi_records.specs.Names.{own_of}
-use Rattle.wasi_records.specs.Stops.{StopOf}
+use Rattle.record_common.specs.Binding.{bind_answer, left_of}
+use Rattle.record_common.specs.Names.{own_of}
+use Rattle.record_common.specs.Stops.{StopOf}
 use Rattle.host_store.specs.declared.beside.Beside.{Beside}
 use Rattle.host_store.specs.declared.beside.BesideCall.{BesideCall}
 use Rattle.host_store.specs.declared.beside.BesideCall.TheVariants.{Send, Receive}

@@ -6,11 +6,11 @@ use Rattle.wasi_world.specs.declared.ids.OpId.{OpId}
 use Rattle.wasi_udp.specs.Create.{Create}
 use Rattle.wasi_records.specs.declared.records.Record.{Record}
 use Rattle.wasi_records.specs.declared.records.Record.TheVariants.{Udp}
-use Rattle.wasi_records.specs.declared.udp.UdpRecord.{UdpRecord}
-use Rattle.wasi_records.specs.declared.udp.UdpRecord.TheVariants.{Creating, Open, Closed}
+use Rattle.udp_records.specs.declared.udp.UdpRecord.{UdpRecord}
+use Rattle.udp_records.specs.declared.udp.UdpRecord.TheVariants.{Creating, Open, Closed}
 use Rattle.host_store.specs.GivingBack.{given_back}
 use Rattle.wasi_records.specs.Records.{udp2_at, udp2_put}
-use Rattle.wasi_records.specs.Sides.{no_socket, one_socket, HoldsFewer}
+use Rattle.record_common.specs.Sides.{no_socket, one_socket, HoldsFewer}
 use Rattle.host_store.specs.KnownSides.{KnowsSides}
 use Rattle.host_store.specs.Store.{Records, with_udp}
 use Rattle.host_udp.specs.UdpCalls.{udp_left}

@@ -22,17 +22,17 @@ use Rattle.wasi_udp.specs.Create.{Create, after_create, new_asks}
 use Rattle.host_store.specs.declared.kind.Interface.{Interface}
 use Rattle.host_store.specs.declared.machine.Machine.{Machine}
 use Rattle.wasi_records.specs.declared.records.Record.{Record}
-use Rattle.wasi_records.specs.declared.udp.UdpRecord.{UdpRecord}
-use Rattle.wasi_records.specs.declared.udp.UdpRecord.TheVariants.{Creating}
+use Rattle.udp_records.specs.declared.udp.UdpRecord.{UdpRecord}
+use Rattle.udp_records.specs.declared.udp.UdpRecord.TheVariants.{Creating}
 use Rattle.wasi_streams.specs.declared.fault.HostError.{HostError}
 use Rattle.wasi_streams.specs.declared.fault.HostError.TheVariants as error
 use Rattle.host_store.specs.BaseStops.{BaseStop, base_outcome, ends_as}
 use Rattle.host_store.specs.Kinds.{make_asks, udp_kind}
 use Rattle.wasi_records.specs.Records.{udp2_pushed}
-use Rattle.wasi_records.specs.Sides.{Weight, Tally, no_socket, one_socket, made_in, closed_in}
+use Rattle.record_common.specs.Sides.{Weight, Tally, no_socket, one_socket, made_in, closed_in}
 use Rattle.host_store.specs.KnownSides.{KnowsSides}
 use Rattle.host_store.specs.Store.{Records}
-use Rattle.wasi_records.specs.Udp.{udp_side}
+use Rattle.udp_records.specs.Udp.{udp_side}
 use Rattle.host_udp.specs.UdpCreates.{with_create, udp_side_at, handle_made, mark_udp, create_on}
 use Rattle.host_store.proofs.KnownSides.{knows_then}
 use Rattle.wasi_records.proofs.UdpLookups.{held_in-udp_more}

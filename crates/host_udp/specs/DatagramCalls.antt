@@ -10,18 +10,18 @@ use Rattle.wasi_world.specs.declared.outcome.Answer.TheVariants.{Ready, Pending}
 use Rattle.wasi_world.specs.declared.outcome.TrapKind.TheVariants.{NoSuchHandle, StreamsAlive}
 use Rattle.wasi_world.specs.Asks.{Asks, Give, bind}
 use Rattle.wasi_world.specs.Seen.{Seen}
-use Rattle.wasi_records.specs.declared.datagrams.Outgoing.{Outgoing}
+use Rattle.udp_records.specs.declared.datagrams.Outgoing.{Outgoing}
 use Rattle.wasi_jobs.specs.declared.job.HostJob.TheVariants.{Datagram, Receive}
 use Rattle.host_store.specs.declared.kind.Kind.TheVariants as kind
 use Rattle.host_store.specs.declared.machine.Machine.{Machine}
 use Rattle.host_store.specs.declared.store.StandingCall.TheVariants.{UdpConnect, DropOutgoing}
-use Rattle.wasi_records.specs.declared.udp.OpenUdp.{OpenUdp}
-use Rattle.wasi_records.specs.Datagrams.{has_streams, begin_streams_asks, poll_udp_connect_asks, sends, permit_of, permitted, send_datagrams_asks}
-use Rattle.wasi_records.specs.Stops.{Stop, Trap}
+use Rattle.udp_records.specs.declared.udp.OpenUdp.{OpenUdp}
+use Rattle.udp_records.specs.Datagrams.{has_streams, begin_streams_asks, poll_udp_connect_asks, sends, permit_of, permitted, send_datagrams_asks}
+use Rattle.record_common.specs.Stops.{Stop, Trap}
 use Rattle.host_store.specs.Jobs.{with_job, other_than_receive}
 use Rattle.host_store.specs.Kinds.{HandleTable, kind_at, udp_of, make_asks}
-use Rattle.wasi_records.specs.Names.{own_of}
-use Rattle.wasi_records.specs.Receiving.{StreamLoses, receives, receive_datagrams_asks, look_incoming, look_names}
+use Rattle.record_common.specs.Names.{own_of}
+use Rattle.udp_records.specs.Receiving.{StreamLoses, receives, receive_datagrams_asks, look_incoming, look_names}
 use Rattle.wasi_records.specs.Records.{open_at, udp2_at}
 use Rattle.host_store.specs.Standing.{standing_as}
 use Rattle.host_store.specs.Store.{Records, with_open_udp}

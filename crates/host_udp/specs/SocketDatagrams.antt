@@ -15,12 +15,12 @@ use Rattle.wasi_world.specs.Operation.{Operation, Item, End, Waits, Done, Refuse
 use Rattle.wasi_udp.specs.Receive.{receive_asks, wanting}
 use Rattle.wasi_udp.specs.Send.{send_asks, at_remote}
 use Rattle.wasi_udp.specs.Shape.{Socket}
-use Rattle.wasi_records.specs.declared.udp.OpenUdp.{OpenUdp}
-use Rattle.wasi_records.specs.Binding.{bind_answer, left_of}
-use Rattle.wasi_records.specs.Names.{own_of}
+use Rattle.udp_records.specs.declared.udp.OpenUdp.{OpenUdp}
+use Rattle.record_common.specs.Binding.{bind_answer, left_of}
+use Rattle.record_common.specs.Names.{own_of}
 use Rattle.wasi_records.specs.Records.{open_at, udp2_at}
-use Rattle.wasi_records.specs.Stops.{Code}
-use Rattle.wasi_records.specs.Udp.{with_udp_inner, without_udp_socket}
+use Rattle.record_common.specs.Stops.{Code}
+use Rattle.udp_records.specs.Udp.{with_udp_inner, without_udp_socket}
 use Rattle.host_store.specs.declared.beside.Beside.{Beside}
 use Rattle.host_store.specs.declared.beside.BesideCall.{BesideCall}
 use Rattle.host_store.specs.declared.beside.BesideCall.TheVariants.{Send, Receive}

@@ -15,17 +15,17 @@ use Rattle.wasi_udp.specs.Options.{get_option_asks, set_option_asks}
 use Rattle.host_store.specs.declared.kind.Interface.TheVariants.{P2}
 use Rattle.host_store.specs.declared.store.StandingCall.{StandingCall}
 use Rattle.host_store.specs.declared.store.StandingCall.TheVariants.{UdpBind}
-use Rattle.wasi_records.specs.declared.udp.OpenUdp.{OpenUdp}
-use Rattle.wasi_records.specs.declared.udp.UdpRecord.{UdpRecord}
-use Rattle.wasi_records.specs.declared.udp.UdpRecord.TheVariants.{Creating, Open, Closed}
-use Rattle.wasi_records.specs.declared.udp.UdpInProgress.TheVariants.{Nothing}
-use Rattle.wasi_records.specs.Datagrams.{has_streams}
+use Rattle.udp_records.specs.declared.udp.OpenUdp.{OpenUdp}
+use Rattle.udp_records.specs.declared.udp.UdpRecord.{UdpRecord}
+use Rattle.udp_records.specs.declared.udp.UdpRecord.TheVariants.{Creating, Open, Closed}
+use Rattle.udp_records.specs.declared.udp.UdpInProgress.TheVariants.{Nothing}
+use Rattle.udp_records.specs.Datagrams.{has_streams}
 use Rattle.host_store.specs.GivingBack.{given_back}
-use Rattle.wasi_records.specs.Stops.{Stop, Code, Trap, code_stop}
-use Rattle.wasi_records.specs.Names.{own_of}
+use Rattle.record_common.specs.Stops.{Stop, Code, Trap, code_stop}
+use Rattle.record_common.specs.Names.{own_of}
 use Rattle.host_store.specs.Store.{code_told, Records, with_udp, with_open_udp}
 use Rattle.host_store.specs.Standing.{allowed_answer, call_place, stood}
-use Rattle.wasi_records.specs.Udp.{with_udp_progress, is_udp_idle, is_udp_bound, begin_udp_bind_asks, udp_local_asks, close_udp_asks}
+use Rattle.udp_records.specs.Udp.{with_udp_progress, is_udp_idle, is_udp_bound, begin_udp_bind_asks, udp_local_asks, close_udp_asks}
 
 -- one whose network socket is closed is given back
 abbrev pub udp_left : Records → ℕ → UdpRecord → Records

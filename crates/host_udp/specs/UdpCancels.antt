@@ -3,13 +3,13 @@ use Rattle.std.specs.Prelude.{ℕ, Option, Some, None}
 use Rattle.wasi_world.specs.Asks.{Asks, Give, bind}
 use Rattle.wasi_udp.specs.Create.{create_cancel_asks}
 pub use Rattle.wasi_jobs.specs.Jobs.{is_datagram_on, other_than_datagram}
-use Rattle.wasi_records.specs.declared.udp.OpenUdp.{OpenUdp}
-use Rattle.wasi_records.specs.declared.udp.UdpRecord.{UdpRecord}
-use Rattle.wasi_records.specs.declared.udp.UdpRecord.TheVariants as udp
-use Rattle.wasi_records.specs.declared.udp.UdpInProgress.TheVariants.{Nothing}
+use Rattle.udp_records.specs.declared.udp.OpenUdp.{OpenUdp}
+use Rattle.udp_records.specs.declared.udp.UdpRecord.{UdpRecord}
+use Rattle.udp_records.specs.declared.udp.UdpRecord.TheVariants as udp
+use Rattle.udp_records.specs.declared.udp.UdpInProgress.TheVariants.{Nothing}
 use Rattle.host_store.specs.GivingBack.{given_back}
 use Rattle.host_store.specs.Store.{Records, with_udp, with_open_udp}
-use Rattle.wasi_records.specs.Udp.{with_udp_progress}
+use Rattle.udp_records.specs.Udp.{with_udp_progress}
 
 abbrev pub cancel_udp_bind_at : Records → ℕ → Option OpenUdp → Records
 cancel_udp_bind_at store place None = store

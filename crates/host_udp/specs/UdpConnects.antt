@@ -5,10 +5,10 @@ use Rattle.wasi_addr.specs.declared.code.ErrorCode.{ErrorCode}
 use Rattle.wasi_addr.specs.declared.code.ErrorCode.TheVariants.{InvalidState}
 use Rattle.wasi_world.specs.declared.ids.Ids.{Ids}
 use Rattle.wasi_world.specs.declared.outcome.Answer.{Answer}
-use Rattle.wasi_records.specs.Datagrams.{has_streams, udp_connect_asks, udp_reconnect_asks}
-use Rattle.wasi_records.specs.Names.{own_of}
+use Rattle.udp_records.specs.Datagrams.{has_streams, udp_connect_asks, udp_reconnect_asks}
+use Rattle.record_common.specs.Names.{own_of}
 use Rattle.wasi_records.specs.Records.{open_at}
-use Rattle.wasi_records.specs.Stops.{Code}
+use Rattle.record_common.specs.Stops.{Code}
 use Rattle.host_store.specs.declared.store.StandingCall.TheVariants.{UdpConnect3}
 use Rattle.host_store.specs.Lines.{keeps}
 use Rattle.host_udp.specs.UdpBinds.{udp_stands_of}

@@ -15,16 +15,16 @@ use Rattle.host_store.specs.declared.kind.Interface.{Interface}
 use Rattle.host_store.specs.declared.kind.Interface.TheVariants.{P2}
 use Rattle.host_store.specs.declared.machine.Machine.{Machine}
 use Rattle.host_store.specs.declared.store.StandingCall.TheVariants.{UdpCreate}
-use Rattle.wasi_records.specs.declared.udp.UdpRecord.{UdpRecord}
-use Rattle.wasi_records.specs.declared.udp.UdpRecord.TheVariants.{Creating}
-use Rattle.wasi_records.specs.Stops.{Stop, StopOf, Code, Trap}
+use Rattle.udp_records.specs.declared.udp.UdpRecord.{UdpRecord}
+use Rattle.udp_records.specs.declared.udp.UdpRecord.TheVariants.{Creating}
+use Rattle.record_common.specs.Stops.{Stop, StopOf, Code, Trap}
 use Rattle.host_store.specs.BaseStops.{BaseStop, told_as, trap_of}
 use Rattle.host_store.specs.Kinds.{HandleTable, make_asks, udp_kind}
-use Rattle.wasi_records.specs.Names.{own_of}
+use Rattle.record_common.specs.Names.{own_of}
 use Rattle.wasi_records.specs.Records.{udp2_at, udp2_pushed}
 use Rattle.host_store.specs.Standing.{standing_as}
 use Rattle.host_store.specs.Store.{Records, with_udp}
-use Rattle.wasi_records.specs.Udp.{poll_create_asks, udp_side}
+use Rattle.udp_records.specs.Udp.{poll_create_asks, udp_side}
 use Rattle.host_udp.specs.UdpCalls.{udp_left}
 
 -- a network socket that was made has its record, whether or not a handle is made for it

@@ -9,7 +9,8 @@ ghost use Rattle.host_store.specs.KnownSides.{KnowsSides};
 
 use host_store::Store;
 use std::alloc::AllocError;
-use wasi_records::{OpenUdp, RecordId, UdpInProgress, UdpRecord, find, find_mut};
+use udp_records::{OpenUdp, UdpInProgress, UdpRecord};
+use wasi_records::{RecordId, find, find_mut};
 use wasi_world::World;
 
 /// Gives up the create of the UDP socket with this record number: its network socket is closed

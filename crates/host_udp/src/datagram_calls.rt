@@ -4,18 +4,20 @@ ghost use Rattle.std.specs.Prelude.{◌≡◌, ◌+◌, ◌<◌, ◌^◌, false,
 ghost use Rattle.wasi_world.specs.Asks.{AsksFor};
 ghost use Rattle.wasi_world.specs.Seen.{Seen};
 ghost use Rattle.host_udp.specs.DatagramCalls.{start_streams_at, reconnect_udp_at, mark_streams, make_streams_asks, remake_streams_asks, check_send_at, send_datagrams_at, receive_datagrams_at, ready_incoming_at, incoming_names, drop_incoming_at, drop_outgoing_at, outgoing_ready, StoreLoses};
-ghost use Rattle.wasi_records.specs.Listening.{TakesOne};
-ghost use Rattle.wasi_records.specs.Stops.{fault_outcome, host_outcome};
-ghost use Rattle.wasi_records.specs.Names.{RoseUpTo};
+ghost use Rattle.tcp_records.specs.Listening.{TakesOne};
+ghost use Rattle.record_common.specs.Stops.{fault_outcome, host_outcome};
+ghost use Rattle.record_common.specs.Names.{RoseUpTo};
 ghost use Rattle.wasi_records.specs.Records.{open_at};
 ghost use Rattle.host_store.specs.KnownSides.{KnowsSides};
 
 use crate::udp_calls::udp_side;
 use host_store::{Kind, StandingCall, Store, handles, keep_job};
+use record_common::SocketError;
 use std::alloc::Global;
+use udp_records::OpenUdp;
 use wasi_addr::IpSocketAddress;
 use wasi_jobs::HostJob;
-use wasi_records::{OpenUdp, RecordId, SocketError, find, find_mut, find_mut_in};
+use wasi_records::{RecordId, find, find_mut, find_mut_in};
 use wasi_streams::Fault;
 use wasi_table::Table;
 use wasi_world::{Answer, Handle, Ids, IncomingDatagrams, OpId, OutgoingDatagram, TrapKind, World};

@@ -13,8 +13,9 @@ ghost use Rattle.host_store.specs.declared.beside.BesideCall.TheVariants.{Send, 
 use crate::udp_calls::release_udp;
 use host_store::{Beside, BesideCall, Store, StoreError};
 use std::alloc::AllocError;
+use udp_records::{OpenUdp, PendingReceive, PendingSend};
 use wasi_addr::IpSocketAddress;
-use wasi_records::{OpenUdp, PendingReceive, PendingSend, RecordId, find, find_mut};
+use wasi_records::{RecordId, find, find_mut};
 use wasi_udp::{RecvOp, SendOp};
 use wasi_world::{
     Answer, Ids, IncomingDatagram, Octets, OpId, OutgoingDatagram, Refusal, TrapKind, World,

@@ -7,8 +7,9 @@ ghost use Rattle.host_udp.specs.UdpBinds.{udp_bound_as, udp_bind_of, udp_rebind_
 ghost use Rattle.host_store.specs.KnownSides.{KnowsSides};
 
 use host_store::{Interface, StandingCall, Store, StoreError, unnamed};
+use udp_records::{OpenUdp, UdpInProgress};
 use wasi_addr::IpSocketAddress;
-use wasi_records::{OpenUdp, RecordId, UdpInProgress, find_mut};
+use wasi_records::{RecordId, find_mut};
 use wasi_world::{Answer, Ids, TrapKind, World};
 
 /// The same of a UDP socket.

@@ -4,7 +4,7 @@ ghost use Rattle.std.specs.Prelude.{◌≡◌, ◌≤◌, false, IfOk, Ok, OnErr
 ghost use Rattle.wasi_world.specs.Asks.{AsksFor};
 ghost use Rattle.wasi_world.specs.Seen.{Seen};
 ghost use Rattle.socket_common.specs.Options.{largest_value, option_of, number_of};
-ghost use Rattle.wasi_records.specs.Stops.{host_outcome};
+ghost use Rattle.record_common.specs.Stops.{host_outcome};
 ghost use Rattle.wasi_records.specs.Records.{open_at, udp2_at};
 ghost use Rattle.host_store.specs.KnownSides.{KnowsSides};
 ghost use Rattle.host_udp.specs.UdpCalls.{start_udp_bind_at, finish_udp_bind_at, udp_local_at, udp_remote_at, udp_family_at, get_udp_option_at, set_udp_option_at, release_udp_at, udp_left};
@@ -14,12 +14,12 @@ ghost use Rattle.host_udp.specs.UdpCreates.{create_udp_asks, create_udp, create_
 use host_store::{
     Interface, Kind, Standing, StandingCall, Store, StoreError, handles, named, unnamed,
 };
+use record_common::SocketError;
 use socket_common::Setting;
 use std::alloc::AllocError;
+use udp_records::{OpenUdp, PendingCreate, UdpInProgress, UdpRecord};
 use wasi_addr::{IpSocketAddress, SocketAddressFamily, p2};
-use wasi_records::{
-    OpenUdp, PendingCreate, Record, RecordId, SocketError, UdpInProgress, UdpRecord, find, find_mut,
-};
+use wasi_records::{Record, RecordId, find, find_mut};
 use wasi_table::Table;
 use wasi_udp::UdpSocket;
 use wasi_world::{Answer, Handle, Ids, OpId, Opt, Sock, TrapKind, WasiSocketsCtx, World};

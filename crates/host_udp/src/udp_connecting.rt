@@ -7,8 +7,9 @@ ghost use Rattle.host_store.specs.KnownSides.{KnowsSides};
 ghost use Rattle.host_udp.specs.UdpConnects.{udp_connect_of, udp_reconnect_of};
 
 use host_store::{StandingCall, Store, StoreError, unnamed};
+use udp_records::OpenUdp;
 use wasi_addr::{ErrorCode, IpSocketAddress};
-use wasi_records::{OpenUdp, RecordId, find_mut};
+use wasi_records::{RecordId, find_mut};
 use wasi_world::{Answer, Ids, TrapKind, World};
 
 /// Connects the UDP socket with this record number (`connect` of 0.3). Datagram streams alive,

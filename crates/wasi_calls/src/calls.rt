@@ -9,8 +9,7 @@ ghost use Rattle.wasi_machine.specs.Machine.{first_ids, machine_asks};
 ghost use Rattle.wasi_machine.specs.Machine.{is_held_up, polls_beside, asks_in, call_asks};
 ghost use Rattle.wasi_machine.specs.Machine.{context_at, context_for};
 
-use crate::groups::{CallGroup, group_of};
-use crate::p3_calls::{p3_tcp_call, p3_udp_call};
+use crate::p3_calls::{p3_name_call, p3_tcp_call, p3_udp_call};
 use crate::socket_calls::{name_call, tcp_call, udp_call};
 use crate::stream_calls::{pipe_call, pollable_call, stream_call};
 use host_store::{Kind, Machine, Store, WasiSocketsCtxView};
@@ -143,15 +142,16 @@ fn guest_call<W: World>(
         → KnowsSides (W.seen world.new) view.new.store.now }
     ensures view { SameView view.old view.new }
 {
-    match group_of(&call) {
-        CallGroup::Tcp => tcp_call(alloc, view, world, ids, call),
-        CallGroup::Udp => udp_call(alloc, view, world, ids, call),
-        CallGroup::Names => name_call(alloc, view, world, ids, call),
-        CallGroup::Streams => stream_call(alloc, view, world, ids, call),
-        CallGroup::Pipes => pipe_call(alloc, view, world, ids, call),
-        CallGroup::Pollables => pollable_call(alloc, view, world, ids, call),
-        CallGroup::P3Tcp => p3_tcp_call(alloc, view, world, ids, call),
-        CallGroup::P3Udp => p3_udp_call(alloc, view, world, ids, call),
+    match call {
+        GuestCall::Tcp(call) => tcp_call(alloc, view, world, ids, call),
+        GuestCall::Udp(call) => udp_call(alloc, view, world, ids, call),
+        GuestCall::Names(call) => name_call(alloc, view, world, ids, call),
+        GuestCall::Stream(call) => stream_call(alloc, view, world, ids, call),
+        GuestCall::Pipe(call) => pipe_call(alloc, view, world, ids, call),
+        GuestCall::Pollable(call) => pollable_call(alloc, view, world, ids, call),
+        GuestCall::P3Tcp(call) => p3_tcp_call(alloc, view, world, ids, call),
+        GuestCall::P3Udp(call) => p3_udp_call(alloc, view, world, ids, call),
+        GuestCall::P3Names(call) => p3_name_call(alloc, view, world, ids, call),
     }
 }
 

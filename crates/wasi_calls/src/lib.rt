@@ -3,7 +3,6 @@
 #![tactic(auto)]
 
 mod calls;
-mod groups;
 mod p3_calls;
 mod progress;
 mod settings;

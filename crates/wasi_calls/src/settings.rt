@@ -3,7 +3,7 @@
 ghost use Rattle.std.specs.Prelude.{◌≡◌, false};
 ghost use Rattle.wasi_world.specs.Asks.{AsksFor};
 ghost use Rattle.socket_common.specs.Options.{number_of, option_of};
-ghost use Rattle.wasi_records.specs.Stops.{host_outcome};
+ghost use Rattle.record_common.specs.Stops.{host_outcome};
 ghost use Rattle.host_store.specs.Machine.{own_of, socket_at};
 ghost use Rattle.host_store.specs.Views.{HostKept, state_of};
 ghost use Rattle.wasi_machine.specs.Machine.{set_chosen, set_p3};
@@ -11,10 +11,10 @@ ghost use Rattle.wasi_p3.specs.Stops.{ends_as};
 ghost use Rattle.wasi_steps.specs.Settings.{chosen, udp_chosen, udp_opt};
 
 use host_store::WasiSocketsCtxView;
+use record_common::SocketError;
 use socket_common::Setting;
 use wasi_p2::tcp;
 use wasi_p3::tcp as p3;
-use wasi_records::SocketError;
 use wasi_steps::{TcpSetting, UdpOption, UdpSetting};
 use wasi_world::{Handle, Ids, Opt, World};
 

@@ -5,20 +5,19 @@ ghost use Rattle.wasi_world.specs.Asks.{AsksFor};
 ghost use Rattle.host_store.specs.KnownSides.{KnowsSides};
 ghost use Rattle.host_store.specs.Views.{SameView, state_of};
 ghost use Rattle.wasi_machine.specs.Machine.{first_ids, call_asks};
-ghost use Rattle.wasi_calls.specs.Groups.{group_of};
-ghost use Rattle.wasi_calls.specs.declared.groups.CallGroup.{CallGroup};
+ghost use Rattle.wasi_steps.specs.declared.guest_call.GuestCall.TheVariants as guest;
 ghost use Rattle.std.specs.Result.{result_map_both};
-ghost use Rattle.wasi_records.specs.Stops.{host_outcome};
+ghost use Rattle.record_common.specs.Stops.{host_outcome};
 ghost use Rattle.wasi_machine.specs.Machine.{without_code};
 
 use crate::settings::{set, udp_opt, udp_setting};
 use host_store::WasiSocketsCtxView;
+use record_common::SocketError;
 use std::alloc::{AllocError, Global};
 use wasi_addr::p2;
 use wasi_machine::replies::{answer_reply, reply_of};
 use wasi_p2::{ip_name_lookup, tcp, udp};
-use wasi_records::SocketError;
-use wasi_steps::{GuestCall, NoCode, Reply};
+use wasi_steps::{NameCall, NoCode, Reply, TcpCall, UdpCall};
 use wasi_world::{Ids, World};
 
 /// Makes a call of a TCP socket.
@@ -27,24 +26,24 @@ pub(crate) fn tcp_call<W: World>(
     view: &mut WasiSocketsCtxView<'_>,
     world: &mut W,
     ids: &mut Ids,
-    call: GuestCall,
+    call: TcpCall,
 ) -> Result<Reply, AllocError>
-    requires group { group_of call ≡ CallGroup.Tcp }
     requires open { (W.seen world.old).ended ≡ false }
     requires first { ids.old ≡ first_ids ids.old.line }
     requires free { is_some view.old.store.now.standing ≡ false }
-    ensures asked { AsksFor (call_asks view.old.ctx.now (state_of view.old) ids.old.line call)
-        (W.seen world.old) (W.seen world.new) (λ reply. (reply, state_of view.new)) result }
+    ensures asked { AsksFor (call_asks view.old.ctx.now (state_of view.old) ids.old.line
+        (guest.Tcp call)) (W.seen world.old) (W.seen world.new)
+        (λ reply. (reply, state_of view.new)) result }
     ensures sides { KnowsSides (W.seen world.old) view.old.store.now
         → KnowsSides (W.seen world.new) view.new.store.now }
     ensures view { SameView view.old view.new }
 {
     match call {
-        GuestCall::TcpCreate { family } => {
+        TcpCall::Create { family } => {
             let made = tcp::create_tcp_socket(view, world, ids, family);
             reply_of(alloc, made)
         }
-        GuestCall::TcpStartBind {
+        TcpCall::StartBind {
             socket,
             network,
             addr,
@@ -52,11 +51,11 @@ pub(crate) fn tcp_call<W: World>(
             let answer = tcp::start_bind(view, world, ids, socket, network, addr);
             answer_reply(alloc, ids.line, answer)
         }
-        GuestCall::TcpFinishBind { socket } => {
+        TcpCall::FinishBind { socket } => {
             let done = tcp::finish_bind(view, socket);
             reply_of(alloc, done)
         }
-        GuestCall::TcpStartConnect {
+        TcpCall::StartConnect {
             socket,
             network,
             addr,
@@ -64,51 +63,50 @@ pub(crate) fn tcp_call<W: World>(
             let done = tcp::start_connect(view, world, ids, socket, network, addr);
             reply_of(alloc, done)
         }
-        GuestCall::TcpFinishConnect { socket } => {
+        TcpCall::FinishConnect { socket } => {
             let made = tcp::finish_connect(view, world, ids, socket);
             reply_of(alloc, made)
         }
-        GuestCall::TcpStartListen { socket } => {
+        TcpCall::StartListen { socket } => {
             let answer = tcp::start_listen(view, world, ids, socket);
             answer_reply(alloc, ids.line, answer)
         }
-        GuestCall::TcpFinishListen { socket } => {
+        TcpCall::FinishListen { socket } => {
             let done = tcp::finish_listen(view, socket);
             reply_of(alloc, done)
         }
-        GuestCall::TcpAccept { socket } => {
+        TcpCall::Accept { socket } => {
             let made = tcp::accept(view, world, ids, socket);
             reply_of(alloc, made)
         }
-        GuestCall::TcpLocalAddress { socket } => {
+        TcpCall::LocalAddress { socket } => {
             let told = tcp::local_address(view, world, ids, socket);
             reply_of(alloc, told)
         }
-        GuestCall::TcpRemoteAddress { socket } => {
+        TcpCall::RemoteAddress { socket } => {
             let told = tcp::remote_address(view, world, ids, socket);
             reply_of(alloc, told)
         }
-        GuestCall::TcpIsListening { socket } => {
+        TcpCall::IsListening { socket } => {
             let told = tcp::is_listening(view, socket);
             reply_of(alloc, told)
         }
-        GuestCall::TcpAddressFamily { socket } => {
+        TcpCall::AddressFamily { socket } => {
             let told = tcp::address_family(view, socket);
             reply_of(alloc, told)
         }
-        GuestCall::TcpGet { socket, option } => {
+        TcpCall::Get { socket, option } => {
             let told = tcp::get_option(view, world, ids, socket, option);
             reply_of(alloc, told)
         }
-        GuestCall::TcpSet { socket, setting } => {
+        TcpCall::Set { socket, setting } => {
             let done = set(view, world, ids, socket, setting);
             reply_of(alloc, done)
         }
-        GuestCall::TcpShutdown { socket, how } => {
+        TcpCall::Shutdown { socket, how } => {
             let done = tcp::shutdown(view, world, ids, socket, how);
             reply_of(alloc, done)
         }
-        _ => unreachable!(),
     }
 }
 
@@ -118,24 +116,24 @@ pub(crate) fn udp_call<W: World>(
     view: &mut WasiSocketsCtxView<'_>,
     world: &mut W,
     ids: &mut Ids,
-    call: GuestCall,
+    call: UdpCall,
 ) -> Result<Reply, AllocError>
-    requires group { group_of call ≡ CallGroup.Udp }
     requires open { (W.seen world.old).ended ≡ false }
     requires first { ids.old ≡ first_ids ids.old.line }
     requires free { is_some view.old.store.now.standing ≡ false }
-    ensures asked { AsksFor (call_asks view.old.ctx.now (state_of view.old) ids.old.line call)
-        (W.seen world.old) (W.seen world.new) (λ reply. (reply, state_of view.new)) result }
+    ensures asked { AsksFor (call_asks view.old.ctx.now (state_of view.old) ids.old.line
+        (guest.Udp call)) (W.seen world.old) (W.seen world.new)
+        (λ reply. (reply, state_of view.new)) result }
     ensures sides { KnowsSides (W.seen world.old) view.old.store.now
         → KnowsSides (W.seen world.new) view.new.store.now }
     ensures view { SameView view.old view.new }
 {
     match call {
-        GuestCall::UdpCreate { family } => {
+        UdpCall::Create { family } => {
             let answer = udp::create_udp_socket(view, world, ids, family);
             answer_reply(alloc, ids.line, answer)
         }
-        GuestCall::UdpStartBind {
+        UdpCall::StartBind {
             socket,
             network,
             addr,
@@ -143,53 +141,52 @@ pub(crate) fn udp_call<W: World>(
             let answer = udp::start_bind(view, world, ids, socket, network, addr);
             answer_reply(alloc, ids.line, answer)
         }
-        GuestCall::UdpFinishBind { socket } => {
+        UdpCall::FinishBind { socket } => {
             let done = udp::finish_bind(view, socket);
             reply_of(alloc, done)
         }
-        GuestCall::UdpLocalAddress { socket } => {
+        UdpCall::LocalAddress { socket } => {
             let told = udp::local_address(view, world, ids, socket);
             reply_of(alloc, told)
         }
-        GuestCall::UdpRemoteAddress { socket } => {
+        UdpCall::RemoteAddress { socket } => {
             let told = udp::remote_address(view, socket);
             reply_of(alloc, told)
         }
-        GuestCall::UdpAddressFamily { socket } => {
+        UdpCall::AddressFamily { socket } => {
             let told = udp::address_family(view, socket);
             reply_of(alloc, told)
         }
-        GuestCall::UdpGet { socket, option } => {
+        UdpCall::Get { socket, option } => {
             let told = udp::get_option(view, world, ids, socket, udp_opt(option));
             reply_of(alloc, told)
         }
-        GuestCall::UdpSet { socket, setting } => {
+        UdpCall::Set { socket, setting } => {
             let done = udp::set_option(view, world, ids, socket, udp_setting(setting));
             reply_of(alloc, done)
         }
-        GuestCall::UdpStream { socket, remote } => {
+        UdpCall::Stream { socket, remote } => {
             let answer = udp::stream(view, world, ids, socket, remote);
             answer_reply(alloc, ids.line, answer)
         }
-        GuestCall::UdpReceive {
+        UdpCall::Receive {
             incoming,
             max_results,
         } => {
             let received = udp::receive(alloc, view, world, ids, incoming, max_results);
             reply_of(alloc, received)
         }
-        GuestCall::UdpCheckSend { outgoing } => {
+        UdpCall::CheckSend { outgoing } => {
             let permit = udp::check_send(view, outgoing);
             reply_of(alloc, permit)
         }
-        GuestCall::UdpSend {
+        UdpCall::Send {
             outgoing,
             datagrams,
         } => {
             let sent = udp::send(view, world, ids, outgoing, datagrams.into_vec());
             reply_of(alloc, sent)
         }
-        _ => unreachable!(),
     }
 }
 
@@ -199,36 +196,35 @@ pub(crate) fn name_call<W: World>(
     view: &mut WasiSocketsCtxView<'_>,
     world: &mut W,
     ids: &mut Ids,
-    call: GuestCall,
+    call: NameCall,
 ) -> Result<Reply, AllocError>
-    requires group { group_of call ≡ CallGroup.Names }
     requires open { (W.seen world.old).ended ≡ false }
     requires first { ids.old ≡ first_ids ids.old.line }
     requires free { is_some view.old.store.now.standing ≡ false }
-    ensures asked { AsksFor (call_asks view.old.ctx.now (state_of view.old) ids.old.line call)
-        (W.seen world.old) (W.seen world.new) (λ reply. (reply, state_of view.new)) result }
+    ensures asked { AsksFor (call_asks view.old.ctx.now (state_of view.old) ids.old.line
+        (guest.Names call)) (W.seen world.old) (W.seen world.new)
+        (λ reply. (reply, state_of view.new)) result }
     ensures sides { KnowsSides (W.seen world.old) view.old.store.now
         → KnowsSides (W.seen world.new) view.new.store.now }
     ensures view { SameView view.old view.new }
 {
     match call {
-        GuestCall::Network => {
+        NameCall::Network => {
             let made = wasi_p2::instance_network(view, world, ids);
             reply_of(alloc, made)
         }
-        GuestCall::Resolve { network, name } => {
+        NameCall::Resolve { network, name } => {
             let made = ip_name_lookup::resolve_addresses(alloc, view, world, ids, network, name);
             reply_of(alloc, made)
         }
-        GuestCall::ResolveNext { lookup } => {
+        NameCall::ResolveNext { lookup } => {
             let told = ip_name_lookup::resolve_next_address(view, lookup);
             reply_of(alloc, told)
         }
-        GuestCall::NetworkErrorCode { error } => {
+        NameCall::NetworkErrorCode { error } => {
             let told = wasi_p2::network_error_code(view, error);
             reply_of(alloc, without_code(told))
         }
-        _ => unreachable!(),
     }
 }
 

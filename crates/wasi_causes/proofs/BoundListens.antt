@@ -2,15 +2,15 @@
 -- socket asks.
 use Rattle.wasi_records.specs.Records.{tcp2_at, tcp2_of, tcp2_put, tcp2_pushed}
 use Rattle.wasi_records.specs.declared.records.Record.{Record}
-use Rattle.wasi_records.specs.declared.udp.UdpRecord.{UdpRecord}
-use Rattle.wasi_records.specs.declared.name_lookup.LookupOp.{LookupOp}
+use Rattle.udp_records.specs.declared.udp.UdpRecord.{UdpRecord}
+use Rattle.lookup_records.specs.declared.name_lookup.LookupOp.{LookupOp}
 use Rattle.wasi_udp.specs.Create.{Create, after_create as udp_after_create}
 use Rattle.wasi_causes.proofs.Words.{Allows, Bool, Done, End, Entry, Err, ErrorCode, Give, Item, Kind, Left, List, Listener, Listening, Machine, None, Ok, OpId, Operation, Option}
 use Rattle.wasi_causes.proofs.Words.{Refused, Reply, Result, Some, Standing, StandingCall, Step, TcpRecord, Waits, WasiSocketsCtx, [], ap, false, first_state, gives_more, inl, inr}
 use Rattle.wasi_causes.proofs.Words.{machine_asks, own_of, poll_asks, refl, run, subst, sym, true, turn_asks, with_writer, eqb-true, ℕ, ⊤, ◌∙◌, ◌≡◌, ◌==◌}
 use Rattle.std.proofs.lemmas.Bool.{eq-eqb}
 use Rattle.wasi_causes.proofs.operations.Polls.{Keeps, bound_listen_leaves}
-use Rattle.wasi_records.specs.declared.tcp_listening.Listening.TheVariants as listening
+use Rattle.tcp_records.specs.declared.tcp_listening.Listening.TheVariants as listening
 use Rattle.wasi_tcp.specs.declared.listener.Accepting.TheVariants as accepting
 use Rattle.wasi_walks.proofs.fits.Law.{whatever}
 use Rattle.wasi_walks.proofs.fits.Polls.{Anything}

@@ -10,6 +10,7 @@ use Rattle.wasi_causes.proofs.sockets.P3Results.{its_kind}
 use Rattle.wasi_causes.specs.Outcomes.{Outcome}
 use Rattle.host_store.specs.Machine.{result3_at}
 use Rattle.wasi_steps.specs.declared.guest_call.GuestCall.TheVariants as guest
+use Rattle.wasi_steps.specs.declared.guest_call.P3TcpCall.TheVariants as p3_tcp_call
 use Rattle.wasi_steps.specs.declared.reply.Reply.TheVariants as reply
 use Rattle.wasi_steps.specs.declared.step.Step.TheVariants as step
 use Rattle.host_store.specs.declared.kind.ConnectionEnd.{ConnectionEnd}
@@ -253,7 +254,7 @@ childless contexts steps es replies m w handle kind is none =
 -- so the take of a result doesn't find any
 pub results_have_none : (contexts : List WasiSocketsCtx) (steps : List Step) (es : List Entry) (replies : List Reply) (m : Machine)
     → Left (run contexts [] first_state 1 steps) es (Give (replies, m))
-    → (line c handle : ℕ) (fs : List Entry) (after : Machine) → Outcome contexts m line (step.Call c (guest.P3Result handle)) fs (reply.Trap HasChildren) after → ⊥
+    → (line c handle : ℕ) (fs : List Entry) (after : Machine) → Outcome contexts m line (step.Call c (guest.P3Tcp (p3_tcp_call.Result handle))) fs (reply.Trap HasChildren) after → ⊥
 results_have_none contexts steps es replies m w line c handle fs after row = by_number (result3_at m handle) refl (row.0.2 refl).1
   where
     by_number : (o : Option ℕ) → result3_at m handle ≡ o → IsSome o → ⊥

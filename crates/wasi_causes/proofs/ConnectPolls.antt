@@ -8,8 +8,8 @@ use Rattle.wasi_causes.proofs.Words.{resumed_reply, with_socket, stands_as, Reco
 use Rattle.wasi_tcp.specs.declared.socket.TcpState.TheVariants as state
 use Rattle.wasi_tcp.specs.Connecting.{new_connection}
 use Rattle.wasi_records.specs.Records.{tcp2_at}
-use Rattle.wasi_records.specs.Sockets.{inner_answered}
-use Rattle.wasi_records.specs.Stops.{Code}
+use Rattle.tcp_records.specs.Sockets.{inner_answered}
+use Rattle.record_common.specs.Stops.{Code}
 use Rattle.host_store.specs.declared.beside.Beside.{Beside}
 use Rattle.host_store.specs.declared.beside.BesideCall.{BesideCall}
 use Rattle.host_store.specs.declared.beside.BesideCall.TheVariants.{Connect, Receive, Resolve, Send}

@@ -3,17 +3,17 @@ use Rattle.wasi_causes.proofs.Words.{◌≡◌, Bool, true, false, if◌then◌e
 use Rattle.wasi_machine.specs.Machine.{first_ids}
 use Rattle.wasi_records.specs.Records.{tcp2_at, udp2_at, open_at, lookup_at, input_pipe_at, output_pipe_at}
 use Rattle.host_lookups.specs.NameLookupCalls.{drop_lookup_at}
-use Rattle.wasi_records.specs.declared.name_lookup.Lookup.{Lookup}
+use Rattle.lookup_records.specs.declared.name_lookup.Lookup.{Lookup}
 use Rattle.host_store.specs.declared.kind.Kind.TheVariants as kinds
-use Rattle.wasi_records.specs.Datagrams.{sends as still_sends}
+use Rattle.udp_records.specs.Datagrams.{sends as still_sends}
 use Rattle.host_udp.specs.DatagramCalls.{drop_incoming_at, drop_outgoing_at, drop_outgoing_by, without_receives}
-use Rattle.wasi_records.specs.declared.udp.OpenUdp.{OpenUdp}
-use Rattle.wasi_records.specs.Udp.{close_udp_asks}
+use Rattle.udp_records.specs.declared.udp.OpenUdp.{OpenUdp}
+use Rattle.udp_records.specs.Udp.{close_udp_asks}
 use Rattle.host_udp.specs.UdpCalls.{release_udp_at, udp_closed}
 use Rattle.host_store.specs.Store.{with_open_udp}
 use Rattle.host_store.specs.declared.kind.Kind.TheVariants.{Udp2, Incoming, Outgoing}
-use Rattle.wasi_records.specs.declared.udp.UdpRecord.{UdpRecord}
-use Rattle.wasi_records.specs.declared.udp.UdpRecord.TheVariants as udp
+use Rattle.udp_records.specs.declared.udp.UdpRecord.{UdpRecord}
+use Rattle.udp_records.specs.declared.udp.UdpRecord.TheVariants as udp
 use Rattle.wasi_causes.specs.Udp.{putting_udp, udp_given_up, udp_left}
 use Rattle.wasi_causes.proofs.GivenBack.{no_job, put_gone}
 use Rattle.host_udp.specs.UdpCalls as calls
@@ -27,20 +27,22 @@ use Rattle.wasi_causes.proofs.HeldUdp.{closes}
 use Rattle.host_store.specs.Beside.{has_datagram}
 use Rattle.host_udp.specs.SocketDatagrams.{is_udp_held, let_udp_go, udp_goes, without_udp_handle}
 use Rattle.host_udp.specs.SocketDatagrams as udp_held
-use Rattle.wasi_records.specs.Records.{open_of}
-use Rattle.wasi_records.specs.Udp.{without_udp_socket}
+use Rattle.udp_records.specs.Udp.{open_of}
+use Rattle.udp_records.specs.Udp.{without_udp_socket}
 use Rattle.wasi_walks.proofs.walks.Udp.{open_is}
 use Rattle.wasi_causes.specs.Outcomes.{Outcome, AreLike}
-use Rattle.wasi_records.specs.Holding.{drop_listener_asks, drop_socket_asks, is_held, let_go_by, without_socket}
+use Rattle.tcp_records.specs.Holding.{drop_listener_asks, drop_socket_asks, is_held, let_go_by, without_socket}
 use Rattle.host_tcp.specs.Dropping.{left_so, let_go_at}
 use Rattle.host_store.specs.Kinds.{none_in, outgoing_of}
-use Rattle.wasi_records.specs.Listening.{with_listening}
-use Rattle.wasi_records.specs.Shutdowns.{with_streams}
+use Rattle.tcp_records.specs.Listening.{with_listening}
+use Rattle.tcp_records.specs.Shutdowns.{with_streams}
 use Rattle.host_tcp.specs.TcpCalls.{shut_put}
-use Rattle.wasi_records.specs.declared.tcp_listening.Listening.TheVariants as listening
+use Rattle.tcp_records.specs.declared.tcp_listening.Listening.TheVariants as listening
 use Rattle.wasi_steps.specs.declared.reply.CodeWord.TheVariants as word
 use Rattle.wasi_steps.specs.declared.reply.Reply.TheVariants as reply
 use Rattle.wasi_steps.specs.declared.guest_call.GuestCall.TheVariants as guest
+use Rattle.wasi_steps.specs.declared.guest_call.TcpCall.TheVariants as tcp_call
+use Rattle.wasi_steps.specs.declared.guest_call.PollableCall.TheVariants as pollable_call
 use Rattle.wasi_steps.specs.declared.step.Step.TheVariants as step
 use Rattle.wasi_table.specs.Table.{children_of}
 use Rattle.wasi_world.specs.declared.call.Call.TheVariants as call
@@ -55,8 +57,8 @@ use Rattle.wasi_causes.proofs.streams.EndsClosed.{read_end_goes, write_end_goes}
 use Rattle.wasi_causes.specs.P3Streams.{IsLetGo, ReadEndGoes, WriteEndGoes}
 use Rattle.host_tcp.specs.ConnectionEnds.{drop_slot_in}
 use Rattle.host_store.specs.declared.kind.ConnectionEnd.{ConnectionEnd}
-use Rattle.wasi_records.specs.Slots.{slot_at}
-use Rattle.wasi_records.specs.declared.slot.Slot.{Slot}
+use Rattle.wasi_records.specs.Records.{slot_at}
+use Rattle.tcp_records.specs.declared.slot.Slot.{Slot}
 use Rattle.wasi_causes.proofs.Releases.{Released, listening_up, releases, shuts}
 
 none_there : (hs : List ℕ) → none_in hs ≡ true → hs ≡ []
@@ -81,21 +83,21 @@ module _ (contexts : List WasiSocketsCtx) (m : Machine) (line c handle : ℕ) wh
   -- == a shutdown
   module _ (how : ShutdownType) where
     module _ (place : ℕ) (r : TcpRecord) (n : Names m handle place r) where
-      by_streams : (o : Option Streams) → r.streams ≡ o → Meets (λ es done. (Replied contexts m line (step.Call c (guest.TcpShutdown handle how)) done_reply) es (with_store m (shut_put m.store place done))) [] (shut_record own how r o)
-      by_streams None has = ends (put_back (λ (after : Machine). Outcome contexts m line (step.Call c (guest.TcpShutdown handle how)) [] (reply.Err word.InvalidState) after) m place r n.at ((λ e. rw (its n) has, λ k. refl), (refl, (refl, refl))))
+      by_streams : (o : Option Streams) → r.streams ≡ o → Meets (λ es done. (Replied contexts m line (step.Call c (guest.Tcp (tcp_call.Shutdown handle how))) done_reply) es (with_store m (shut_put m.store place done))) [] (shut_record own how r o)
+      by_streams None has = ends (put_back (λ (after : Machine). Outcome contexts m line (step.Call c (guest.Tcp (tcp_call.Shutdown handle how))) [] (reply.Err word.InvalidState) after) m place r n.at ((λ e. rw (its n) has, λ k. refl), (refl, (refl, refl))))
       by_streams (Some s) has =
           onto _ (widen (λ es done k. (
             apart (λ e. cc) (λ h. let none : r.streams ≡ None = rw (its n) at h in cc),
             (tt, record { place = place; found = r; streams = s; names = n.names; at = n.at; has = has; holds = (k.0, ap (λ (now : Streams). putting m place (with_streams r now)) k.1) }),
           )) (shuts own how s))
 
-    pub shutdown : Meets (Says contexts m line (step.Call c (guest.TcpShutdown handle how))) [] (bind (shutdown_on m own how (socket_at m handle)) (λ done. Give (done_reply done.0, done.1)))
+    pub shutdown : Meets (Says contexts m line (step.Call c (guest.Tcp (tcp_call.Shutdown handle how)))) [] (bind (shutdown_on m own how (socket_at m handle)) (λ done. Give (done_reply done.0, done.1)))
     shutdown =
         onto _ (on_record m handle (shutdown_on m own how) (λ place o. shutdown_at m.store own how place o) refl (λ place. refl) (λ place. refl) (λ none. (apart (λ e. cc) (none_has _ (record_at m handle) none), (none, (refl, refl)))) (λ place r n. onto _ (by_streams place r n r.streams refl)))
 
   -- == a drop
   abbrev DropRow : Rows (Result (Answer (Unit {0})) Stop × Machine)
-  DropRow es done = Outcome contexts m line (step.Call c (guest.Drop handle)) es (answer_reply line done.0) done.1
+  DropRow es done = Outcome contexts m line (step.Call c (guest.Pollable (pollable_call.Drop handle))) es (answer_reply line done.0) done.1
 
   abbrev IsKind : Kind → Type 0
   IsKind kind = kind_at m.table handle ≡ Some kind
@@ -345,12 +347,12 @@ module _ (contexts : List WasiSocketsCtx) (m : Machine) (line c handle : ℕ) wh
   by_live None is = ends ((apart (λ e. cc) (λ h. not_live (kind_at m.table handle) is h.live), asks_none (kind_at m.table handle)), (is, (refl, refl)))
   by_live (Some kind) is = by_children kind is (has_no_child m.table handle) refl
 
-  pub drop : Meets (Says contexts m line (step.Call c (guest.Drop handle))) [] (bind (drop_asks m (first_ids line) handle) (λ done. Give (answer_reply line done.0, done.1)))
+  pub drop : Meets (Says contexts m line (step.Call c (guest.Pollable (pollable_call.Drop handle)))) [] (bind (drop_asks m (first_ids line) handle) (λ done. Give (answer_reply line done.0, done.1)))
   drop = onto _ (by_live (kind_at m.table handle) refl)
 
   -- == what a drop leaves
   abbrev DropSays : List Entry → Reply → Machine → Type 0
-  DropSays = Outcome contexts m line (step.Call c (guest.Drop handle))
+  DropSays = Outcome contexts m line (step.Call c (guest.Pollable (pollable_call.Drop handle)))
 
   -- it may be pending
   abbrev MayWait : Kind → Type 0

@@ -6,10 +6,11 @@ use Rattle.socket_common.specs.Rounds.{some_left}
 use Rattle.wasi_world.specs.Operation.{Item, Operation}
 use Rattle.wasi_udp.specs.Receive as receive
 use Rattle.wasi_udp.specs.Send as send
-use Rattle.wasi_records.specs.declared.udp.OpenUdp.{OpenUdp}
-use Rattle.wasi_records.specs.declared.udp.UdpRecord.{UdpRecord}
-use Rattle.wasi_records.specs.Records.{open_at, open_of, udp2_at}
-use Rattle.wasi_records.specs.Names.{own_of}
+use Rattle.udp_records.specs.declared.udp.OpenUdp.{OpenUdp}
+use Rattle.udp_records.specs.declared.udp.UdpRecord.{UdpRecord}
+use Rattle.wasi_records.specs.Records.{open_at, udp2_at}
+use Rattle.udp_records.specs.Udp.{open_of}
+use Rattle.record_common.specs.Names.{own_of}
 use Rattle.host_store.specs.Beside.{beside_as, beside_in, beside_of}
 use Rattle.host_udp.specs.SocketDatagrams.{is_datagram, is_datagram_in}
 use Rattle.host_store.specs.declared.beside.BesideCall.{BesideCall}

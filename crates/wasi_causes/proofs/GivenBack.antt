@@ -8,10 +8,10 @@ use Rattle.wasi_jobs.specs.declared.job.HostJob.{HostJob}
 use Rattle.host_store.specs.GivingBack.{is_on, other_jobs}
 use Rattle.wasi_records.specs.Numbered.{record_gone}
 use Rattle.wasi_records.specs.Records.{input_pipe_at, input_pipe_of, lookup_at, lookup_of, output_pipe_at, output_pipe_of, tcp2_at, tcp2_of, udp2_at, udp2_of}
-use Rattle.wasi_records.specs.Slots.{slot_at, slot_of}
+use Rattle.wasi_records.specs.Records.{slot_at, slot_of}
 use Rattle.wasi_records.specs.declared.records.Record.{Record}
-use Rattle.wasi_records.specs.declared.udp.OpenUdp.{OpenUdp}
-use Rattle.wasi_records.specs.declared.udp.UdpRecord.{UdpRecord}
+use Rattle.udp_records.specs.declared.udp.OpenUdp.{OpenUdp}
+use Rattle.udp_records.specs.declared.udp.UdpRecord.{UdpRecord}
 use Rattle.wasi_walks.proofs.GoneLists.{stays_there}
 use Rattle.wasi_walks.proofs.walks.Moves.{Here, IsLeft, OfInput, OfLookup, OfOutput, OfSlot, OfTcp, OfUdp, OfUnnamed}
 

@@ -3,10 +3,10 @@ use Rattle.wasi_causes.proofs.Words.{◌≡◌, ◌∷◌, ℕ, Bool, true, fals
 use Rattle.wasi_world.specs.declared.call.Call.TheVariants as call
 use Rattle.wasi_world.specs.declared.call.Told.TheVariants as told
 use Rattle.wasi_records.specs.declared.records.Record.{Record}
-use Rattle.wasi_records.specs.declared.udp.OpenUdp.{OpenUdp}
-use Rattle.wasi_records.specs.declared.udp.UdpRecord.{UdpRecord}
-use Rattle.wasi_records.specs.declared.udp.UdpRecord.TheVariants as udp
-use Rattle.wasi_records.specs.Names.{own_of}
+use Rattle.udp_records.specs.declared.udp.OpenUdp.{OpenUdp}
+use Rattle.udp_records.specs.declared.udp.UdpRecord.{UdpRecord}
+use Rattle.udp_records.specs.declared.udp.UdpRecord.TheVariants as udp
+use Rattle.record_common.specs.Names.{own_of}
 use Rattle.wasi_records.specs.Records.{open_at, udp2_at}
 use Rattle.host_udp.specs.SocketDatagrams.{drop_datagram, is_udp_held, udp_goes}
 use Rattle.host_udp.specs.UdpCalls.{release_udp_at}

@@ -1,7 +1,7 @@
 -- What a listen that was pending leaves: while it is in progress its socket is closed, and its code is Other.
 use Rattle.wasi_records.specs.Records.{tcp2_at}
-use Rattle.wasi_records.specs.declared.tcp_listening.Listening.TheVariants as listening
-use Rattle.wasi_records.specs.Listening.{with_listening}
+use Rattle.tcp_records.specs.declared.tcp_listening.Listening.TheVariants as listening
+use Rattle.tcp_records.specs.Listening.{with_listening}
 use Rattle.host_store.specs.declared.store.StandingCall.TheVariants as standing
 use Rattle.wasi_tcp.specs.declared.socket.TcpState.TheVariants as state
 use Rattle.wasi_addr.specs.declared.code.ErrorCode.TheVariants.{Other}

@@ -1,12 +1,12 @@
 -- A subscription, and a look at a pollable.
 use Rattle.wasi_causes.specs.Plain.{WatchesPlain}
 use Rattle.wasi_records.specs.Records.{tcp2_at, open_at, lookup_at}
-use Rattle.wasi_records.specs.NameLookup.{looks_on}
+use Rattle.lookup_records.specs.NameLookup.{looks_on}
 use Rattle.host_lookups.specs.NameLookupCalls.{lookup_ready}
 use Rattle.wasi_causes.specs.Lookups.{WatchesLookup}
 use Rattle.host_udp.specs.DatagramCalls.{begins_receive, outgoing_ready, ready_incoming_at, with_receive}
-use Rattle.wasi_records.specs.Receiving.{look_incoming, receives}
-use Rattle.wasi_records.specs.declared.udp.OpenUdp.{OpenUdp}
+use Rattle.udp_records.specs.Receiving.{look_incoming, receives}
+use Rattle.udp_records.specs.declared.udp.OpenUdp.{OpenUdp}
 use Rattle.wasi_causes.specs.Datagrams.{IsOfDatagrams, IsReceiving, WatchesIncoming, WatchesOutgoing}
 use Rattle.wasi_causes.proofs.Words.{AcceptWaits, AcceptWaitsOn, Accepting, AcceptsIn, Answer, Bool}
 use Rattle.wasi_causes.proofs.Words.{ClosedBy, ConnectWaits, End, Entry, Err, Give}
@@ -36,11 +36,12 @@ use Rattle.wasi_jobs.specs.declared.job.HostJob.TheVariants.{Receive}
 use Rattle.wasi_causes.proofs.udp_streams.Routes.{job_there}
 use Rattle.wasi_causes.specs.Udp.{WatchesUdp}
 use Rattle.wasi_host.specs.Pollables.{watched_side}
-use Rattle.wasi_records.specs.Looks.{is_over, is_done, connect_looked, accept_looked, ready_listening, ready_idle, ready_socket_by, ready_reader, ready_writer}
+use Rattle.tcp_records.specs.Looks.{is_over, is_done, connect_looked, accept_looked, ready_listening, ready_idle, ready_socket_by, ready_reader, ready_writer}
 use Rattle.host_store.specs.Readiness.{ready_record, ready_put, ready_at}
 use Rattle.host_store.specs.declared.kind.Watched.TheVariants as watched
-use Rattle.wasi_records.specs.declared.tcp_listening.Listening.TheVariants as listening
+use Rattle.tcp_records.specs.declared.tcp_listening.Listening.TheVariants as listening
 use Rattle.wasi_steps.specs.declared.guest_call.GuestCall.TheVariants as guest
+use Rattle.wasi_steps.specs.declared.guest_call.PollableCall.TheVariants as pollable_call
 use Rattle.wasi_steps.specs.declared.step.Step.TheVariants as step
 use Rattle.wasi_tcp.specs.declared.listener.Accepting.TheVariants as accepting
 use Rattle.wasi_tcp.specs.declared.reader.ReadState.TheVariants as reading
@@ -53,13 +54,13 @@ use Rattle.wasi_world.specs.declared.outcome.Answer.TheVariants as answer
 
 -- == a subscription
 module _ (contexts : List WasiSocketsCtx) (m : Machine) (line c handle : ℕ) where
-  on_subscribe : (o : Option Watched) → watched_by (kind_at m.table handle) ≡ o → Meets (Replied contexts m line (step.Call c (guest.Subscribe handle)) handle_reply) [] (subscribe_on m (own_of line) handle o)
+  on_subscribe : (o : Option Watched) → watched_by (kind_at m.table handle) ≡ o → Meets (Replied contexts m line (step.Call c (guest.Pollable (pollable_call.Subscribe handle))) handle_reply) [] (subscribe_on m (own_of line) handle o)
   on_subscribe None is = ends (tt, (is, (refl, refl)))
   on_subscribe (Some w) is =
       onto _ (makes m.table (own_of line) (Pollable w) (Some handle) (watched_side m.store w) (λ full. (tt, (tt, full_so m m [] full refl refl, tt)))
       (tt, ((tt, tt), record { number = refl; marked = rw is refl; made = rw is refl })))
 
-  pub subscribe : Meets (Says contexts m line (step.Call c (guest.Subscribe handle))) [] (bind (subscribe_asks m (own_of line) handle) (λ done. Give (handle_reply done.0, done.1)))
+  pub subscribe : Meets (Says contexts m line (step.Call c (guest.Pollable (pollable_call.Subscribe handle)))) [] (bind (subscribe_asks m (own_of line) handle) (λ done. Give (handle_reply done.0, done.1)))
   subscribe = onto _ (on_subscribe (watched_by (kind_at m.table handle)) refl)
 
 -- it is of a TCP socket's record
@@ -185,7 +186,7 @@ module _ (contexts : List WasiSocketsCtx) (m : Machine) (line c pollable : ℕ) 
   own = own_of line
 
   abbrev ReadyRow : Rows (Result Bool Stop × Machine)
-  ReadyRow es done = Outcome contexts m line (step.Call c (guest.Ready pollable)) es (truth_reply done.0) done.1
+  ReadyRow es done = Outcome contexts m line (step.Call c (guest.Pollable (pollable_call.Ready pollable))) es (truth_reply done.0) done.1
 
   module _ (w : Watched) (is : watch_of (kind_at m.table pollable) ≡ Some w) (tcp : IsOfTcp w) where
     none_there : (u : Watched) → IsOfTcp u → MissesRecord u None
@@ -225,7 +226,7 @@ module _ (contexts : List WasiSocketsCtx) (m : Machine) (line c pollable : ℕ) 
     not_lookup place at = let same : w ≡ watched.Lookup place = cc in subst IsOfTcp same tcp
 
     -- so of what isn't a TCP socket's nothing is said
-    said_of_none : (es : List Entry) (r : Reply) (after : Machine) → (WatchesIdle m pollable → ReadyAtOnce m es r after) → Always contexts m line (step.Call c (guest.Ready pollable)) es r after
+    said_of_none : (es : List Entry) (r : Reply) (after : Machine) → (WatchesIdle m pollable → ReadyAtOnce m es r after) → Always contexts m line (step.Call c (guest.Pollable (pollable_call.Ready pollable))) es r after
     said_of_none es r after idle = (idle, λ at. absurd (not_udp at), λ at. absurd (not_plain at), λ place at. absurd (no_streams place (inl at)), λ place at. absurd (no_streams place (inr at)), λ place at. absurd (not_lookup place at))
 
     the_record : {P : Watched → TcpRecord → Type 0} (on : OfWatched m pollable P) → tcp2_at m.store.records (place_in w) ≡ Some on.found
@@ -286,10 +287,10 @@ module _ (contexts : List WasiSocketsCtx) (m : Machine) (line c pollable : ℕ) 
 
     -- of the others nothing is said
     said_of_streams : (es : List Entry) (r : Reply) (after : Machine) → ((place : ℕ) → WatchesOutgoing m pollable place → (r ≡ reply.Ok (truth_fields (outgoing_ready (open_at m.store.records place)))) × Quiet m es after)
-        → ((place : ℕ) → WatchesIncoming m pollable place → r ≡ reply.Ok (truth_fields false) → IsReceiving (open_at after.store.records place)) → Always contexts m line (step.Call c (guest.Ready pollable)) es r after
+        → ((place : ℕ) → WatchesIncoming m pollable place → r ≡ reply.Ok (truth_fields false) → IsReceiving (open_at after.store.records place)) → Always contexts m line (step.Call c (guest.Pollable (pollable_call.Ready pollable))) es r after
     said_of_streams es r after outgoing incoming = (λ idle. absurd (not_idle_too idle), λ at. absurd (no_udp_too at), λ at. absurd (no_plain_too at), outgoing, incoming, λ place at. absurd (no_lookup_too place at))
 
-    looked_datagrams : (es : List Entry) (b : Bool) (after : Machine) → Always contexts m line (step.Call c (guest.Ready pollable)) es (reply.Ok (truth_fields b)) after → ReadyRow es (Ok b, after)
+    looked_datagrams : (es : List Entry) (b : Bool) (after : Machine) → Always contexts m line (step.Call c (guest.Pollable (pollable_call.Ready pollable))) es (reply.Ok (truth_fields b)) after → ReadyRow es (Ok b, after)
     looked_datagrams es true after always = (always, ((tt, tt), tt))
     looked_datagrams es false after always = (always, ((tt, tt), λ no. absurd (no (rw is of))))
 
@@ -331,7 +332,7 @@ module _ (contexts : List WasiSocketsCtx) (m : Machine) (line c pollable : ℕ) 
     its_lookup p at = let same : watched.Lookup place ≡ watched.Lookup p = cc in cc
 
     -- it is ready where it isn't in progress
-    said_of_lookup : (b : Bool) → looks_on (lookup_at m.store.records place) ≡ b → Always contexts m line (step.Call c (guest.Ready pollable)) [] (truth_reply (Ok (not b))) m
+    said_of_lookup : (b : Bool) → looks_on (lookup_at m.store.records place) ≡ b → Always contexts m line (step.Call c (guest.Pollable (pollable_call.Ready pollable))) [] (truth_reply (Ok (not b))) m
     said_of_lookup b e = (
       λ idle. absurd (not_idle_lookup idle),
       λ at. absurd (no_udp_lookup at),
@@ -356,5 +357,5 @@ module _ (contexts : List WasiSocketsCtx) (m : Machine) (line c pollable : ℕ) 
   by_watch (Some (watched.Input place)) is = onto _ (by_record (watched.Input place) is tt (tcp2_at m.store.records place) refl)
   by_watch (Some (watched.Output place)) is = onto _ (by_record (watched.Output place) is tt (tcp2_at m.store.records place) refl)
 
-  pub ready : Meets (Says contexts m line (step.Call c (guest.Ready pollable))) [] (bind (ready_asks m (first_ids line) pollable) (λ done. Give (truth_reply done.0, done.1)))
+  pub ready : Meets (Says contexts m line (step.Call c (guest.Pollable (pollable_call.Ready pollable)))) [] (bind (ready_asks m (first_ids line) pollable) (λ done. Give (truth_reply done.0, done.1)))
   ready = onto _ (by_watch (watch_of (kind_at m.table pollable)) refl)

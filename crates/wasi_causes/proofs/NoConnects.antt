@@ -3,14 +3,14 @@
 use Rattle.wasi_causes.proofs.Words.{End, Err, ErrorCode, HandleTable, Item, Kind, List, Machine, None, Ok, Operation, Option, Result, Some, Step, Tcp2, TcpRecord, WasiSocketsCtx}
 use Rattle.wasi_causes.proofs.Words.{Bool, Input, Output, ap, bind_progress, false, first_state, inl, inr, is_connect, kind_at, length, new_record, new_socket, own_of, poll_asks, refl, subst, sym, true, turn_asks, with_handle, with_writer, ℕ, ⊤, ◌∙◌, ◌≡◌, ◌⊎◌}
 use Rattle.wasi_causes.proofs.Words.{Done, Entry, OpId, Refused, Waits}
-use Rattle.wasi_records.specs.declared.name_lookup.LookupOp.{LookupOp}
+use Rattle.lookup_records.specs.declared.name_lookup.LookupOp.{LookupOp}
 use Rattle.wasi_walks.proofs.walks.Moves.{listen_after}
 use Rattle.wasi_causes.proofs.Derived.{OwnedIn, first_in}
 use Rattle.host_store.specs.Kinds.{udp_kind}
 use Rattle.host_store.specs.declared.kind.Kind.TheVariants.{Incoming, Listen3, Outgoing, Result3, Tcp3}
 use Rattle.wasi_records.specs.Records.{tcp2_at, tcp2_of, tcp2_put, tcp2_pushed}
 use Rattle.wasi_records.specs.declared.records.Record.{Record}
-use Rattle.wasi_records.specs.declared.udp.UdpRecord.{UdpRecord}
+use Rattle.udp_records.specs.declared.udp.UdpRecord.{UdpRecord}
 use Rattle.wasi_table.specs.Table.{Live}
 use Rattle.wasi_tcp.specs.declared.listener.Accepting.TheVariants as accepting
 use Rattle.wasi_udp.specs.Create.{Create, after_create as udp_after_create}

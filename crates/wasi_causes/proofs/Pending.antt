@@ -24,6 +24,10 @@ use Rattle.wasi_walks.proofs.walks.Steps.{machine_walks}
 use Rattle.wasi_steps.specs.Steps.{context_of}
 use Rattle.wasi_steps.specs.declared.reply.Reply.TheVariants as reply
 use Rattle.wasi_steps.specs.declared.guest_call.GuestCall.TheVariants as guest
+use Rattle.wasi_steps.specs.declared.guest_call.UdpCall.TheVariants as udp_call
+use Rattle.wasi_steps.specs.declared.guest_call.StreamCall.TheVariants as stream_call
+use Rattle.wasi_steps.specs.declared.guest_call.PollableCall.TheVariants as pollable_call
+use Rattle.wasi_steps.specs.declared.guest_call.P3TcpCall.TheVariants as p3_tcp_call
 use Rattle.wasi_steps.specs.declared.step.Step.TheVariants as step
 use Rattle.wasi_host.specs.declared.polling.Look.TheVariants.{First}
 use Rattle.wasi_causes.proofs.pollables.Live.{block_live, list_live, ready_free}
@@ -51,10 +55,11 @@ use Rattle.wasi_walks.proofs.Places.{udp_sort}
 use Rattle.wasi_walks.proofs.fits.Datagrams.{FitBeside}
 use Rattle.wasi_walks.specs.Missing.{MissesOneOf, MissesWatched}
 use Rattle.wasi_records.specs.Numbered.{record_gone}
-use Rattle.wasi_records.specs.Records.{input_pipe_of, open_of, output_pipe_at, output_pipe_of, tcp2_of, udp2_at}
+use Rattle.wasi_records.specs.Records.{input_pipe_of, output_pipe_at, output_pipe_of, tcp2_of, udp2_at}
+use Rattle.udp_records.specs.Udp.{open_of}
 use Rattle.wasi_records.specs.declared.records.Record.{Record}
-use Rattle.wasi_records.specs.declared.udp.OpenUdp.{OpenUdp}
-use Rattle.wasi_records.specs.declared.udp.UdpRecord.{UdpRecord}
+use Rattle.udp_records.specs.declared.udp.OpenUdp.{OpenUdp}
+use Rattle.udp_records.specs.declared.udp.UdpRecord.{UdpRecord}
 use Rattle.host_store.specs.Beside.{beside_of}
 use Rattle.host_store.specs.Kinds.{watch_of}
 use Rattle.host_store.specs.declared.beside.Beside.{Beside}
@@ -98,7 +103,7 @@ NoStreams h = NoStreamsStand h.machine.store.standing × MakesNone h.made
 
 -- the line is a listen of 0.3
 abbrev IsListen3 : Step → Type 0
-IsListen3 (step.Call ctx (guest.P3TcpListen socket)) = ⊤
+IsListen3 (step.Call ctx (guest.P3Tcp (p3_tcp_call.Listen socket))) = ⊤
 IsListen3 _ = ⊥
 
 -- it is that, or one of datagram streams, or a call of a stream or on pollables
@@ -119,7 +124,7 @@ goes_none _ r k = tt
 -- a listen that marks no listener is that of another line than one of 0.3, and doesn't keep the handle of its socket
 listens_none : (marks : Option ℕ) (s : Step) → ListensFor marks s → (MayPend s → ⊥) → (n place : ℕ) → MakesNone (Made.ToListen n marks place)
 listens_none None s is plain n place = tt
-listens_none (Some handle) (step.Call c (guest.P3TcpListen socket)) is plain n place = absurd (plain (inl tt))
+listens_none (Some handle) (step.Call c (guest.P3Tcp (p3_tcp_call.Listen socket))) is plain n place = absurd (plain (inl tt))
 listens_none (Some handle) _ is plain n place = absurd is
 
 recalls_none : (marks : Option ℕ) (n place : ℕ) → NoStreamsIn (StandingCall.Listen place marks) → MakesNone (Made.ToListen n marks place)
@@ -460,11 +465,11 @@ module _ (contexts : List WasiSocketsCtx) (m : Machine) (line : ℕ) (inputs : (
 
   -- and so does each step
   module _ (es : List Entry) (r : Reply) (after : Machine) where
-    spliced_well : (c to from len : ℕ) → m.store.standing ≡ None → Answered contexts m line (step.Call c (guest.BlockingSplice to from len)) es r after → (reads : Bool) → is_readable (kind_at m.table from) ≡ reads → SplicesOn contexts m c (first_ids line) to from len es r after → PendingHandleIsLive after
+    spliced_well : (c to from len : ℕ) → m.store.standing ≡ None → Answered contexts m line (step.Call c (guest.Stream (stream_call.BlockingSplice to from len))) es r after → (reads : Bool) → is_readable (kind_at m.table from) ≡ reads → SplicesOn contexts m c (first_ids line) to from len es r after → PendingHandleIsLive after
     spliced_well c to from len none w true e goes = splice_live contexts c (first_ids line) m to from len es r after none (inputs from e) goes
     spliced_well c to from len none w false e goes =
         same_quiet m after (met {Row = λ es done. done.1 ≡ m} {a = (r, after)} (onto _ (subst (λ (b : Bool). Meets (λ es done. done.1 ≡ m) [] (blocking_splice_when m (first_ids line) to from len (is_writable (kind_at m.table to)) b)) (sym e) (unread m (first_ids line) to from len (is_writable (kind_at m.table to)))))
-        (subst (λ (o : Option Standing). Left (asks_while contexts m line (step.Call c (guest.BlockingSplice to from len)) o) es (Give (r, after))) none w)) (free_well m none)
+        (subst (λ (o : Option Standing). Left (asks_while contexts m line (step.Call c (guest.Stream (stream_call.BlockingSplice to from len))) o) es (Give (r, after))) none w)) (free_well m none)
 
     -- a wait for several
     begun_wait : (ps : List ℕ) → m.store.standing ≡ None → BeginsToWait m line ps es r after → PendingHandleIsLive after
@@ -480,24 +485,24 @@ module _ (contexts : List WasiSocketsCtx) (m : Machine) (line : ℕ) (inputs : (
         same_well m after row.0.handles (record { streams = row.0.streams; inputs = λ k h. ap (λ o. is_some o) (row.0.pipes k).0 ∙ h; outputs = λ k h. ap (λ o. is_some o) (row.0.pipes k).1 ∙ h }) (turn_stays m after row.0.sockets row.0.opens row.0.streams) row.0.pending well
     well_after (step.Poll n) free w row none owned well = polled_well n es r after free row well
     well_after (step.Cancel n) free w row none owned well = cancelled_well n es r after row owned well
-    well_after (step.Call c (guest.UdpStream s remote)) free w row none owned well = row.0.1 (nothing_pending (step.Call c (guest.UdpStream s remote)) refl free m.store.standing refl)
-    well_after (step.Call c (guest.P3TcpListen s)) free w row none owned well = listen_live contexts m line c s es r after (nothing_pending (step.Call c (guest.P3TcpListen s)) refl free m.store.standing refl) row
-    well_after (step.Call c (guest.Read input len)) free w row none owned well = free_well after (read_free contexts m (nothing_pending (step.Call c (guest.Read input len)) refl free m.store.standing refl) line c es r after input len w)
-    well_after (step.Call c (guest.CheckWrite output)) free w row none owned well = free_well after (check_free contexts m (nothing_pending (step.Call c (guest.CheckWrite output)) refl free m.store.standing refl) line c es r after output w)
-    well_after (step.Call c (guest.Write output bytes)) free w row none owned well = free_well after (write_free contexts m (nothing_pending (step.Call c (guest.Write output bytes)) refl free m.store.standing refl) line c es r after output bytes w)
-    well_after (step.Call c (guest.Flush output)) free w row none owned well = free_well after (flush_free contexts m (nothing_pending (step.Call c (guest.Flush output)) refl free m.store.standing refl) line c es r after output w)
-    well_after (step.Call c (guest.Skip input len)) free w row none owned well = let none = nothing_pending (step.Call c (guest.Skip input len)) refl free m.store.standing refl in free_well after (skip_free contexts m none line c input len es r after (row.0 none))
-    well_after (step.Call c (guest.WriteZeroes output len)) free w row none owned well = let none = nothing_pending (step.Call c (guest.WriteZeroes output len)) refl free m.store.standing refl in free_well after (write_free contexts m none line c es r after output (zeros len) (row.0 none))
-    well_after (step.Call c (guest.Splice to from len)) free w row none owned well = let none = nothing_pending (step.Call c (guest.Splice to from len)) refl free m.store.standing refl in free_well after (splice_free contexts m line c to from len es r after none (row.0 none))
-    well_after (step.Call c (guest.BlockingRead input len)) free w row none owned well = let none = nothing_pending (step.Call c (guest.BlockingRead input len)) refl free m.store.standing refl in blocked_live contexts c (first_ids line) m (blocking.Read input len) es r after none tt tt (row.0 none)
-    well_after (step.Call c (guest.BlockingSkip input len)) free w row none owned well = let none = nothing_pending (step.Call c (guest.BlockingSkip input len)) refl free m.store.standing refl in blocked_live contexts c (first_ids line) m (blocking.Skip input len) es r after none tt tt (row.0 none)
-    well_after (step.Call c (guest.BlockingWrite output bytes)) free w row none owned well = let none = nothing_pending (step.Call c (guest.BlockingWrite output bytes)) refl free m.store.standing refl in begun_live contexts c (first_ids line) m output (length bytes) bytes es r after none (λ few. few) (row.0 none)
-    well_after (step.Call c (guest.BlockingZeroes output len)) free w row none owned well = let none = nothing_pending (step.Call c (guest.BlockingZeroes output len)) refl free m.store.standing refl in begun_live contexts c (first_ids line) m output len (zeros len) es r after none (few_zeros len) (row.0 none)
-    well_after (step.Call c (guest.BlockingFlush output)) free w row none owned well = let none = nothing_pending (step.Call c (guest.BlockingFlush output)) refl free m.store.standing refl in blocked_live contexts c (first_ids line) m (blocking.Flush output) es r after none tt tt (row.0 none)
-    well_after (step.Call c (guest.BlockingSplice to from len)) free w row none owned well = let none = nothing_pending (step.Call c (guest.BlockingSplice to from len)) refl free m.store.standing refl in spliced_well c to from len none w (is_readable (kind_at m.table from)) refl (row.0 none)
-    well_after (step.Call c (guest.Ready p)) free w row none owned well = free_well after (ready_free contexts m line c p (nothing_pending (step.Call c (guest.Ready p)) refl free m.store.standing refl) es r after w)
-    well_after (step.Call c (guest.Block p)) free w row none owned well = let none = nothing_pending (step.Call c (guest.Block p)) refl free m.store.standing refl in block_live contexts c (first_ids line) m p First es r after none (row.0 none)
-    well_after (step.Call c (guest.PollList ps)) free w row none owned well = begun_wait ps (nothing_pending (step.Call c (guest.PollList ps)) refl free m.store.standing refl) row.0
+    well_after (step.Call c (guest.Udp (udp_call.Stream s remote))) free w row none owned well = row.0.1 (nothing_pending (step.Call c (guest.Udp (udp_call.Stream s remote))) refl free m.store.standing refl)
+    well_after (step.Call c (guest.P3Tcp (p3_tcp_call.Listen s))) free w row none owned well = listen_live contexts m line c s es r after (nothing_pending (step.Call c (guest.P3Tcp (p3_tcp_call.Listen s))) refl free m.store.standing refl) row
+    well_after (step.Call c (guest.Stream (stream_call.Read input len))) free w row none owned well = free_well after (read_free contexts m (nothing_pending (step.Call c (guest.Stream (stream_call.Read input len))) refl free m.store.standing refl) line c es r after input len w)
+    well_after (step.Call c (guest.Stream (stream_call.CheckWrite output))) free w row none owned well = free_well after (check_free contexts m (nothing_pending (step.Call c (guest.Stream (stream_call.CheckWrite output))) refl free m.store.standing refl) line c es r after output w)
+    well_after (step.Call c (guest.Stream (stream_call.Write output bytes))) free w row none owned well = free_well after (write_free contexts m (nothing_pending (step.Call c (guest.Stream (stream_call.Write output bytes))) refl free m.store.standing refl) line c es r after output bytes w)
+    well_after (step.Call c (guest.Stream (stream_call.Flush output))) free w row none owned well = free_well after (flush_free contexts m (nothing_pending (step.Call c (guest.Stream (stream_call.Flush output))) refl free m.store.standing refl) line c es r after output w)
+    well_after (step.Call c (guest.Stream (stream_call.Skip input len))) free w row none owned well = let none = nothing_pending (step.Call c (guest.Stream (stream_call.Skip input len))) refl free m.store.standing refl in free_well after (skip_free contexts m none line c input len es r after (row.0 none))
+    well_after (step.Call c (guest.Stream (stream_call.WriteZeroes output len))) free w row none owned well = let none = nothing_pending (step.Call c (guest.Stream (stream_call.WriteZeroes output len))) refl free m.store.standing refl in free_well after (write_free contexts m none line c es r after output (zeros len) (row.0 none))
+    well_after (step.Call c (guest.Stream (stream_call.Splice to from len))) free w row none owned well = let none = nothing_pending (step.Call c (guest.Stream (stream_call.Splice to from len))) refl free m.store.standing refl in free_well after (splice_free contexts m line c to from len es r after none (row.0 none))
+    well_after (step.Call c (guest.Stream (stream_call.BlockingRead input len))) free w row none owned well = let none = nothing_pending (step.Call c (guest.Stream (stream_call.BlockingRead input len))) refl free m.store.standing refl in blocked_live contexts c (first_ids line) m (blocking.Read input len) es r after none tt tt (row.0 none)
+    well_after (step.Call c (guest.Stream (stream_call.BlockingSkip input len))) free w row none owned well = let none = nothing_pending (step.Call c (guest.Stream (stream_call.BlockingSkip input len))) refl free m.store.standing refl in blocked_live contexts c (first_ids line) m (blocking.Skip input len) es r after none tt tt (row.0 none)
+    well_after (step.Call c (guest.Stream (stream_call.BlockingWrite output bytes))) free w row none owned well = let none = nothing_pending (step.Call c (guest.Stream (stream_call.BlockingWrite output bytes))) refl free m.store.standing refl in begun_live contexts c (first_ids line) m output (length bytes) bytes es r after none (λ few. few) (row.0 none)
+    well_after (step.Call c (guest.Stream (stream_call.BlockingZeroes output len))) free w row none owned well = let none = nothing_pending (step.Call c (guest.Stream (stream_call.BlockingZeroes output len))) refl free m.store.standing refl in begun_live contexts c (first_ids line) m output len (zeros len) es r after none (few_zeros len) (row.0 none)
+    well_after (step.Call c (guest.Stream (stream_call.BlockingFlush output))) free w row none owned well = let none = nothing_pending (step.Call c (guest.Stream (stream_call.BlockingFlush output))) refl free m.store.standing refl in blocked_live contexts c (first_ids line) m (blocking.Flush output) es r after none tt tt (row.0 none)
+    well_after (step.Call c (guest.Stream (stream_call.BlockingSplice to from len))) free w row none owned well = let none = nothing_pending (step.Call c (guest.Stream (stream_call.BlockingSplice to from len))) refl free m.store.standing refl in spliced_well c to from len none w (is_readable (kind_at m.table from)) refl (row.0 none)
+    well_after (step.Call c (guest.Pollable (pollable_call.Ready p))) free w row none owned well = free_well after (ready_free contexts m line c p (nothing_pending (step.Call c (guest.Pollable (pollable_call.Ready p))) refl free m.store.standing refl) es r after w)
+    well_after (step.Call c (guest.Pollable (pollable_call.Block p))) free w row none owned well = let none = nothing_pending (step.Call c (guest.Pollable (pollable_call.Block p))) refl free m.store.standing refl in block_live contexts c (first_ids line) m p First es r after none (row.0 none)
+    well_after (step.Call c (guest.Pollable (pollable_call.PollList ps))) free w row none owned well = begun_wait ps (nothing_pending (step.Call c (guest.Pollable (pollable_call.PollList ps))) refl free m.store.standing refl) row.0
     well_after s free w row none owned well = by_guest s after refl (λ h. elim h [ inl k ↦ k | inr k ↦ elim k [ inl j ↦ j | inr j ↦ elim j [ inl x ↦ x | inr x ↦ x ] ] ]) free none
 
   -- whatever it is answered

@@ -2,8 +2,8 @@
 use Rattle.wasi_causes.proofs.Words.{◌≡◌, Bool, true, false, if◌then◌else◌, List, [], ◌++◌, Option, Some, None, refl, sym, ap, ◌∙◌, append-nil, append_assoc, IpSocketAddress, ShutdownType, Receive, Send, Both, give_streams_up, gone, release_asks, give_up_asks, shut_streams, Listening, Streams, TcpRecord, in_hand, refuse_in, Job, is_over, held_side, give_up_in, reader_shutdown_asks, Socket, side_of, writer_side, writer_shutdown_asks, side_up_asks, Accepting, ReadState, WriteState, Give, bind, End, Done, Who, Operation, ask_close, Entry, OpId}
 use Rattle.wasi_causes.proofs.tables.Meets.{Rows, Meets, ends, asks, chain, onto, told_so, widen}
 use Rattle.wasi_causes.specs.GivenUp.{receive_given_up, send_given_up, streams_given_up, side_closed, arrival_given_up, accept_given_up, listen_given_up, listening_given_up, socket_given_up, ended_side, shut_at_once, last_write, shut_writer, shutdown_entries, shut_down}
-use Rattle.wasi_records.specs.Shutdowns.{shut_receive, shut_send}
-use Rattle.wasi_records.specs.declared.tcp_listening.Listening.TheVariants as listening
+use Rattle.tcp_records.specs.Shutdowns.{shut_receive, shut_send}
+use Rattle.tcp_records.specs.declared.tcp_listening.Listening.TheVariants as listening
 use Rattle.wasi_tcp.specs.Closing.{close_in}
 use Rattle.wasi_tcp.specs.Job.{finish_in}
 use Rattle.wasi_tcp.specs.declared.listener.Accepting.TheVariants as accepting

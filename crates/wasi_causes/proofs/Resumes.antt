@@ -1,8 +1,9 @@
 -- A poll of the pending call.
 use Rattle.host_store.specs.declared.store.BlockingCall.{BlockingCall}
 use Rattle.wasi_causes.proofs.pollables.Polls.{blocked_goes_on}
-use Rattle.wasi_records.specs.Records.{tcp2_at, udp2_at, open_at, open_of}
-use Rattle.wasi_records.specs.declared.tcp_binding.InProgress.TheVariants.{Binding}
+use Rattle.wasi_records.specs.Records.{tcp2_at, udp2_at, open_at}
+use Rattle.udp_records.specs.Udp.{open_of}
+use Rattle.tcp_records.specs.declared.tcp_binding.InProgress.TheVariants.{Binding}
 use Rattle.wasi_walks.proofs.walks.States.{stands_so as stands_under_it}
 use Rattle.host_store.specs.declared.beside.Beside.{Beside}
 use Rattle.host_store.specs.Beside.{beside_of}
@@ -27,14 +28,14 @@ use Rattle.wasi_causes.proofs.operations.ConnectPolls.{ConnectRow, udp_connect_g
 use Rattle.wasi_causes.proofs.operations.Marks.{poll_marks_none}
 use Rattle.wasi_causes.specs.Datagrams.{LacksRoomForStreams, PendingHandleIsLive, with_both}
 use Rattle.host_udp.specs.DatagramCalls.{drop_outgoing_at, drop_outgoing_by, mark_streams, mark_streams_of, reconnect_udp_at, remake_streams_asks, streams_so}
-use Rattle.wasi_records.specs.Datagrams.{poll_udp_connecting, sends, udp_connect_ended, udp_connect_left, udp_reconnect_asks, udp_reconnect_ended, udp_reconnecting}
+use Rattle.udp_records.specs.Datagrams.{poll_udp_connecting, sends, udp_connect_ended, udp_connect_left, udp_reconnect_asks, udp_reconnect_ended, udp_reconnecting}
 use Rattle.host_store.specs.Machine.{udp_socket_at}
 use Rattle.wasi_steps.specs.Reply.{pair_fields}
 use Rattle.wasi_causes.proofs.operations.Polls.{CreateFails, create_ends, udp_bind_ends}
 use Rattle.wasi_causes.proofs.sockets.UdpCreates.{marks_udp}
 use Rattle.wasi_causes.proofs.tables.Meets.{chain, both}
 use Rattle.wasi_causes.specs.Udp.{MakesOneHandle}
-use Rattle.wasi_records.specs.Udp.{opened_udp, poll_create_asks, udp_create_ended, udp_bind_ended, poll_udp_binding}
+use Rattle.udp_records.specs.Udp.{opened_udp, poll_create_asks, udp_create_ended, udp_bind_ended, poll_udp_binding}
 use Rattle.host_store.specs.GivingBack.{given_back}
 use Rattle.wasi_records.specs.declared.records.Record.{Record}
 use Rattle.wasi_causes.proofs.GivenBack.{put_gone}
@@ -51,13 +52,13 @@ use Rattle.host_store.specs.Standing.{stood}
 use Rattle.host_store.specs.Kinds.{udp_kind}
 use Rattle.host_store.specs.declared.kind.Interface.{Interface}
 use Rattle.host_store.specs.declared.kind.Interface.TheVariants.{P2, P3}
-use Rattle.wasi_records.specs.Stops.{Code}
+use Rattle.record_common.specs.Stops.{Code}
 use Rattle.wasi_walks.specs.Waiting.{word_for}
-use Rattle.wasi_records.specs.declared.udp.OpenUdp.{OpenUdp}
-use Rattle.wasi_records.specs.declared.udp.UdpRecord.{UdpRecord}
-use Rattle.wasi_records.specs.declared.udp.UdpRecord.TheVariants as udp
-use Rattle.wasi_records.specs.declared.udp.UdpInProgress.{UdpInProgress}
-use Rattle.wasi_records.specs.declared.udp.UdpInProgress.TheVariants as doing
+use Rattle.udp_records.specs.declared.udp.OpenUdp.{OpenUdp}
+use Rattle.udp_records.specs.declared.udp.UdpRecord.{UdpRecord}
+use Rattle.udp_records.specs.declared.udp.UdpRecord.TheVariants as udp
+use Rattle.udp_records.specs.declared.udp.UdpInProgress.{UdpInProgress}
+use Rattle.udp_records.specs.declared.udp.UdpInProgress.TheVariants as doing
 use Rattle.wasi_udp.specs.Bind.{IsBind as IsUdpBind}
 use Rattle.wasi_udp.specs.Create.{Create, made_by, with_left}
 use Rattle.wasi_walks.specs.Waiting.{CreateFailed, CreateWaits, IsCreating, IsRestOfUdpConnect, IsUdpBinding, IsUdpConnecting, UdpConnect3Failed, UdpConnectFailed, UdpConnectWaits, UdpBindFailed, UdpBindFails, UdpBindWaits}

@@ -1,7 +1,8 @@
 -- Of the machines that runs lead to: what a socket connects by is a connect, what a listener accepts by an accept, what is
 -- pending as a bind is a bind, as a listen a listen, and as a create a create; each live handle is of a record that is there, a
 -- connect in progress may be finished, and a socket that does nothing yet doesn't listen.
-use Rattle.wasi_records.specs.Records.{tcp2_at, udp2_at, open_at, open_of}
+use Rattle.wasi_records.specs.Records.{tcp2_at, udp2_at, open_at}
+use Rattle.udp_records.specs.Udp.{open_of}
 use Rattle.host_store.specs.declared.kind.Kind.TheVariants.{Tcp3, Udp2, Udp3, Listen3, Lookup, Incoming, Outgoing, PlainInput, PlainOutput, Network, ErrorValue, Receive3, Result3, Send3}
 use Rattle.host_store.specs.Kinds.{lookup_of}
 use Rattle.host_store.specs.Machine.{lookup_number}
@@ -11,12 +12,12 @@ use Rattle.wasi_causes.proofs.Words.{eq-eqb, stands_as, ◌∙◌}
 use Rattle.wasi_walks.specs.Missing.{BesideNothing, ExclusiveOnNothing}
 use Rattle.wasi_walks.specs.Waiting.{call_over, left_by}
 use Rattle.wasi_causes.specs.Lookups.{found_lookup}
-use Rattle.wasi_records.specs.declared.udp.OpenUdp.{OpenUdp}
-use Rattle.wasi_records.specs.declared.udp.UdpRecord.{UdpRecord}
-use Rattle.wasi_records.specs.declared.udp.UdpInProgress.{UdpInProgress}
+use Rattle.udp_records.specs.declared.udp.OpenUdp.{OpenUdp}
+use Rattle.udp_records.specs.declared.udp.UdpRecord.{UdpRecord}
+use Rattle.udp_records.specs.declared.udp.UdpInProgress.{UdpInProgress}
 use Rattle.wasi_causes.proofs.sockets.P3ListenPolls.{listen_polled_so}
 use Rattle.wasi_causes.specs.P3Listens.{ListenPolled, ListenerAccepts}
-use Rattle.wasi_records.specs.Holding.{has_listener}
+use Rattle.tcp_records.specs.Holding.{has_listener}
 use Rattle.wasi_walks.proofs.owners.Names.{listens_in}
 use Rattle.wasi_walks.specs.Listens.{HasNoListener}
 use Rattle.wasi_world.specs.Operation.{Operation}
@@ -25,7 +26,7 @@ use Rattle.host_store.specs.Lines.{tcp_in}
 use Rattle.host_store.specs.Kinds.{listen3_of}
 use Rattle.host_store.specs.Machine.{listen3_at, tcp3_at}
 use Rattle.wasi_walks.specs.Waiting.{IsCreating, IsUdpBinding}
-use Rattle.wasi_records.specs.declared.tcp_binding.InProgress.TheVariants.{Binding}
+use Rattle.tcp_records.specs.declared.tcp_binding.InProgress.TheVariants.{Binding}
 use Rattle.wasi_causes.proofs.Words.{AcceptsAt, AcceptsIn, Allows, Answered, Bool, CodeWord, ConnectsAt, Entry}
 use Rattle.wasi_causes.proofs.Words.{FinishRefusal, Full, Give, HasChildren, HoldsCall, IfSome, InProgress, Input, IsBinding, IsListening}
 use Rattle.wasi_causes.proofs.Words.{IsOnNothing, IsSome, IsSomeAnd, Item, Kind, Left, List, Listening, Machine}
@@ -42,7 +43,7 @@ use Rattle.wasi_causes.proofs.Words.{ℕ, ◌==◌, ◌≡◌, ◌⊎◌}
 use Rattle.wasi_causes.proofs.tables.Steps.{its_own}
 use Rattle.wasi_causes.specs.Outcomes.{InputIsThere, Traps}
 use Rattle.wasi_causes.specs.Reached.{Finishes, MayFinish, ListensLate, HasRecord, HasUdpRecord, OfItsRecord}
-use Rattle.wasi_records.specs.declared.tcp_listening.Listening.TheVariants as listening
+use Rattle.tcp_records.specs.declared.tcp_listening.Listening.TheVariants as listening
 use Rattle.host_store.specs.declared.store.StandingCall.TheVariants as standing
 use Rattle.wasi_walks.proofs.fits.Law.{Fit}
 use Rattle.wasi_walks.proofs.owners.Names.{held_udp}
@@ -62,6 +63,9 @@ use Rattle.wasi_walks.specs.Waiting.{IsAskLeft, IsAskOfListen, IsOfBound, Starts
 use Rattle.wasi_causes.proofs.Words.{HoldsConnect, wildcard}
 use Rattle.wasi_steps.specs.declared.reply.Reply.TheVariants as reply
 use Rattle.wasi_steps.specs.declared.guest_call.GuestCall.TheVariants as guest
+use Rattle.wasi_steps.specs.declared.guest_call.TcpCall.TheVariants as tcp_call
+use Rattle.wasi_steps.specs.declared.guest_call.PollableCall.TheVariants as pollable_call
+use Rattle.wasi_steps.specs.declared.guest_call.P3TcpCall.TheVariants as p3_tcp_call
 use Rattle.wasi_steps.specs.declared.step.Step.TheVariants as step
 use Rattle.wasi_tcp.specs.declared.socket.TcpState.TheVariants as state
 use Rattle.wasi_causes.proofs.Pending.{Holds, inputs_are_there, runs_hold, runs_keep_sockets}
@@ -326,12 +330,12 @@ module _ (contexts : List WasiSocketsCtx) (steps : List Step) (es : List Entry) 
   pub runs_listen_late : (place : ℕ) (r : TcpRecord) → tcp2_at m.store.records place ≡ Some r → ListensLate r
   runs_listen_late place r g = (run_steady place r g).1
 
-  pub finishes_refused_in_runs : (line ctx handle : ℕ) (entries : List Entry) (word : CodeWord) (after : Machine) → Answered contexts m line (step.Call ctx (guest.TcpFinishConnect handle)) entries (reply.Err word) after → RefusedOf m handle (FinishRefusal m) entries word after
+  pub finishes_refused_in_runs : (line ctx handle : ℕ) (entries : List Entry) (word : CodeWord) (after : Machine) → Answered contexts m line (step.Call ctx (guest.Tcp (tcp_call.FinishConnect handle))) entries (reply.Err word) after → RefusedOf m handle (FinishRefusal m) entries word after
   finishes_refused_in_runs line ctx handle entries word after a =
-      (its_own contexts m line (step.Call ctx (guest.TcpFinishConnect handle)) entries (reply.Err word) after a (λ e. cc)).1.1.cause (runs_connect handle) (of_record m Finishes (λ place r g. (run_steady place r g).0) (socket_at m handle))
+      (its_own contexts m line (step.Call ctx (guest.Tcp (tcp_call.FinishConnect handle))) entries (reply.Err word) after a (λ e. cc)).1.1.cause (runs_connect handle) (of_record m Finishes (λ place r g. (run_steady place r g).0) (socket_at m handle))
 
-  pub listens_refused_in_runs : (line ctx handle : ℕ) (entries : List Entry) (word : CodeWord) (after : Machine) → Answered contexts m line (step.Call ctx (guest.TcpStartListen handle)) entries (reply.Err word) after → RefusedListen m (own_of line) handle entries word after
-  listens_refused_in_runs line ctx handle entries word after a = (its_own contexts m line (step.Call ctx (guest.TcpStartListen handle)) entries (reply.Err word) after a (λ e. cc)).1.1.0 (of_record m ListensLate runs_listen_late (socket_at m handle))
+  pub listens_refused_in_runs : (line ctx handle : ℕ) (entries : List Entry) (word : CodeWord) (after : Machine) → Answered contexts m line (step.Call ctx (guest.Tcp (tcp_call.StartListen handle))) entries (reply.Err word) after → RefusedListen m (own_of line) handle entries word after
+  listens_refused_in_runs line ctx handle entries word after a = (its_own contexts m line (step.Call ctx (guest.Tcp (tcp_call.StartListen handle))) entries (reply.Err word) after a (λ e. cc)).1.1.0 (of_record m ListensLate runs_listen_late (socket_at m handle))
 
   -- a poll of a pending listen of 0.3: what it needs is there
   pub listens_polled_in_runs : (line place handle : ℕ) (ids : Ids) (r : TcpRecord) (op : Operation) (entries : List Entry) (said : Reply) (after : Machine) → m.store.standing ≡ Some (standing_as ids (standing.Listen place (Some handle)))
@@ -343,9 +347,9 @@ module _ (contexts : List WasiSocketsCtx) (steps : List Step) (es : List Entry) 
       listen_polled_so contexts m line ids place handle stands names r at op is (subst (IsListening r.inner.state) is its) entries said after a
 
   -- an accept isn't refused: the socket of each live listener has one
-  pub accepts_never_refused : (line ctx handle remaining : ℕ) (entries : List Entry) (word : CodeWord) (after : Machine) → Answered contexts m line (step.Call ctx (guest.P3Accept handle remaining)) entries (reply.Err word) after → ⊥
+  pub accepts_never_refused : (line ctx handle remaining : ℕ) (entries : List Entry) (word : CodeWord) (after : Machine) → Answered contexts m line (step.Call ctx (guest.P3Tcp (p3_tcp_call.Accept handle remaining))) entries (reply.Err word) after → ⊥
   accepts_never_refused line ctx handle remaining entries word after a =
-      let k = (its_own contexts m line (step.Call ctx (guest.P3Accept handle remaining)) entries (reply.Err word) after a (λ e. cc)).1.1 in
+      let k = (its_own contexts m line (step.Call ctx (guest.P3Tcp (p3_tcp_call.Accept handle remaining))) entries (reply.Err word) after a (λ e. cc)).1.1 in
       none_listens k.found.listening k.holds.0 (subst (λ (o : Option TcpRecord). listens_in o ≡ true) k.at (by_kind (kind_at m.table handle) refl k.place k.names))
     where
       by_kind : (o : Option Kind) → kind_at m.table handle ≡ o → (place : ℕ) → listen3_of o ≡ Some place → listens_in (tcp2_at m.store.records place) ≡ true
@@ -392,7 +396,7 @@ module _ (contexts : List WasiSocketsCtx) (steps : List Step) (es : List Entry) 
   abbrev ListTraps : List ℕ → List Entry → Machine → Type 0
   ListTraps ps entries after = ((ps ≡ []) ⊎ (are_pollables m ps ≡ false)) × (entries ≡ []) × (after ≡ m)
 
-  list_trap : (line ctx : ℕ) (ps : List ℕ) (entries : List Entry) (kind : TrapKind) (after : Machine) → Traps contexts m line (step.Call ctx (guest.PollList ps)) entries kind after → ListTraps ps entries after
+  list_trap : (line ctx : ℕ) (ps : List ℕ) (entries : List Entry) (kind : TrapKind) (after : Machine) → Traps contexts m line (step.Call ctx (guest.Pollable (pollable_call.PollList ps))) entries kind after → ListTraps ps entries after
   list_trap line ctx ps entries NoSuchHandle after h = let quiet = h.1 (all_watched ps) in (inr (none_there (are_pollables m ps) refl), quiet.0, quiet.1)
     where
       none_there : (b : Bool) → are_pollables m ps ≡ b → are_pollables m ps ≡ false
@@ -407,8 +411,8 @@ module _ (contexts : List WasiSocketsCtx) (steps : List Step) (es : List Entry) 
   list_trap line ctx ps entries TooLong after h = absurd h.0
   list_trap line ctx ps entries _ after h = absurd h
 
-  pub lists_trap : (line ctx : ℕ) (ps : List ℕ) (entries : List Entry) (kind : TrapKind) (after : Machine) → Answered contexts m line (step.Call ctx (guest.PollList ps)) entries (reply.Trap kind) after → ListTraps ps entries after
-  lists_trap line ctx ps entries kind after a = list_trap line ctx ps entries kind after (its_own contexts m line (step.Call ctx (guest.PollList ps)) entries (reply.Trap kind) after a (λ e. cc)).1
+  pub lists_trap : (line ctx : ℕ) (ps : List ℕ) (entries : List Entry) (kind : TrapKind) (after : Machine) → Answered contexts m line (step.Call ctx (guest.Pollable (pollable_call.PollList ps))) entries (reply.Trap kind) after → ListTraps ps entries after
+  lists_trap line ctx ps entries kind after a = list_trap line ctx ps entries kind after (its_own contexts m line (step.Call ctx (guest.Pollable (pollable_call.PollList ps))) entries (reply.Trap kind) after a (λ e. cc)).1
 
   -- a poll of a wait doesn't trap
   waits_never_trap_by : (call : BlockingCall) → (IsCallOfStream call → ⊥) → ((is_full m.table ≡ true) × ⊥) ⊎ (⊥ ⊎ IsCallOfStream call) → ⊥

@@ -1,8 +1,8 @@
 -- Of the machines that runs lead to: of a connect and of a listen in progress only asks are left, a connect in progress may be finished,
 -- and a socket that does nothing yet doesn't listen.
 use Rattle.wasi_records.specs.Records.{tcp2_at, tcp2_put, tcp2_pushed, udp2_put, tcp2_of}
-use Rattle.wasi_records.specs.declared.udp.UdpRecord.{UdpRecord}
-use Rattle.wasi_records.specs.Udp.{udp_bind_progress, udp_create_left, with_udp_progress}
+use Rattle.udp_records.specs.declared.udp.UdpRecord.{UdpRecord}
+use Rattle.udp_records.specs.Udp.{udp_bind_progress, udp_create_left, with_udp_progress}
 use Rattle.wasi_udp.specs.Create.{Create, after_create as udp_after_create}
 use Rattle.wasi_walks.proofs.walks.Moves.{put_udp, udp_begun, UdpChanges, BeginsUdpBind, UdpCreates, UdpBindsOn}
 use Rattle.wasi_records.specs.declared.records.Record.{Record}
@@ -21,7 +21,7 @@ use Rattle.wasi_causes.proofs.Words.{with_inner, with_progress}
 use Rattle.wasi_causes.proofs.Words.{with_state, with_writer, ℕ, ⊤, ◌∙◌, ◌≡◌}
 use Rattle.wasi_causes.proofs.sockets.Starts.{IsPastNot}
 use Rattle.wasi_causes.specs.Reached.{Finishes, MayFinish, ListensLate}
-use Rattle.wasi_records.specs.declared.tcp_listening.Listening.TheVariants as listening
+use Rattle.tcp_records.specs.declared.tcp_listening.Listening.TheVariants as listening
 use Rattle.wasi_walks.proofs.fits.Law.{told_same, whatever}
 use Rattle.wasi_walks.proofs.fits.Polls.{Anything}
 use Rattle.wasi_walks.proofs.walks.Moves.{Held, BindsOn, Connects, Here, put, Move, Changes, ClosesReader, Writes, IsGone, Reconnects, Opens, BeginsBind, BeginsConnect, BeginsWrite, CancelsBind, CancelsUdpBind, CancelsUdpConnect, BeginsListen, BeginsAccept, Unlistens, Forgets, Joins, Listens, Awaits, listen_after, accepting_now, joined, IsConnecting}
@@ -37,16 +37,16 @@ use Rattle.wasi_walks.specs.Waiting.{IsAskOfListen}
 use Rattle.wasi_causes.proofs.Words.{IpSocketAddress, gives_more, wildcard}
 use Rattle.wasi_tcp.specs.declared.listener.Accepting.TheVariants as accepting
 use Rattle.wasi_tcp.specs.declared.socket.TcpState.TheVariants as state
-use Rattle.wasi_records.specs.Datagrams.{udp_connect_left, udp_reconnect_left, with_sending}
-use Rattle.wasi_records.specs.Receiving.{receive_left, with_receiving}
+use Rattle.udp_records.specs.Datagrams.{udp_connect_left, udp_reconnect_left, with_sending}
+use Rattle.udp_records.specs.Receiving.{receive_left, with_receiving}
 use Rattle.wasi_udp.specs.Receive.{wanting}
 use Rattle.wasi_udp.specs.Send.{at_remote}
 use Rattle.wasi_walks.proofs.walks.Moves.{BeginsReceive, BeginsSend, BeginsUdpConnect, ReceivesOn, SendsOn, UdpConnectsOn, UdpReconnectsOn}
 use Rattle.wasi_walks.proofs.walks.Moves.{Finds, SameSockets, JoinsFault, JoinsPlain, beginning_listen, faulted, joined_plain}
-use Rattle.wasi_records.specs.Sockets.{new_record}
+use Rattle.tcp_records.specs.Sockets.{new_record}
 use Rattle.wasi_tcp.specs.Listener.{accepted_socket, accepted_state}
 use Rattle.wasi_tcp.specs.Shape.{Socket}
-use Rattle.wasi_records.specs.declared.name_lookup.LookupOp.{LookupOp}
+use Rattle.lookup_records.specs.declared.name_lookup.LookupOp.{LookupOp}
 use Rattle.wasi_walks.proofs.GoneLists.{was_there}
 use Rattle.wasi_walks.proofs.walks.Moves.{DropsUdp, GivesBack}
 use Rattle.wasi_walks.proofs.walks.OfState.{Becomes, Created, CreatedWith, GivenUp, IsClosed, Learnt, OfState, Resolved, UdpBegun}

@@ -6,15 +6,15 @@ use Rattle.std.specs.Prelude.{◌||◌}
 use Rattle.wasi_table.specs.Table.{Live}
 use Rattle.wasi_tcp.specs.declared.listener.Accepting.TheVariants as accepting
 use Rattle.wasi_udp.specs.Create.{after_create as udp_after_create}
-use Rattle.wasi_records.specs.Datagrams.{has_streams}
+use Rattle.udp_records.specs.Datagrams.{has_streams}
 use Rattle.wasi_records.specs.Records.{tcp2_put, tcp2_pushed, udp2_at}
-use Rattle.wasi_records.specs.declared.datagrams.Incoming.{Incoming as IncomingStream}
-use Rattle.wasi_records.specs.declared.datagrams.Outgoing.{Outgoing as OutgoingStream}
+use Rattle.udp_records.specs.declared.datagrams.Incoming.{Incoming as IncomingStream}
+use Rattle.udp_records.specs.declared.datagrams.Outgoing.{Outgoing as OutgoingStream}
 use Rattle.host_store.specs.Kinds.{udp_kind}
 use Rattle.host_store.specs.declared.kind.Kind.TheVariants.{Incoming, Listen3, Result3, Tcp3}
 use Rattle.wasi_records.specs.declared.records.Record.{Record}
-use Rattle.wasi_records.specs.declared.udp.OpenUdp.{OpenUdp}
-use Rattle.wasi_records.specs.declared.udp.UdpRecord.{UdpRecord}
+use Rattle.udp_records.specs.declared.udp.OpenUdp.{OpenUdp}
+use Rattle.udp_records.specs.declared.udp.UdpRecord.{UdpRecord}
 use Rattle.wasi_walks.specs.Licence.{Has}
 use Rattle.wasi_walks.proofs.fits.Law.{whatever}
 use Rattle.wasi_walks.proofs.received.Handles.{AreUnder, begun_same, moves_under, polled_same}
@@ -33,7 +33,7 @@ use Rattle.wasi_walks.proofs.owners.Law.{Owns, owners, owners_begin}
 use Rattle.wasi_walks.proofs.owners.Names.{Names, held_udp, unless_gone}
 use Rattle.wasi_walks.proofs.owners.Owned.{IsOf}
 use Rattle.host_udp.specs.SocketDatagrams.{is_udp_held}
-use Rattle.wasi_records.specs.Records.{open_of}
+use Rattle.udp_records.specs.Udp.{open_of}
 use Rattle.wasi_causes.proofs.StreamsLive.{NoIncoming}
 use Rattle.wasi_causes.proofs.Words.{Bool, IsSome, slice_get, true, false}
 use Rattle.wasi_walks.proofs.owners.Owned as owned

@@ -6,15 +6,15 @@ use Rattle.wasi_causes.proofs.Words.{ap, inl, inr, is_some, kind_at, refl, subst
 use Rattle.wasi_table.specs.Table.{Live}
 use Rattle.wasi_udp.specs.Create.{Create}
 use Rattle.wasi_world.specs.Operation.{Done, Refused, Waits}
-use Rattle.wasi_records.specs.Datagrams.{has_streams, udp_connect_left, udp_reconnect_left}
+use Rattle.udp_records.specs.Datagrams.{has_streams, udp_connect_left, udp_reconnect_left}
 use Rattle.host_store.specs.Kinds.{udp_kind, udp_of}
 use Rattle.wasi_records.specs.Records.{tcp2_pushed, udp2_at, udp2_put}
-use Rattle.wasi_records.specs.declared.datagrams.Incoming.{Incoming as IncomingStream}
+use Rattle.udp_records.specs.declared.datagrams.Incoming.{Incoming as IncomingStream}
 use Rattle.host_store.specs.declared.kind.Kind.TheVariants.{Incoming}
-use Rattle.wasi_records.specs.declared.name_lookup.LookupOp.{LookupOp}
+use Rattle.lookup_records.specs.declared.name_lookup.LookupOp.{LookupOp}
 use Rattle.wasi_records.specs.declared.records.Record.{Record}
-use Rattle.wasi_records.specs.declared.udp.OpenUdp.{OpenUdp}
-use Rattle.wasi_records.specs.declared.udp.UdpRecord.{UdpRecord}
+use Rattle.udp_records.specs.declared.udp.OpenUdp.{OpenUdp}
+use Rattle.udp_records.specs.declared.udp.UdpRecord.{UdpRecord}
 use Rattle.wasi_walks.specs.Licence.{Has}
 use Rattle.wasi_walks.proofs.received.Handles.{MakesUnder, Under, makes_more, under_so}
 use Rattle.wasi_walks.proofs.walks.Moves.{Interface, P2, P3, tcp_kind, Found, FoundUdp, NoStartIn, NoStartStands, HasNewStream, Here, Made, MarksNext, SameSockets, ToSend, put, put_udp, udp_begun}

@@ -7,13 +7,13 @@ use Rattle.std.specs.Prelude.{is_some, ◌+◌}
 use Rattle.wasi_tcp.specs.declared.listener.Accepting.TheVariants as accepting
 use Rattle.wasi_udp.specs.Create.{Create, after_create as udp_after_create}
 use Rattle.wasi_world.specs.Operation.{Done, Refused, Waits}
-use Rattle.wasi_records.specs.Datagrams.{has_streams, udp_connect_left, udp_reconnect_left}
+use Rattle.udp_records.specs.Datagrams.{has_streams, udp_connect_left, udp_reconnect_left}
 use Rattle.wasi_records.specs.Records.{tcp2_put, tcp2_pushed, udp2_at, udp2_of, udp2_put, udp2_pushed}
-use Rattle.wasi_records.specs.Udp.{udp_create_left}
-use Rattle.wasi_records.specs.declared.name_lookup.LookupOp.{LookupOp}
+use Rattle.udp_records.specs.Udp.{udp_create_left}
+use Rattle.lookup_records.specs.declared.name_lookup.LookupOp.{LookupOp}
 use Rattle.wasi_records.specs.declared.records.Record.{Record}
-use Rattle.wasi_records.specs.declared.udp.OpenUdp.{OpenUdp}
-use Rattle.wasi_records.specs.declared.udp.UdpRecord.{UdpRecord}
+use Rattle.udp_records.specs.declared.udp.OpenUdp.{OpenUdp}
+use Rattle.udp_records.specs.declared.udp.UdpRecord.{UdpRecord}
 use Rattle.wasi_walks.proofs.GoneLists.{was_there}
 use Rattle.wasi_walks.proofs.fits.Law.{whatever}
 use Rattle.wasi_walks.proofs.walks.Here.{ConnectStands, IsConnectOf, NoConnectIn, NoStart, NoStartIn, NoStartStands, or_true}

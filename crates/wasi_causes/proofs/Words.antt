@@ -56,10 +56,10 @@ pub use Rattle.wasi_tcp.specs.Addresses.{after_peer, local_asks, local_from, loc
 pub use Rattle.wasi_tcp.specs.Addresses.{usable_side}
 pub use Rattle.wasi_tcp.specs.Listen.{IsListen, held_side}
 pub use Rattle.host_tcp.specs.Dropping.{released, wait_at}
-pub use Rattle.wasi_records.specs.Looks.{wait_answer}
+pub use Rattle.tcp_records.specs.Looks.{wait_answer}
 pub use Rattle.host_store.specs.CallStops.{CallStop}
-pub use Rattle.wasi_records.specs.Stops.{Code, code_stop}
-pub use Rattle.wasi_records.specs.Halves.{begins_job, has_job, turn_record, turned}
+pub use Rattle.record_common.specs.Stops.{Code, code_stop}
+pub use Rattle.tcp_records.specs.Halves.{begins_job, has_job, turn_record, turned}
 pub use Rattle.host_store.specs.Jobs.{is_on, other_jobs, turn_at, turn_job, turn_jobs, turn_store_asks, with_job}
 pub use Rattle.wasi_host.specs.HandleDrops.{answered, at_once, drop_asks, drop_kind}
 pub use Rattle.host_store.specs.Machine.{no_such_handle}

@@ -19,13 +19,14 @@ use Rattle.host_store.specs.declared.store.StandingCall.{StandingCall}
 use Rattle.host_store.specs.declared.store.StandingCall.TheVariants.{Blocking}
 use Rattle.host_store.specs.Kinds.{kind_at, is_writable}
 use Rattle.host_store.specs.Machine.{input_at, own_of}
-use Rattle.wasi_records.specs.Names.{first_ids}
+use Rattle.record_common.specs.Names.{first_ids}
 use Rattle.host_streams.specs.StreamCalls.{plain_input_at}
 use Rattle.wasi_steps.specs.declared.reply.Field.{Field}
 use Rattle.wasi_steps.specs.declared.reply.Reply.{Reply}
 use Rattle.wasi_steps.specs.declared.reply.Reply.TheVariants as reply
 use Rattle.wasi_steps.specs.declared.step.Step.{Step}
 use Rattle.wasi_steps.specs.declared.guest_call.GuestCall.TheVariants as guest
+use Rattle.wasi_steps.specs.declared.guest_call.StreamCall.TheVariants as stream_call
 use Rattle.wasi_steps.specs.declared.step.Step.TheVariants as step
 use Rattle.wasi_steps.specs.Reply.{bytes_fields, no_fields, number_fields, numbers_fields}
 use Rattle.wasi_walks.specs.Answered.{Answered, OfStreams, ReadsTold}
@@ -66,10 +67,10 @@ pub record EndsByRead (m : Machine) (line input len : ℕ) (bytes : List ℕ) (e
 -- How a flush comes out: the flush of the stream gives nothing; or the look at what may be written that follows it does; or nothing
 -- may be written, and the call is pending; else it is done.
 pub data FlushesOn (contexts : List WasiSocketsCtx) (m : Machine) (c : ℕ) (ids : Ids) (output : ℕ) : List Entry → Reply → Machine → Type 0 where
-  FlushGivesNone : (es : List Entry) (r : Reply) (after : Machine) → Answered contexts m ids.line (step.Call c (guest.Flush output)) es r after → GivesNone r → FlushesOn contexts m c ids output es r after
-  LookGivesNone : (es : List Entry) (r : Reply) (after : Machine) → Answered contexts m ids.line (step.Call c (guest.Flush output)) [] (reply.Ok no_fields) m → Answered contexts m ids.line (step.Call c (guest.CheckWrite output)) es r after → GivesNone r → FlushesOn contexts m c ids output es r after
-  StillWrites : (es : List Entry) (after : Machine) → Answered contexts m ids.line (step.Call c (guest.Flush output)) [] (reply.Ok no_fields) m → Answered contexts m ids.line (step.Call c (guest.CheckWrite output)) es (reply.Ok (number_fields 0)) after → FlushesOn contexts m c ids output es (reply.Pending ids.line) (waiting after ids (Flush output))
-  IsFlushed : (es : List Entry) (n : ℕ) (after : Machine) → Answered contexts m ids.line (step.Call c (guest.Flush output)) [] (reply.Ok no_fields) m → Answered contexts m ids.line (step.Call c (guest.CheckWrite output)) es (reply.Ok (number_fields (suc n))) after → FlushesOn contexts m c ids output es (reply.Ok no_fields) after
+  FlushGivesNone : (es : List Entry) (r : Reply) (after : Machine) → Answered contexts m ids.line (step.Call c (guest.Stream (stream_call.Flush output))) es r after → GivesNone r → FlushesOn contexts m c ids output es r after
+  LookGivesNone : (es : List Entry) (r : Reply) (after : Machine) → Answered contexts m ids.line (step.Call c (guest.Stream (stream_call.Flush output))) [] (reply.Ok no_fields) m → Answered contexts m ids.line (step.Call c (guest.Stream (stream_call.CheckWrite output))) es r after → GivesNone r → FlushesOn contexts m c ids output es r after
+  StillWrites : (es : List Entry) (after : Machine) → Answered contexts m ids.line (step.Call c (guest.Stream (stream_call.Flush output))) [] (reply.Ok no_fields) m → Answered contexts m ids.line (step.Call c (guest.Stream (stream_call.CheckWrite output))) es (reply.Ok (number_fields 0)) after → FlushesOn contexts m c ids output es (reply.Pending ids.line) (waiting after ids (Flush output))
+  IsFlushed : (es : List Entry) (n : ℕ) (after : Machine) → Answered contexts m ids.line (step.Call c (guest.Stream (stream_call.Flush output))) [] (reply.Ok no_fields) m → Answered contexts m ids.line (step.Call c (guest.Stream (stream_call.CheckWrite output))) es (reply.Ok (number_fields (suc n))) after → FlushesOn contexts m c ids output es (reply.Ok no_fields) after
 
 -- == a write
 -- once all is written, a stream that is closed has taken it
@@ -79,26 +80,26 @@ ended_reply r = r
 
 -- How the end of a write comes out, where all is written and flushed: it looks once more at what may be written.
 pub data LooksLast (contexts : List WasiSocketsCtx) (m : Machine) (c : ℕ) (ids : Ids) (output : ℕ) : List Entry → Reply → Machine → Type 0 where
-  LastGivesNone : (es : List Entry) (r : Reply) (after : Machine) → Answered contexts m ids.line (step.Call c (guest.CheckWrite output)) es r after → GivesNone r → LooksLast contexts m c ids output es (ended_reply r) after
-  LastWaits : (es : List Entry) (after : Machine) → Answered contexts m ids.line (step.Call c (guest.CheckWrite output)) es (reply.Ok (number_fields 0)) after → LooksLast contexts m c ids output es (reply.Pending ids.line) (waiting after ids (Finish output))
-  AllTaken : (es : List Entry) (n : ℕ) (after : Machine) → Answered contexts m ids.line (step.Call c (guest.CheckWrite output)) es (reply.Ok (number_fields (suc n))) after → LooksLast contexts m c ids output es (reply.Ok no_fields) after
+  LastGivesNone : (es : List Entry) (r : Reply) (after : Machine) → Answered contexts m ids.line (step.Call c (guest.Stream (stream_call.CheckWrite output))) es r after → GivesNone r → LooksLast contexts m c ids output es (ended_reply r) after
+  LastWaits : (es : List Entry) (after : Machine) → Answered contexts m ids.line (step.Call c (guest.Stream (stream_call.CheckWrite output))) es (reply.Ok (number_fields 0)) after → LooksLast contexts m c ids output es (reply.Pending ids.line) (waiting after ids (Finish output))
+  AllTaken : (es : List Entry) (n : ℕ) (after : Machine) → Answered contexts m ids.line (step.Call c (guest.Stream (stream_call.CheckWrite output))) es (reply.Ok (number_fields (suc n))) after → LooksLast contexts m c ids output es (reply.Ok no_fields) after
 
 -- And where all is written: it is flushed first.
 pub data Finishes (contexts : List WasiSocketsCtx) (m : Machine) (c : ℕ) (ids : Ids) (output : ℕ) : List Entry → Reply → Machine → Type 0 where
-  EndsByFlush : (es : List Entry) (r : Reply) (after : Machine) → Answered contexts m ids.line (step.Call c (guest.Flush output)) es r after → GivesNone r → Finishes contexts m c ids output es (ended_reply r) after
-  EndsByLook : (es : List Entry) (r : Reply) (after : Machine) → Answered contexts m ids.line (step.Call c (guest.Flush output)) [] (reply.Ok no_fields) m → LooksLast contexts m c ids output es r after → Finishes contexts m c ids output es r after
+  EndsByFlush : (es : List Entry) (r : Reply) (after : Machine) → Answered contexts m ids.line (step.Call c (guest.Stream (stream_call.Flush output))) es r after → GivesNone r → Finishes contexts m c ids output es (ended_reply r) after
+  EndsByLook : (es : List Entry) (r : Reply) (after : Machine) → Answered contexts m ids.line (step.Call c (guest.Stream (stream_call.Flush output))) [] (reply.Ok no_fields) m → LooksLast contexts m c ids output es r after → Finishes contexts m c ids output es r after
 
 -- How a write comes out, round for round: as much is written as may be; where nothing may be, the call is pending, for what isn't
 -- written yet; and where nothing is left, it finishes.
 pub data WritesOn (contexts : List WasiSocketsCtx) (c : ℕ) (ids : Ids) (output : ℕ) : Machine → List ℕ → List Entry → Reply → Machine → Type 0 where
-  NonePermitted : (m : Machine) (rest : List ℕ) (es : List Entry) (r : Reply) (after : Machine) → Answered contexts m ids.line (step.Call c (guest.CheckWrite output)) es r after → GivesNone r → WritesOn contexts c ids output m rest es r after
-  NotYet : (m : Machine) (rest : List ℕ) (es : List Entry) (after : Machine) → Answered contexts m ids.line (step.Call c (guest.CheckWrite output)) es (reply.Ok (number_fields 0)) after → WritesOn contexts c ids output m rest es (reply.Pending ids.line) (waiting after ids (Write output rest))
-  NoneTaken : (m mid : Machine) (rest : List ℕ) (n : ℕ) (es fs : List Entry) (r : Reply) (after : Machine) → Answered contexts m ids.line (step.Call c (guest.CheckWrite output)) es (reply.Ok (number_fields (suc n))) mid
-      → Answered contexts mid ids.line (step.Call c (guest.Write output (take (suc n) rest))) fs r after → GivesNone r → WritesOn contexts c ids output m rest (es ++ fs) r after
-  AnotherRound : (m mid next : Machine) (rest : List ℕ) (n b : ℕ) (more : List ℕ) (es fs gs : List Entry) (r : Reply) (after : Machine) → Answered contexts m ids.line (step.Call c (guest.CheckWrite output)) es (reply.Ok (number_fields (suc n))) mid
-      → Answered contexts mid ids.line (step.Call c (guest.Write output (take (suc n) rest))) fs (reply.Ok no_fields) next → drop (suc n) rest ≡ b ∷ more → WritesOn contexts c ids output next (b ∷ more) gs r after → WritesOn contexts c ids output m rest (es ++ (fs ++ gs)) r after
-  LastRound : (m mid next : Machine) (rest : List ℕ) (n : ℕ) (es fs gs : List Entry) (r : Reply) (after : Machine) → Answered contexts m ids.line (step.Call c (guest.CheckWrite output)) es (reply.Ok (number_fields (suc n))) mid
-      → Answered contexts mid ids.line (step.Call c (guest.Write output (take (suc n) rest))) fs (reply.Ok no_fields) next → drop (suc n) rest ≡ [] → Finishes contexts next c ids output gs r after → WritesOn contexts c ids output m rest (es ++ (fs ++ gs)) r after
+  NonePermitted : (m : Machine) (rest : List ℕ) (es : List Entry) (r : Reply) (after : Machine) → Answered contexts m ids.line (step.Call c (guest.Stream (stream_call.CheckWrite output))) es r after → GivesNone r → WritesOn contexts c ids output m rest es r after
+  NotYet : (m : Machine) (rest : List ℕ) (es : List Entry) (after : Machine) → Answered contexts m ids.line (step.Call c (guest.Stream (stream_call.CheckWrite output))) es (reply.Ok (number_fields 0)) after → WritesOn contexts c ids output m rest es (reply.Pending ids.line) (waiting after ids (Write output rest))
+  NoneTaken : (m mid : Machine) (rest : List ℕ) (n : ℕ) (es fs : List Entry) (r : Reply) (after : Machine) → Answered contexts m ids.line (step.Call c (guest.Stream (stream_call.CheckWrite output))) es (reply.Ok (number_fields (suc n))) mid
+      → Answered contexts mid ids.line (step.Call c (guest.Stream (stream_call.Write output (take (suc n) rest)))) fs r after → GivesNone r → WritesOn contexts c ids output m rest (es ++ fs) r after
+  AnotherRound : (m mid next : Machine) (rest : List ℕ) (n b : ℕ) (more : List ℕ) (es fs gs : List Entry) (r : Reply) (after : Machine) → Answered contexts m ids.line (step.Call c (guest.Stream (stream_call.CheckWrite output))) es (reply.Ok (number_fields (suc n))) mid
+      → Answered contexts mid ids.line (step.Call c (guest.Stream (stream_call.Write output (take (suc n) rest)))) fs (reply.Ok no_fields) next → drop (suc n) rest ≡ b ∷ more → WritesOn contexts c ids output next (b ∷ more) gs r after → WritesOn contexts c ids output m rest (es ++ (fs ++ gs)) r after
+  LastRound : (m mid next : Machine) (rest : List ℕ) (n : ℕ) (es fs gs : List Entry) (r : Reply) (after : Machine) → Answered contexts m ids.line (step.Call c (guest.Stream (stream_call.CheckWrite output))) es (reply.Ok (number_fields (suc n))) mid
+      → Answered contexts mid ids.line (step.Call c (guest.Stream (stream_call.Write output (take (suc n) rest)))) fs (reply.Ok no_fields) next → drop (suc n) rest ≡ [] → Finishes contexts next c ids output gs r after → WritesOn contexts c ids output m rest (es ++ (fs ++ gs)) r after
 
 -- How a step that writes this, so many bytes, comes out: its handle is tested, and how much it writes, and nothing is asked before.
 pub data BeginsToWrite (contexts : List WasiSocketsCtx) (m : Machine) (c : ℕ) (ids : Ids) (output count : ℕ) (bytes : List ℕ) : List Entry → Reply → Machine → Type 0 where
@@ -111,17 +112,17 @@ pub data BeginsToWrite (contexts : List WasiSocketsCtx) (m : Machine) (c : ℕ) 
 -- nothing may be written, or nothing is there to be read.
 pub data SplicesOn (contexts : List WasiSocketsCtx) (m : Machine) (c : ℕ) (ids : Ids) (to from len : ℕ) : List Entry → Reply → Machine → Type 0 where
   NoStreams : LacksStream m to from → SplicesOn contexts m c ids to from len [] (reply.Trap NoSuchHandle) m
-  CheckGivesNone : (es : List Entry) (r : Reply) (after : Machine) → Answered contexts m ids.line (step.Call c (guest.CheckWrite to)) es r after → GivesNone r → SplicesOn contexts m c ids to from len es r after
-  NoRoomYet : (es : List Entry) (after : Machine) → Answered contexts m ids.line (step.Call c (guest.CheckWrite to)) es (reply.Ok (number_fields 0)) after → SplicesOn contexts m c ids to from len es (reply.Pending ids.line) (waiting after ids (Splice to from len))
-  NoneToRead : (es : List Entry) (n : ℕ) (after : Machine) → Answered contexts m ids.line (step.Call c (guest.CheckWrite to)) es (reply.Ok (number_fields (suc n))) after → len ≡ 0 → SplicesOn contexts m c ids to from len es (reply.Ok (number_fields 0)) after
-  InputIsMissing : (es : List Entry) (n : ℕ) (mid : Machine) → Answered contexts m ids.line (step.Call c (guest.CheckWrite to)) es (reply.Ok (number_fields (suc n))) mid → len ≢ 0 → MissesInput mid from → SplicesOn contexts m c ids to from len es (reply.Trap NoSuchHandle) mid
-  InputWaits : (es ls : List Entry) (n : ℕ) (mid : Machine) → Answered contexts m ids.line (step.Call c (guest.CheckWrite to)) es (reply.Ok (number_fields (suc n))) mid → len ≢ 0 → LooksInto mid (own_of ids.line) from false ls → SplicesOn contexts m c ids to from len (es ++ ls) (reply.Pending ids.line) (waiting mid ids (Splice to from len))
-  NoneRead : (es ls fs : List Entry) (n count : ℕ) (mid : Machine) → Answered contexts m ids.line (step.Call c (guest.CheckWrite to)) es (reply.Ok (number_fields (suc n))) mid → min (suc n) len ≡ suc count → LooksInto mid (own_of ids.line) from true ls
-      → Answered contexts mid ids.line (step.Call c (guest.Read from (suc count))) fs (reply.Ok (bytes_fields [])) mid → SplicesOn contexts m c ids to from len (es ++ (ls ++ fs)) (reply.Pending ids.line) (waiting mid ids (Splice to from len))
-  ReadGivesNone : (es ls fs : List Entry) (n count : ℕ) (mid : Machine) (r : Reply) (after : Machine) → Answered contexts m ids.line (step.Call c (guest.CheckWrite to)) es (reply.Ok (number_fields (suc n))) mid → min (suc n) len ≡ suc count → LooksInto mid (own_of ids.line) from true ls
-      → Answered contexts mid ids.line (step.Call c (guest.Read from (suc count))) fs r after → GivesNone r → SplicesOn contexts m c ids to from len (es ++ (ls ++ fs)) r after
-  WritesRead : (es ls fs gs : List Entry) (n count b : ℕ) (bytes : List ℕ) (mid read : Machine) (r : Reply) (after : Machine) → Answered contexts m ids.line (step.Call c (guest.CheckWrite to)) es (reply.Ok (number_fields (suc n))) mid → min (suc n) len ≡ suc count → LooksInto mid (own_of ids.line) from true ls
-      → Answered contexts mid ids.line (step.Call c (guest.Read from (suc count))) fs (reply.Ok (bytes_fields (b ∷ bytes))) read → Answered contexts read ids.line (step.Call c (guest.Write to (b ∷ bytes))) gs r after
+  CheckGivesNone : (es : List Entry) (r : Reply) (after : Machine) → Answered contexts m ids.line (step.Call c (guest.Stream (stream_call.CheckWrite to))) es r after → GivesNone r → SplicesOn contexts m c ids to from len es r after
+  NoRoomYet : (es : List Entry) (after : Machine) → Answered contexts m ids.line (step.Call c (guest.Stream (stream_call.CheckWrite to))) es (reply.Ok (number_fields 0)) after → SplicesOn contexts m c ids to from len es (reply.Pending ids.line) (waiting after ids (Splice to from len))
+  NoneToRead : (es : List Entry) (n : ℕ) (after : Machine) → Answered contexts m ids.line (step.Call c (guest.Stream (stream_call.CheckWrite to))) es (reply.Ok (number_fields (suc n))) after → len ≡ 0 → SplicesOn contexts m c ids to from len es (reply.Ok (number_fields 0)) after
+  InputIsMissing : (es : List Entry) (n : ℕ) (mid : Machine) → Answered contexts m ids.line (step.Call c (guest.Stream (stream_call.CheckWrite to))) es (reply.Ok (number_fields (suc n))) mid → len ≢ 0 → MissesInput mid from → SplicesOn contexts m c ids to from len es (reply.Trap NoSuchHandle) mid
+  InputWaits : (es ls : List Entry) (n : ℕ) (mid : Machine) → Answered contexts m ids.line (step.Call c (guest.Stream (stream_call.CheckWrite to))) es (reply.Ok (number_fields (suc n))) mid → len ≢ 0 → LooksInto mid (own_of ids.line) from false ls → SplicesOn contexts m c ids to from len (es ++ ls) (reply.Pending ids.line) (waiting mid ids (Splice to from len))
+  NoneRead : (es ls fs : List Entry) (n count : ℕ) (mid : Machine) → Answered contexts m ids.line (step.Call c (guest.Stream (stream_call.CheckWrite to))) es (reply.Ok (number_fields (suc n))) mid → min (suc n) len ≡ suc count → LooksInto mid (own_of ids.line) from true ls
+      → Answered contexts mid ids.line (step.Call c (guest.Stream (stream_call.Read from (suc count)))) fs (reply.Ok (bytes_fields [])) mid → SplicesOn contexts m c ids to from len (es ++ (ls ++ fs)) (reply.Pending ids.line) (waiting mid ids (Splice to from len))
+  ReadGivesNone : (es ls fs : List Entry) (n count : ℕ) (mid : Machine) (r : Reply) (after : Machine) → Answered contexts m ids.line (step.Call c (guest.Stream (stream_call.CheckWrite to))) es (reply.Ok (number_fields (suc n))) mid → min (suc n) len ≡ suc count → LooksInto mid (own_of ids.line) from true ls
+      → Answered contexts mid ids.line (step.Call c (guest.Stream (stream_call.Read from (suc count)))) fs r after → GivesNone r → SplicesOn contexts m c ids to from len (es ++ (ls ++ fs)) r after
+  WritesRead : (es ls fs gs : List Entry) (n count b : ℕ) (bytes : List ℕ) (mid read : Machine) (r : Reply) (after : Machine) → Answered contexts m ids.line (step.Call c (guest.Stream (stream_call.CheckWrite to))) es (reply.Ok (number_fields (suc n))) mid → min (suc n) len ≡ suc count → LooksInto mid (own_of ids.line) from true ls
+      → Answered contexts mid ids.line (step.Call c (guest.Stream (stream_call.Read from (suc count)))) fs (reply.Ok (bytes_fields (b ∷ bytes))) read → Answered contexts read ids.line (step.Call c (guest.Stream (stream_call.Write to (b ∷ bytes)))) gs r after
       → SplicesOn contexts m c ids to from len (es ++ (ls ++ (fs ++ gs))) (spliced_reply (length (b ∷ bytes)) r) after
 
 -- == each call
@@ -132,8 +133,8 @@ IsShort _ = Unit {0}
 
 -- how the call comes out, by the names of its line
 abbrev pub BlocksAs : List WasiSocketsCtx → Machine → ℕ → Ids → BlockingCall → List Entry → Reply → Machine → Type 0
-BlocksAs contexts m c ids (Read input len) es r after = ReadsOn contexts m ids (Read input len) input len (step.Call c (guest.Read input len)) (reply.Ok (bytes_fields [])) es r after
-BlocksAs contexts m c ids (Skip input len) es r after = ReadsOn contexts m ids (Skip input len) input len (step.Call c (guest.Skip input len)) (reply.Ok (number_fields 0)) es r after
+BlocksAs contexts m c ids (Read input len) es r after = ReadsOn contexts m ids (Read input len) input len (step.Call c (guest.Stream (stream_call.Read input len))) (reply.Ok (bytes_fields [])) es r after
+BlocksAs contexts m c ids (Skip input len) es r after = ReadsOn contexts m ids (Skip input len) input len (step.Call c (guest.Stream (stream_call.Skip input len))) (reply.Ok (number_fields 0)) es r after
 BlocksAs contexts m c ids (Write output rest) es r after = WritesOn contexts c ids output m rest es r after
 BlocksAs contexts m c ids (Finish output) es r after = LooksLast contexts m c ids output es r after
 BlocksAs contexts m c ids (Flush output) es r after = FlushesOn contexts m c ids output es r after

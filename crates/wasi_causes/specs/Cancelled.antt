@@ -5,21 +5,21 @@ use Rattle.wasi_world.specs.declared.call.Entry.{Entry}
 use Rattle.wasi_world.specs.declared.call.Told.TheVariants as told
 use Rattle.wasi_tcp.specs.Socket.{side_of}
 use Rattle.wasi_udp.specs.Create.{Create}
-use Rattle.wasi_records.specs.declared.tcp_binding.InProgress.TheVariants as doing
+use Rattle.tcp_records.specs.declared.tcp_binding.InProgress.TheVariants as doing
 use Rattle.wasi_jobs.specs.declared.job.HostJob.TheVariants.{Datagram}
-use Rattle.wasi_records.specs.declared.tcp_listening.Listening.TheVariants.{Not}
+use Rattle.tcp_records.specs.declared.tcp_listening.Listening.TheVariants.{Not}
 use Rattle.host_store.specs.declared.machine.Machine.{Machine}
-use Rattle.wasi_records.specs.declared.socket.TcpRecord.{TcpRecord}
+use Rattle.tcp_records.specs.declared.socket.TcpRecord.{TcpRecord}
 use Rattle.host_store.specs.declared.store.StandingCall.{StandingCall}
 use Rattle.host_store.specs.declared.store.StandingCall.TheVariants.{Bind, Listen, DropOutput, UdpCreate, UdpBind, UdpConnect, UdpConnect3, DropOutgoing, Blocking}
-use Rattle.wasi_records.specs.declared.udp.OpenUdp.{OpenUdp}
-use Rattle.wasi_records.specs.declared.udp.UdpRecord.TheVariants as udp
-use Rattle.wasi_records.specs.declared.udp.UdpInProgress.TheVariants as udp_doing
+use Rattle.udp_records.specs.declared.udp.OpenUdp.{OpenUdp}
+use Rattle.udp_records.specs.declared.udp.UdpRecord.TheVariants as udp
+use Rattle.udp_records.specs.declared.udp.UdpInProgress.TheVariants as udp_doing
 use Rattle.host_udp.specs.UdpCancels.{without_datagrams}
-use Rattle.wasi_records.specs.Listening.{with_listening}
+use Rattle.tcp_records.specs.Listening.{with_listening}
 use Rattle.wasi_records.specs.Records.{tcp2_at, udp2_at, open_at}
-use Rattle.wasi_records.specs.Sockets.{with_progress}
-use Rattle.wasi_records.specs.Udp.{with_udp_progress}
+use Rattle.tcp_records.specs.Sockets.{with_progress}
+use Rattle.udp_records.specs.Udp.{with_udp_progress}
 use Rattle.host_store.specs.Store.{with_open_udp}
 use Rattle.wasi_steps.specs.declared.step.Step.{Step}
 use Rattle.wasi_steps.specs.declared.step.Step.TheVariants as step

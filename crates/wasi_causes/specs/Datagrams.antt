@@ -2,20 +2,20 @@
 use Rattle.wasi_causes.specs.Blocking.{HasItsStreams, IsShort}
 use Rattle.std.specs.Prelude.{◌≡◌, ◌⊎◌, ⊤, ℕ, ◌+◌, true, false, List, [], Option, Some, None, IsSomeAnd, IfSome}
 use Rattle.wasi_world.specs.declared.call.Entry.{Entry}
-use Rattle.wasi_records.specs.declared.datagrams.Incoming.{Incoming}
-use Rattle.wasi_records.specs.declared.datagrams.Outgoing.{Outgoing}
+use Rattle.udp_records.specs.declared.datagrams.Incoming.{Incoming}
+use Rattle.udp_records.specs.declared.datagrams.Outgoing.{Outgoing}
 use Rattle.host_store.specs.declared.kind.Kind.TheVariants as kind
 use Rattle.host_store.specs.declared.kind.Watched.{Watched}
 use Rattle.host_store.specs.declared.kind.Watched.TheVariants as watched
 use Rattle.host_store.specs.declared.machine.Machine.{Machine}
 use Rattle.host_store.specs.declared.store.StandingCall.{StandingCall}
 use Rattle.host_store.specs.declared.store.StandingCall.TheVariants as standing
-use Rattle.wasi_records.specs.declared.udp.OpenUdp.{OpenUdp}
+use Rattle.udp_records.specs.declared.udp.OpenUdp.{OpenUdp}
 use Rattle.host_udp.specs.DatagramCalls.{without_receives}
-use Rattle.wasi_records.specs.Datagrams.{has_streams, permit_of, permitted, sends}
+use Rattle.udp_records.specs.Datagrams.{has_streams, permit_of, permitted, sends}
 use Rattle.host_store.specs.Kinds.{HandleTable, kind_at, watch_of, with_handle, without_handle}
 use Rattle.host_store.specs.Machine.{tcp3_at, udp_socket_at}
-use Rattle.wasi_records.specs.Receiving.{receives}
+use Rattle.udp_records.specs.Receiving.{receives}
 use Rattle.wasi_records.specs.Records.{open_at}
 use Rattle.host_store.specs.Standing.{standing_as}
 use Rattle.host_store.specs.Store.{with_open_udp}
@@ -23,6 +23,7 @@ use Rattle.wasi_machine.specs.Machine.{first_ids}
 use Rattle.wasi_steps.specs.declared.reply.Field.{Field}
 use Rattle.wasi_steps.specs.declared.step.Step.{Step}
 use Rattle.wasi_steps.specs.declared.guest_call.GuestCall.TheVariants as guest
+use Rattle.wasi_steps.specs.declared.guest_call.UdpCall.TheVariants as udp_call
 use Rattle.wasi_steps.specs.declared.step.Step.TheVariants as step
 use Rattle.wasi_steps.specs.Reply.{number_fields, pair_fields}
 use Rattle.wasi_table.specs.Table.{is_full}
@@ -30,11 +31,11 @@ use Rattle.wasi_walks.specs.Answered.{open_in, outgoing_in}
 
 -- == the steps
 abbrev pub IsUdpSend : Step → Type 0
-IsUdpSend (step.Call ctx (guest.UdpSend outgoing datagrams)) = ⊤
+IsUdpSend (step.Call ctx (guest.Udp (udp_call.Send outgoing datagrams))) = ⊤
 IsUdpSend _ = ⊥
 
 abbrev pub IsUdpStream : Step → Type 0
-IsUdpStream (step.Call ctx (guest.UdpStream socket remote)) = ⊤
+IsUdpStream (step.Call ctx (guest.Udp (udp_call.Stream socket remote))) = ⊤
 IsUdpStream _ = ⊥
 
 -- == the streams that handles name

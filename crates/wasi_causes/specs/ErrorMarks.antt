@@ -6,7 +6,7 @@ use Rattle.wasi_world.specs.declared.call.HandleKind.TheVariants.{ErrorValue}
 use Rattle.wasi_world.specs.declared.call.Told.TheVariants.{Done}
 use Rattle.wasi_world.specs.declared.ids.OpId.{OpId}
 use Rattle.wasi_records.specs.Records.{tcp2_at}
-use Rattle.wasi_records.specs.declared.socket.TcpRecord.{TcpRecord}
+use Rattle.tcp_records.specs.declared.socket.TcpRecord.{TcpRecord}
 use Rattle.host_store.specs.declared.machine.Machine.{Machine}
 use Rattle.wasi_walks.specs.Licence.{entry}
 

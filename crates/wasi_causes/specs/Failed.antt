@@ -3,14 +3,14 @@ use Rattle.std.specs.Prelude.{◌≡◌, ℕ, List, None}
 use Rattle.wasi_addr.specs.declared.code.ErrorCode.{ErrorCode}
 use Rattle.wasi_world.specs.declared.call.Entry.{Entry}
 use Rattle.wasi_udp.specs.Connect.{with_given}
-use Rattle.wasi_records.specs.declared.tcp_binding.InProgress.TheVariants as doing
-use Rattle.wasi_records.specs.declared.tcp_listening.Listening.TheVariants as listening
+use Rattle.tcp_records.specs.declared.tcp_binding.InProgress.TheVariants as doing
+use Rattle.tcp_records.specs.declared.tcp_listening.Listening.TheVariants as listening
 use Rattle.host_store.specs.declared.machine.Machine.{Machine}
 use Rattle.host_store.specs.declared.store.StandingCall.{StandingCall}
-use Rattle.wasi_records.specs.declared.udp.UdpInProgress.TheVariants as udp_doing
-use Rattle.wasi_records.specs.Listening.{with_listening}
-use Rattle.wasi_records.specs.Sockets.{with_progress}
-use Rattle.wasi_records.specs.Udp.{with_udp_progress}
+use Rattle.udp_records.specs.declared.udp.UdpInProgress.TheVariants as udp_doing
+use Rattle.tcp_records.specs.Listening.{with_listening}
+use Rattle.tcp_records.specs.Sockets.{with_progress}
+use Rattle.udp_records.specs.Udp.{with_udp_progress}
 use Rattle.wasi_steps.specs.declared.reply.CodeWord.{CodeWord}
 use Rattle.wasi_walks.specs.Answered.{putting}
 use Rattle.wasi_walks.specs.Waiting.{BindFailed, CallFails, CreateFailed, ListenFailed, StandingFails, UdpBindFailed, UdpConnect3Failed, UdpConnectFailed, nothing_stands}

@@ -4,9 +4,9 @@ use Rattle.host_store.specs.declared.kind.PlainOutput.TheVariants as plain_outpu
 use Rattle.std.specs.Prelude.{◌≡◌, ◌≢◌, ⊤, ℕ, Bool, true, false, List, [], ◌∷◌, ◌++◌, Option, Some, None, IsSome, IsSomeAnd}
 use Rattle.host_store.specs.GivingBack.{given_back}
 use Rattle.host_store.specs.Store.{with_socket}
-use Rattle.wasi_records.specs.Holding.{is_held}
-use Rattle.wasi_records.specs.Listening.{with_listening}
-use Rattle.wasi_records.specs.Names.{own_of}
+use Rattle.tcp_records.specs.Holding.{is_held}
+use Rattle.tcp_records.specs.Listening.{with_listening}
+use Rattle.record_common.specs.Names.{own_of}
 use Rattle.wasi_addr.specs.declared.address.IpSocketAddress.{IpSocketAddress}
 use Rattle.wasi_addr.specs.declared.address.ShutdownType.{ShutdownType}
 use Rattle.wasi_addr.specs.declared.address.ShutdownType.TheVariants.{Receive, Send, Both}
@@ -32,17 +32,18 @@ use Rattle.wasi_tcp.specs.Writer.{writer_side}
 use Rattle.wasi_jobs.specs.declared.job.HostJob.{HostJob}
 use Rattle.host_store.specs.declared.kind.Kind.{Kind}
 use Rattle.host_store.specs.declared.kind.Kind.TheVariants as kind
-use Rattle.wasi_records.specs.declared.tcp_listening.Listening.{Listening}
-use Rattle.wasi_records.specs.declared.tcp_listening.Listening.TheVariants as listening
+use Rattle.tcp_records.specs.declared.tcp_listening.Listening.{Listening}
+use Rattle.tcp_records.specs.declared.tcp_listening.Listening.TheVariants as listening
 use Rattle.host_store.specs.declared.machine.Machine.{Machine}
-use Rattle.wasi_records.specs.declared.socket.Streams.{Streams}
-use Rattle.wasi_records.specs.declared.socket.TcpRecord.{TcpRecord}
+use Rattle.tcp_records.specs.declared.socket.Streams.{Streams}
+use Rattle.tcp_records.specs.declared.socket.TcpRecord.{TcpRecord}
 use Rattle.host_store.specs.Kinds.{kind_at, without_handle}
 use Rattle.host_store.specs.Jobs.{is_on}
 use Rattle.wasi_steps.specs.declared.reply.Reply.{Reply}
 use Rattle.wasi_steps.specs.declared.reply.Reply.TheVariants as reply
 use Rattle.wasi_steps.specs.declared.step.Step.{Step}
 use Rattle.wasi_steps.specs.declared.guest_call.GuestCall.TheVariants as guest
+use Rattle.wasi_steps.specs.declared.guest_call.PollableCall.TheVariants as pollable_call
 use Rattle.wasi_steps.specs.declared.step.Step.TheVariants as step
 use Rattle.wasi_walks.specs.Answered.{shut_entry}
 use Rattle.wasi_walks.specs.Licence.{Has, entry}
@@ -60,7 +61,7 @@ send_given_up own None = []
 
 -- == a drop
 abbrev pub IsDrop : Step → Type 0
-IsDrop (step.Call ctx (guest.Drop handle)) = ⊤
+IsDrop (step.Call ctx (guest.Pollable (pollable_call.Drop handle))) = ⊤
 IsDrop _ = ⊥
 
 -- The handle is live, and something that was made under it is live too.

@@ -1,24 +1,24 @@
 -- What the drop of a handle asks, and what it leaves, by what the handle is of.
 use Rattle.wasi_records.specs.Records.{tcp2_at, udp2_at, open_at, lookup_at}
-use Rattle.wasi_records.specs.declared.slot.Slot.{Slot}
-use Rattle.wasi_records.specs.Slots.{slot_at}
+use Rattle.tcp_records.specs.declared.slot.Slot.{Slot}
+use Rattle.wasi_records.specs.Records.{slot_at}
 use Rattle.host_store.specs.declared.kind.PlainInput.TheVariants as input
 use Rattle.host_store.specs.declared.kind.PlainOutput.TheVariants as output
 use Rattle.wasi_causes.specs.Plain.{InputPipeGone, OutputPipeGone}
 use Rattle.std.specs.Prelude.{◌≡◌, ⊤, ℕ, Bool, true, List, [], Option, Some}
-use Rattle.wasi_records.specs.Holding.{without_socket}
+use Rattle.tcp_records.specs.Holding.{without_socket}
 use Rattle.wasi_causes.specs.GivenUp.{IsGone, LetsGo, ListenerGoes, LooksOnce, socket_given_up, without}
 use Rattle.wasi_world.specs.declared.call.Entry.{Entry}
-use Rattle.wasi_records.specs.declared.name_lookup.Lookup.{Lookup}
-use Rattle.wasi_records.specs.declared.udp.OpenUdp.{OpenUdp}
-use Rattle.wasi_records.specs.declared.udp.UdpRecord.{UdpRecord}
-use Rattle.wasi_records.specs.declared.udp.UdpRecord.TheVariants.{Open}
-use Rattle.wasi_records.specs.Udp.{without_udp_socket}
+use Rattle.lookup_records.specs.declared.name_lookup.Lookup.{Lookup}
+use Rattle.udp_records.specs.declared.udp.OpenUdp.{OpenUdp}
+use Rattle.udp_records.specs.declared.udp.UdpRecord.{UdpRecord}
+use Rattle.udp_records.specs.declared.udp.UdpRecord.TheVariants.{Open}
+use Rattle.udp_records.specs.Udp.{without_udp_socket}
 use Rattle.host_store.specs.Beside.{has_datagram}
 use Rattle.host_store.specs.declared.kind.Kind.{Kind}
 use Rattle.host_store.specs.declared.kind.Kind.TheVariants as kind
 use Rattle.host_store.specs.declared.machine.Machine.{Machine}
-use Rattle.wasi_records.specs.declared.socket.TcpRecord.{TcpRecord}
+use Rattle.tcp_records.specs.declared.socket.TcpRecord.{TcpRecord}
 use Rattle.host_store.specs.Machine.{own_of}
 use Rattle.wasi_causes.specs.Lookups.{LookupGone}
 use Rattle.wasi_causes.specs.Datagrams.{IncomingGone, OutgoingGone}

@@ -7,9 +7,9 @@ use Rattle.wasi_world.specs.declared.call.Entry.{Entry}
 use Rattle.wasi_world.specs.declared.call.Told.{Told}
 use Rattle.wasi_world.specs.declared.call.Told.TheVariants as told
 use Rattle.wasi_world.specs.declared.ids.OpId.{OpId}
-use Rattle.wasi_records.specs.declared.datagrams.Receiving.TheVariants as receiving
-use Rattle.wasi_records.specs.declared.datagrams.Sending.TheVariants as sending
-use Rattle.wasi_records.specs.declared.udp.OpenUdp.{OpenUdp}
+use Rattle.udp_records.specs.declared.datagrams.Receiving.TheVariants as receiving
+use Rattle.udp_records.specs.declared.datagrams.Sending.TheVariants as sending
+use Rattle.udp_records.specs.declared.udp.OpenUdp.{OpenUdp}
 use Rattle.wasi_records.specs.Records.{open_at}
 use Rattle.host_store.specs.declared.machine.Machine.{Machine}
 use Rattle.wasi_causes.specs.StreamCauses.{both_marks, peer_entry}

@@ -13,15 +13,15 @@ use Rattle.wasi_tcp.specs.declared.socket.TcpState.{TcpState}
 use Rattle.wasi_tcp.specs.declared.socket.TcpState.TheVariants.{Connecting, Connected, Closed}
 use Rattle.wasi_udp.specs.Receive.{receive_start}
 use Rattle.wasi_udp.specs.Shape.{Socket}
-use Rattle.wasi_records.specs.Names.{next_name}
-use Rattle.wasi_records.specs.Receiving.{has_none, is_receiving}
+use Rattle.record_common.specs.Names.{next_name}
+use Rattle.udp_records.specs.Receiving.{has_none, is_receiving}
 use Rattle.wasi_records.specs.Records.{tcp2_put, open_put}
-use Rattle.wasi_records.specs.declared.datagrams.Incoming.{Incoming}
-use Rattle.wasi_records.specs.declared.datagrams.Receiving.{Receiving}
-use Rattle.wasi_records.specs.declared.datagrams.Receiving.TheVariants as receiving
-use Rattle.wasi_records.specs.declared.socket.TcpRecord.{TcpRecord}
-use Rattle.wasi_records.specs.declared.tcp_listening.Listening.TheVariants.{Accepts}
-use Rattle.wasi_records.specs.declared.udp.OpenUdp.{OpenUdp}
+use Rattle.udp_records.specs.declared.datagrams.Incoming.{Incoming}
+use Rattle.udp_records.specs.declared.datagrams.Receiving.{Receiving}
+use Rattle.udp_records.specs.declared.datagrams.Receiving.TheVariants as receiving
+use Rattle.tcp_records.specs.declared.socket.TcpRecord.{TcpRecord}
+use Rattle.tcp_records.specs.declared.tcp_listening.Listening.TheVariants.{Accepts}
+use Rattle.udp_records.specs.declared.udp.OpenUdp.{OpenUdp}
 use Rattle.host_store.specs.declared.machine.Machine.{Machine}
 use Rattle.wasi_causes.specs.SendCauses.{BoundSo, found_so}
 use Rattle.wasi_causes.specs.TurnPolls.{PolledOnce, ReceivePolled, still}

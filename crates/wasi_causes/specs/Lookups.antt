@@ -17,14 +17,14 @@ use Rattle.wasi_jobs.specs.declared.job.HostJob.{HostJob}
 use Rattle.host_store.specs.declared.kind.Kind.TheVariants as kind
 use Rattle.host_store.specs.declared.kind.Watched.TheVariants as watched
 use Rattle.host_store.specs.declared.machine.Machine.{Machine}
-use Rattle.wasi_records.specs.declared.name_lookup.Lookup.{Lookup}
-use Rattle.wasi_records.specs.declared.name_lookup.Lookup.TheVariants.{InProgress, Found, Failed}
-use Rattle.wasi_records.specs.declared.name_lookup.LookupOp.{LookupOp}
+use Rattle.lookup_records.specs.declared.name_lookup.Lookup.{Lookup}
+use Rattle.lookup_records.specs.declared.name_lookup.Lookup.TheVariants.{InProgress, Found, Failed}
+use Rattle.lookup_records.specs.declared.name_lookup.LookupOp.{LookupOp}
 use Rattle.host_store.specs.GivingBack.{given_back}
 use Rattle.host_store.specs.Jobs.{is_on}
 use Rattle.host_store.specs.Kinds.{kind_at, watch_of, with_handle}
 use Rattle.host_store.specs.Machine.{lookup_number}
-use Rattle.wasi_records.specs.NameLookup.{looks_on}
+use Rattle.lookup_records.specs.NameLookup.{looks_on}
 use Rattle.host_lookups.specs.NameLookupCalls.{with_lookup, with_lookup_now}
 use Rattle.wasi_records.specs.Records.{lookup_at}
 use Rattle.wasi_steps.specs.declared.reply.CodeWord.{CodeWord}

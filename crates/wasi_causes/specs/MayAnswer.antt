@@ -16,6 +16,15 @@ use Rattle.wasi_steps.specs.declared.reply.Reply.{Reply}
 use Rattle.wasi_steps.specs.declared.reply.Reply.TheVariants as reply
 use Rattle.wasi_steps.specs.declared.step.Step.{Step}
 use Rattle.wasi_steps.specs.declared.guest_call.GuestCall.TheVariants as guest
+use Rattle.wasi_steps.specs.declared.guest_call.TcpCall.TheVariants as tcp_call
+use Rattle.wasi_steps.specs.declared.guest_call.UdpCall.TheVariants as udp_call
+use Rattle.wasi_steps.specs.declared.guest_call.NameCall.TheVariants as name_call
+use Rattle.wasi_steps.specs.declared.guest_call.StreamCall.TheVariants as stream_call
+use Rattle.wasi_steps.specs.declared.guest_call.PipeCall.TheVariants as pipe_call
+use Rattle.wasi_steps.specs.declared.guest_call.PollableCall.TheVariants as pollable_call
+use Rattle.wasi_steps.specs.declared.guest_call.P3TcpCall.TheVariants as p3_tcp_call
+use Rattle.wasi_steps.specs.declared.guest_call.P3UdpCall.TheVariants as p3_udp_call
+use Rattle.wasi_steps.specs.declared.guest_call.P3NameCall.TheVariants as p3_name_call
 use Rattle.wasi_steps.specs.declared.step.Step.TheVariants as step
 use Rattle.wasi_steps.specs.Replies.{FieldKind, ANumber, SomeBytes, Truth, Nothing, FieldKinds, Each, AnAddress, AnIpOrNone, ADatagramList, SomeNumbers, SomeIps, OneDatagram, OfAPolledCall, polled_kinds, kinds_of}
 use Rattle.wasi_steps.specs.Reply.{address_values, datagram_values, found_values, ips_values, numbers_fields, received_values}
@@ -83,95 +92,95 @@ pub record IsP3Word (w : CodeWord) : Type 0 where
 
 -- by which word a step may be refused; beside codes the host has three words of its own, and lookups have theirs
 abbrev pub MayRefuse : Step → CodeWord → Type 0
-MayRefuse (step.Call ctx (guest.TcpCreate family)) w = IsCodeWord w
-MayRefuse (step.Call ctx (guest.TcpStartBind socket network a)) w = (w ≡ word.ConcurrencyConflict) ⊎ IsCodeWord w
-MayRefuse (step.Call ctx (guest.TcpFinishBind socket)) w = w ≡ word.NotInProgress
-MayRefuse (step.Call ctx (guest.TcpStartConnect socket network a)) w = (w ≡ word.ConcurrencyConflict) ⊎ IsCodeWord w
-MayRefuse (step.Call ctx (guest.TcpFinishConnect socket)) w = (w ≡ word.NotInProgress) ⊎ ((w ≡ word.WouldBlock) ⊎ IsCodeWord w)
-MayRefuse (step.Call ctx (guest.TcpStartListen socket)) w = (w ≡ word.ConcurrencyConflict) ⊎ IsCodeWord w
-MayRefuse (step.Call ctx (guest.TcpFinishListen socket)) w = w ≡ word.NotInProgress
-MayRefuse (step.Call ctx (guest.TcpAccept socket)) w = (w ≡ word.WouldBlock) ⊎ IsCodeWord w
-MayRefuse (step.Call ctx (guest.TcpLocalAddress socket)) w = IsCodeWord w
-MayRefuse (step.Call ctx (guest.TcpRemoteAddress socket)) w = IsCodeWord w
-MayRefuse (step.Call ctx (guest.TcpGet socket option)) w = IsCodeWord w
-MayRefuse (step.Call ctx (guest.TcpSet socket setting)) w = IsCodeWord w
-MayRefuse (step.Call ctx (guest.TcpShutdown socket how)) w = w ≡ word.InvalidState
-MayRefuse (step.Call ctx (guest.UdpCreate family)) w = IsCodeWord w
-MayRefuse (step.Call ctx (guest.UdpStartBind socket network a)) w = (w ≡ word.ConcurrencyConflict) ⊎ IsCodeWord w
-MayRefuse (step.Call ctx (guest.UdpFinishBind socket)) w = w ≡ word.NotInProgress
-MayRefuse (step.Call ctx (guest.UdpLocalAddress socket)) w = IsCodeWord w
-MayRefuse (step.Call ctx (guest.UdpRemoteAddress socket)) w = w ≡ word.InvalidState
-MayRefuse (step.Call ctx (guest.UdpGet socket option)) w = IsCodeWord w
-MayRefuse (step.Call ctx (guest.UdpSet socket setting)) w = IsCodeWord w
-MayRefuse (step.Call ctx (guest.UdpStream socket remote)) w = IsCodeWord w
-MayRefuse (step.Call ctx (guest.UdpReceive incoming most)) w = IsCodeWord w
-MayRefuse (step.Call ctx (guest.UdpSend outgoing datagrams)) w = IsCodeWord w
-MayRefuse (step.Call ctx (guest.Resolve network name)) w = (w ≡ word.PermanentResolverFailure) ⊎ ((w ≡ word.InvalidArgument) ⊎ (w ≡ word.NameUnresolvable))
-MayRefuse (step.Call ctx (guest.ResolveNext lookup)) w = (w ≡ word.WouldBlock) ⊎ (w ≡ word.NameUnresolvable)
-MayRefuse (step.Call ctx (guest.P3TcpCreate family)) w = IsP3Word w
-MayRefuse (step.Call ctx (guest.P3TcpBind socket a)) w = IsP3Word w
-MayRefuse (step.Call ctx (guest.P3TcpConnect socket a)) w = IsP3Word w
-MayRefuse (step.Call ctx (guest.P3TcpLocalAddress socket)) w = IsP3Word w
-MayRefuse (step.Call ctx (guest.P3TcpRemoteAddress socket)) w = IsP3Word w
-MayRefuse (step.Call ctx (guest.P3TcpGet socket option)) w = IsP3Word w
-MayRefuse (step.Call ctx (guest.P3TcpSet socket setting)) w = IsP3Word w
-MayRefuse (step.Call ctx (guest.P3UdpCreate family)) w = IsP3Word w
-MayRefuse (step.Call ctx (guest.P3UdpBind socket a)) w = IsP3Word w
-MayRefuse (step.Call ctx (guest.P3TcpListen socket)) w = IsP3Word w
-MayRefuse (step.Call ctx (guest.P3Accept listener remaining)) w = w ≡ word.InvalidState
-MayRefuse (step.Call ctx (guest.P3Result slot)) w = IsP3Word w
-MayRefuse (step.Call ctx (guest.P3UdpConnect socket a)) w = IsP3Word w
-MayRefuse (step.Call ctx (guest.P3UdpSend socket d)) w = IsP3Word w
-MayRefuse (step.Call ctx (guest.P3UdpReceive socket)) w = IsP3Word w
-MayRefuse (step.Call ctx (guest.P3UdpDisconnect socket)) w = IsP3Word w
-MayRefuse (step.Call ctx (guest.P3UdpLocalAddress socket)) w = IsP3Word w
-MayRefuse (step.Call ctx (guest.P3UdpRemoteAddress socket)) w = w ≡ word.InvalidState
-MayRefuse (step.Call ctx (guest.P3UdpGet socket option)) w = IsP3Word w
-MayRefuse (step.Call ctx (guest.P3UdpSet socket setting)) w = IsP3Word w
-MayRefuse (step.Call ctx (guest.P3Resolve name)) w = (w ≡ word.PermanentResolverFailure) ⊎ ((w ≡ word.InvalidArgument) ⊎ (w ≡ word.NameUnresolvable))
+MayRefuse (step.Call ctx (guest.Tcp (tcp_call.Create family))) w = IsCodeWord w
+MayRefuse (step.Call ctx (guest.Tcp (tcp_call.StartBind socket network a))) w = (w ≡ word.ConcurrencyConflict) ⊎ IsCodeWord w
+MayRefuse (step.Call ctx (guest.Tcp (tcp_call.FinishBind socket))) w = w ≡ word.NotInProgress
+MayRefuse (step.Call ctx (guest.Tcp (tcp_call.StartConnect socket network a))) w = (w ≡ word.ConcurrencyConflict) ⊎ IsCodeWord w
+MayRefuse (step.Call ctx (guest.Tcp (tcp_call.FinishConnect socket))) w = (w ≡ word.NotInProgress) ⊎ ((w ≡ word.WouldBlock) ⊎ IsCodeWord w)
+MayRefuse (step.Call ctx (guest.Tcp (tcp_call.StartListen socket))) w = (w ≡ word.ConcurrencyConflict) ⊎ IsCodeWord w
+MayRefuse (step.Call ctx (guest.Tcp (tcp_call.FinishListen socket))) w = w ≡ word.NotInProgress
+MayRefuse (step.Call ctx (guest.Tcp (tcp_call.Accept socket))) w = (w ≡ word.WouldBlock) ⊎ IsCodeWord w
+MayRefuse (step.Call ctx (guest.Tcp (tcp_call.LocalAddress socket))) w = IsCodeWord w
+MayRefuse (step.Call ctx (guest.Tcp (tcp_call.RemoteAddress socket))) w = IsCodeWord w
+MayRefuse (step.Call ctx (guest.Tcp (tcp_call.Get socket option))) w = IsCodeWord w
+MayRefuse (step.Call ctx (guest.Tcp (tcp_call.Set socket setting))) w = IsCodeWord w
+MayRefuse (step.Call ctx (guest.Tcp (tcp_call.Shutdown socket how))) w = w ≡ word.InvalidState
+MayRefuse (step.Call ctx (guest.Udp (udp_call.Create family))) w = IsCodeWord w
+MayRefuse (step.Call ctx (guest.Udp (udp_call.StartBind socket network a))) w = (w ≡ word.ConcurrencyConflict) ⊎ IsCodeWord w
+MayRefuse (step.Call ctx (guest.Udp (udp_call.FinishBind socket))) w = w ≡ word.NotInProgress
+MayRefuse (step.Call ctx (guest.Udp (udp_call.LocalAddress socket))) w = IsCodeWord w
+MayRefuse (step.Call ctx (guest.Udp (udp_call.RemoteAddress socket))) w = w ≡ word.InvalidState
+MayRefuse (step.Call ctx (guest.Udp (udp_call.Get socket option))) w = IsCodeWord w
+MayRefuse (step.Call ctx (guest.Udp (udp_call.Set socket setting))) w = IsCodeWord w
+MayRefuse (step.Call ctx (guest.Udp (udp_call.Stream socket remote))) w = IsCodeWord w
+MayRefuse (step.Call ctx (guest.Udp (udp_call.Receive incoming most))) w = IsCodeWord w
+MayRefuse (step.Call ctx (guest.Udp (udp_call.Send outgoing datagrams))) w = IsCodeWord w
+MayRefuse (step.Call ctx (guest.Names (name_call.Resolve network name))) w = (w ≡ word.PermanentResolverFailure) ⊎ ((w ≡ word.InvalidArgument) ⊎ (w ≡ word.NameUnresolvable))
+MayRefuse (step.Call ctx (guest.Names (name_call.ResolveNext lookup))) w = (w ≡ word.WouldBlock) ⊎ (w ≡ word.NameUnresolvable)
+MayRefuse (step.Call ctx (guest.P3Tcp (p3_tcp_call.Create family))) w = IsP3Word w
+MayRefuse (step.Call ctx (guest.P3Tcp (p3_tcp_call.Bind socket a))) w = IsP3Word w
+MayRefuse (step.Call ctx (guest.P3Tcp (p3_tcp_call.Connect socket a))) w = IsP3Word w
+MayRefuse (step.Call ctx (guest.P3Tcp (p3_tcp_call.LocalAddress socket))) w = IsP3Word w
+MayRefuse (step.Call ctx (guest.P3Tcp (p3_tcp_call.RemoteAddress socket))) w = IsP3Word w
+MayRefuse (step.Call ctx (guest.P3Tcp (p3_tcp_call.Get socket option))) w = IsP3Word w
+MayRefuse (step.Call ctx (guest.P3Tcp (p3_tcp_call.Set socket setting))) w = IsP3Word w
+MayRefuse (step.Call ctx (guest.P3Udp (p3_udp_call.Create family))) w = IsP3Word w
+MayRefuse (step.Call ctx (guest.P3Udp (p3_udp_call.Bind socket a))) w = IsP3Word w
+MayRefuse (step.Call ctx (guest.P3Tcp (p3_tcp_call.Listen socket))) w = IsP3Word w
+MayRefuse (step.Call ctx (guest.P3Tcp (p3_tcp_call.Accept listener remaining))) w = w ≡ word.InvalidState
+MayRefuse (step.Call ctx (guest.P3Tcp (p3_tcp_call.Result slot))) w = IsP3Word w
+MayRefuse (step.Call ctx (guest.P3Udp (p3_udp_call.Connect socket a))) w = IsP3Word w
+MayRefuse (step.Call ctx (guest.P3Udp (p3_udp_call.Send socket d))) w = IsP3Word w
+MayRefuse (step.Call ctx (guest.P3Udp (p3_udp_call.Receive socket))) w = IsP3Word w
+MayRefuse (step.Call ctx (guest.P3Udp (p3_udp_call.Disconnect socket))) w = IsP3Word w
+MayRefuse (step.Call ctx (guest.P3Udp (p3_udp_call.LocalAddress socket))) w = IsP3Word w
+MayRefuse (step.Call ctx (guest.P3Udp (p3_udp_call.RemoteAddress socket))) w = w ≡ word.InvalidState
+MayRefuse (step.Call ctx (guest.P3Udp (p3_udp_call.Get socket option))) w = IsP3Word w
+MayRefuse (step.Call ctx (guest.P3Udp (p3_udp_call.Set socket setting))) w = IsP3Word w
+MayRefuse (step.Call ctx (guest.P3Names (p3_name_call.Resolve name))) w = (w ≡ word.PermanentResolverFailure) ⊎ ((w ≡ word.InvalidArgument) ⊎ (w ≡ word.NameUnresolvable))
 MayRefuse (step.Poll n) w = IsCodeWord w ⊎ (IsP3Word w ⊎ (w ≡ word.NameUnresolvable))
 MayRefuse _ w = ⊥
 
 -- == the other replies
 -- a call of a stream, which may end, or fail and hand an error out; and a poll, of one that blocks
 abbrev pub IsStreamCall : Step → Type 0
-IsStreamCall (step.Call ctx (guest.Read input len)) = ⊤
-IsStreamCall (step.Call ctx (guest.Skip input len)) = ⊤
-IsStreamCall (step.Call ctx (guest.CheckWrite output)) = ⊤
-IsStreamCall (step.Call ctx (guest.Write output bytes)) = ⊤
-IsStreamCall (step.Call ctx (guest.WriteZeroes output len)) = ⊤
-IsStreamCall (step.Call ctx (guest.Flush output)) = ⊤
-IsStreamCall (step.Call ctx (guest.Splice to from len)) = ⊤
-IsStreamCall (step.Call ctx (guest.BlockingRead input len)) = ⊤
-IsStreamCall (step.Call ctx (guest.BlockingSkip input len)) = ⊤
-IsStreamCall (step.Call ctx (guest.BlockingWrite output bytes)) = ⊤
-IsStreamCall (step.Call ctx (guest.BlockingZeroes output len)) = ⊤
-IsStreamCall (step.Call ctx (guest.BlockingFlush output)) = ⊤
-IsStreamCall (step.Call ctx (guest.BlockingSplice to from len)) = ⊤
+IsStreamCall (step.Call ctx (guest.Stream (stream_call.Read input len))) = ⊤
+IsStreamCall (step.Call ctx (guest.Stream (stream_call.Skip input len))) = ⊤
+IsStreamCall (step.Call ctx (guest.Stream (stream_call.CheckWrite output))) = ⊤
+IsStreamCall (step.Call ctx (guest.Stream (stream_call.Write output bytes))) = ⊤
+IsStreamCall (step.Call ctx (guest.Stream (stream_call.WriteZeroes output len))) = ⊤
+IsStreamCall (step.Call ctx (guest.Stream (stream_call.Flush output))) = ⊤
+IsStreamCall (step.Call ctx (guest.Stream (stream_call.Splice to from len))) = ⊤
+IsStreamCall (step.Call ctx (guest.Stream (stream_call.BlockingRead input len))) = ⊤
+IsStreamCall (step.Call ctx (guest.Stream (stream_call.BlockingSkip input len))) = ⊤
+IsStreamCall (step.Call ctx (guest.Stream (stream_call.BlockingWrite output bytes))) = ⊤
+IsStreamCall (step.Call ctx (guest.Stream (stream_call.BlockingZeroes output len))) = ⊤
+IsStreamCall (step.Call ctx (guest.Stream (stream_call.BlockingFlush output))) = ⊤
+IsStreamCall (step.Call ctx (guest.Stream (stream_call.BlockingSplice to from len))) = ⊤
 IsStreamCall (step.Poll n) = ⊤
 IsStreamCall _ = ⊥
 
 -- a step that names no handle misses none
 abbrev pub MayMiss : Step → Type 0
-MayMiss (step.Call ctx guest.Network) = ⊥
-MayMiss (step.Call ctx (guest.TcpCreate family)) = ⊥
-MayMiss (step.Call ctx (guest.UdpCreate family)) = ⊥
-MayMiss (step.Call ctx (guest.P3UdpCreate family)) = ⊥
-MayMiss (step.Call ctx (guest.P3TcpCreate family)) = ⊥
-MayMiss (step.Call ctx (guest.P3Resolve name)) = ⊥
-MayMiss (step.Call ctx (guest.PipeIn bytes)) = ⊥
-MayMiss (step.Call ctx (guest.PipeOut capacity)) = ⊥
-MayMiss (step.Call ctx guest.Sink) = ⊥
-MayMiss (step.Call ctx guest.ClosedIn) = ⊥
-MayMiss (step.Call ctx guest.ClosedOut) = ⊥
+MayMiss (step.Call ctx (guest.Names name_call.Network)) = ⊥
+MayMiss (step.Call ctx (guest.Tcp (tcp_call.Create family))) = ⊥
+MayMiss (step.Call ctx (guest.Udp (udp_call.Create family))) = ⊥
+MayMiss (step.Call ctx (guest.P3Udp (p3_udp_call.Create family))) = ⊥
+MayMiss (step.Call ctx (guest.P3Tcp (p3_tcp_call.Create family))) = ⊥
+MayMiss (step.Call ctx (guest.P3Names (p3_name_call.Resolve name))) = ⊥
+MayMiss (step.Call ctx (guest.Pipe (pipe_call.In bytes))) = ⊥
+MayMiss (step.Call ctx (guest.Pipe (pipe_call.Out capacity))) = ⊥
+MayMiss (step.Call ctx (guest.Pipe pipe_call.Sink)) = ⊥
+MayMiss (step.Call ctx (guest.Pipe pipe_call.ClosedIn)) = ⊥
+MayMiss (step.Call ctx (guest.Pipe pipe_call.ClosedOut)) = ⊥
 MayMiss step.Turn = ⊥
 MayMiss (step.Cancel n) = ⊥
 MayMiss _ = ⊤
 
 -- it may be of more bytes than one call may write
 abbrev pub IsBlockingWrite : Step → Type 0
-IsBlockingWrite (step.Call ctx (guest.BlockingWrite output bytes)) = ⊤
-IsBlockingWrite (step.Call ctx (guest.BlockingZeroes output len)) = ⊤
+IsBlockingWrite (step.Call ctx (guest.Stream (stream_call.BlockingWrite output bytes))) = ⊤
+IsBlockingWrite (step.Call ctx (guest.Stream (stream_call.BlockingZeroes output len))) = ⊤
 IsBlockingWrite _ = ⊥
 
 abbrev pub MayTrap : Step → TrapKind → Type 0
@@ -187,29 +196,29 @@ MayTrap s _ = ⊥
 
 -- under which number it may be pending
 abbrev pub MayWait : ℕ → Step → ℕ → Type 0
-MayWait line (step.Call ctx (guest.TcpStartBind socket network a)) n = n ≡ line
-MayWait line (step.Call ctx (guest.TcpStartListen socket)) n = n ≡ line
-MayWait line (step.Call ctx (guest.UdpCreate family)) n = n ≡ line
-MayWait line (step.Call ctx (guest.P3TcpBind socket a)) n = n ≡ line
-MayWait line (step.Call ctx (guest.P3TcpConnect socket a)) n = n ≡ line
-MayWait line (step.Call ctx (guest.P3UdpCreate family)) n = n ≡ line
-MayWait line (step.Call ctx (guest.P3UdpBind socket a)) n = n ≡ line
-MayWait line (step.Call ctx (guest.P3TcpListen socket)) n = n ≡ line
-MayWait line (step.Call ctx (guest.P3UdpConnect socket a)) n = n ≡ line
-MayWait line (step.Call ctx (guest.P3UdpSend socket d)) n = n ≡ line
-MayWait line (step.Call ctx (guest.P3UdpReceive socket)) n = n ≡ line
-MayWait line (step.Call ctx (guest.P3Resolve name)) n = n ≡ line
-MayWait line (step.Call ctx (guest.UdpStartBind socket network a)) n = n ≡ line
-MayWait line (step.Call ctx (guest.UdpStream socket remote)) n = n ≡ line
-MayWait line (step.Call ctx (guest.Drop handle)) n = n ≡ line
-MayWait line (step.Call ctx (guest.BlockingRead input len)) n = n ≡ line
-MayWait line (step.Call ctx (guest.BlockingSkip input len)) n = n ≡ line
-MayWait line (step.Call ctx (guest.BlockingWrite output bytes)) n = n ≡ line
-MayWait line (step.Call ctx (guest.BlockingZeroes output len)) n = n ≡ line
-MayWait line (step.Call ctx (guest.BlockingFlush output)) n = n ≡ line
-MayWait line (step.Call ctx (guest.BlockingSplice to from len)) n = n ≡ line
-MayWait line (step.Call ctx (guest.Block pollable)) n = n ≡ line
-MayWait line (step.Call ctx (guest.PollList pollables)) n = n ≡ line
+MayWait line (step.Call ctx (guest.Tcp (tcp_call.StartBind socket network a))) n = n ≡ line
+MayWait line (step.Call ctx (guest.Tcp (tcp_call.StartListen socket))) n = n ≡ line
+MayWait line (step.Call ctx (guest.Udp (udp_call.Create family))) n = n ≡ line
+MayWait line (step.Call ctx (guest.P3Tcp (p3_tcp_call.Bind socket a))) n = n ≡ line
+MayWait line (step.Call ctx (guest.P3Tcp (p3_tcp_call.Connect socket a))) n = n ≡ line
+MayWait line (step.Call ctx (guest.P3Udp (p3_udp_call.Create family))) n = n ≡ line
+MayWait line (step.Call ctx (guest.P3Udp (p3_udp_call.Bind socket a))) n = n ≡ line
+MayWait line (step.Call ctx (guest.P3Tcp (p3_tcp_call.Listen socket))) n = n ≡ line
+MayWait line (step.Call ctx (guest.P3Udp (p3_udp_call.Connect socket a))) n = n ≡ line
+MayWait line (step.Call ctx (guest.P3Udp (p3_udp_call.Send socket d))) n = n ≡ line
+MayWait line (step.Call ctx (guest.P3Udp (p3_udp_call.Receive socket))) n = n ≡ line
+MayWait line (step.Call ctx (guest.P3Names (p3_name_call.Resolve name))) n = n ≡ line
+MayWait line (step.Call ctx (guest.Udp (udp_call.StartBind socket network a))) n = n ≡ line
+MayWait line (step.Call ctx (guest.Udp (udp_call.Stream socket remote))) n = n ≡ line
+MayWait line (step.Call ctx (guest.Pollable (pollable_call.Drop handle))) n = n ≡ line
+MayWait line (step.Call ctx (guest.Stream (stream_call.BlockingRead input len))) n = n ≡ line
+MayWait line (step.Call ctx (guest.Stream (stream_call.BlockingSkip input len))) n = n ≡ line
+MayWait line (step.Call ctx (guest.Stream (stream_call.BlockingWrite output bytes))) n = n ≡ line
+MayWait line (step.Call ctx (guest.Stream (stream_call.BlockingZeroes output len))) n = n ≡ line
+MayWait line (step.Call ctx (guest.Stream (stream_call.BlockingFlush output))) n = n ≡ line
+MayWait line (step.Call ctx (guest.Stream (stream_call.BlockingSplice to from len))) n = n ≡ line
+MayWait line (step.Call ctx (guest.Pollable (pollable_call.Block pollable))) n = n ≡ line
+MayWait line (step.Call ctx (guest.Pollable (pollable_call.PollList pollables))) n = n ≡ line
 MayWait line (step.Poll call) n = n ≡ call
 MayWait line _ n = ⊥
 

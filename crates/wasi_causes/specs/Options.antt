@@ -14,8 +14,8 @@ use Rattle.wasi_tcp.specs.declared.socket.TcpState.TheVariants as state
 use Rattle.socket_common.specs.Options.{largest_value, zero_test, value_set, value_told, refused_before, refused_after}
 use Rattle.wasi_tcp.specs.Options.{option_side, with_backlog}
 use Rattle.host_store.specs.declared.machine.Machine.{Machine}
-use Rattle.wasi_records.specs.declared.socket.TcpRecord.{TcpRecord}
-use Rattle.wasi_records.specs.Sockets.{with_inner}
+use Rattle.tcp_records.specs.declared.socket.TcpRecord.{TcpRecord}
+use Rattle.tcp_records.specs.Sockets.{with_inner}
 use Rattle.wasi_steps.specs.declared.reply.CodeWord.{CodeWord}
 use Rattle.wasi_steps.specs.declared.reply.Field.{Field}
 use Rattle.wasi_steps.specs.declared.setting.TcpSetting.{TcpSetting}

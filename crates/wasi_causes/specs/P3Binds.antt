@@ -17,13 +17,13 @@ use Rattle.wasi_tcp.specs.declared.bind.BindStage.TheVariants.{Check}
 use Rattle.wasi_udp.specs.Bind.{bind_operation as udp_bind_operation}
 use Rattle.wasi_udp.specs.Socket.{asker_of}
 use Rattle.wasi_udp.specs.declared.bind.UdpBindStage.TheVariants as stage
-use Rattle.wasi_records.specs.declared.socket.TcpRecord.{TcpRecord}
-use Rattle.wasi_records.specs.declared.tcp_binding.InProgress.TheVariants.{Binding, Nothing}
-use Rattle.wasi_records.specs.declared.udp.OpenUdp.{OpenUdp}
-use Rattle.wasi_records.specs.declared.udp.UdpInProgress.TheVariants as udp
-use Rattle.wasi_records.specs.Names.{own_of}
-use Rattle.wasi_records.specs.Sockets.{with_progress}
-use Rattle.wasi_records.specs.Udp.{with_udp_progress}
+use Rattle.tcp_records.specs.declared.socket.TcpRecord.{TcpRecord}
+use Rattle.tcp_records.specs.declared.tcp_binding.InProgress.TheVariants.{Binding, Nothing}
+use Rattle.udp_records.specs.declared.udp.OpenUdp.{OpenUdp}
+use Rattle.udp_records.specs.declared.udp.UdpInProgress.TheVariants as udp
+use Rattle.record_common.specs.Names.{own_of}
+use Rattle.tcp_records.specs.Sockets.{with_progress}
+use Rattle.udp_records.specs.Udp.{with_udp_progress}
 use Rattle.host_store.specs.declared.kind.Interface.TheVariants.{P3}
 use Rattle.host_store.specs.declared.machine.Machine.{Machine}
 use Rattle.host_store.specs.declared.store.StandingCall.{StandingCall}

@@ -23,13 +23,13 @@ use Rattle.wasi_tcp.specs.declared.socket.Connection.{Connection}
 use Rattle.wasi_tcp.specs.declared.socket.TcpState.{TcpState}
 use Rattle.wasi_tcp.specs.declared.socket.TcpState.TheVariants as state
 use Rattle.wasi_tcp.specs.Shape.{Socket}
-use Rattle.wasi_records.specs.declared.socket.TcpRecord.{TcpRecord}
-use Rattle.wasi_records.specs.Binding.{left_of}
-use Rattle.wasi_records.specs.InProgress.{is_nothing}
-use Rattle.wasi_records.specs.Names.{own_of}
+use Rattle.tcp_records.specs.declared.socket.TcpRecord.{TcpRecord}
+use Rattle.record_common.specs.Binding.{left_of}
+use Rattle.tcp_records.specs.InProgress.{is_nothing}
+use Rattle.record_common.specs.Names.{own_of}
 use Rattle.wasi_records.specs.Records.{open_at, tcp2_at}
-use Rattle.wasi_records.specs.declared.udp.OpenUdp.{OpenUdp}
-use Rattle.wasi_records.specs.Sockets.{with_inner}
+use Rattle.udp_records.specs.declared.udp.OpenUdp.{OpenUdp}
+use Rattle.tcp_records.specs.Sockets.{with_inner}
 use Rattle.host_store.specs.declared.beside.BesideCall.{BesideCall}
 use Rattle.host_store.specs.declared.beside.BesideCall.TheVariants.{Connect, Receive, Resolve, Send}
 use Rattle.host_store.specs.declared.machine.Machine.{Machine}

@@ -26,11 +26,11 @@ use Rattle.wasi_udp.specs.declared.receive.RecvStage.TheVariants as receive_stag
 use Rattle.wasi_udp.specs.Send.{at_remote, send_operation, where_to}
 use Rattle.wasi_udp.specs.Shape.{Socket}
 use Rattle.wasi_udp.specs.Socket.{asker_of}
-use Rattle.wasi_records.specs.Binding.{left_of}
-use Rattle.wasi_records.specs.declared.udp.OpenUdp.{OpenUdp}
-use Rattle.wasi_records.specs.Names.{own_of}
+use Rattle.record_common.specs.Binding.{left_of}
+use Rattle.udp_records.specs.declared.udp.OpenUdp.{OpenUdp}
+use Rattle.record_common.specs.Names.{own_of}
 use Rattle.wasi_records.specs.Records.{open_at}
-use Rattle.wasi_records.specs.Udp.{with_udp_inner}
+use Rattle.udp_records.specs.Udp.{with_udp_inner}
 use Rattle.host_store.specs.Beside.{beside_as, beside_with}
 use Rattle.host_store.specs.declared.beside.BesideCall.{BesideCall}
 use Rattle.host_store.specs.declared.beside.BesideCall.TheVariants.{Receive, Send}

@@ -10,7 +10,7 @@ use Rattle.wasi_world.specs.declared.ids.OpId.{OpId}
 use Rattle.wasi_world.specs.declared.call.Entry.{Entry}
 use Rattle.wasi_world.specs.declared.call.Told.TheVariants as told
 use Rattle.wasi_world.specs.declared.outcome.WasiSocketsCtx.{WasiSocketsCtx}
-use Rattle.wasi_records.specs.Names.{own_of}
+use Rattle.record_common.specs.Names.{own_of}
 use Rattle.host_store.specs.declared.beside.BesideCall.TheVariants.{Resolve}
 use Rattle.host_store.specs.declared.machine.Machine.{Machine}
 use Rattle.host_store.specs.Beside.{beside_as}

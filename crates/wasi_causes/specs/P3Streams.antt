@@ -22,16 +22,17 @@ use Rattle.wasi_tcp.specs.declared.socket.TcpState.{TcpState}
 use Rattle.wasi_tcp.specs.declared.socket.TcpState.TheVariants as state
 use Rattle.wasi_tcp.specs.declared.writer.WriteState.TheVariants as writing
 use Rattle.wasi_tcp.specs.Connecting.{with_state}
-use Rattle.wasi_records.specs.declared.slot.Slot.{Slot}
-use Rattle.wasi_records.specs.declared.slot.Slot.TheVariants.{Filled, Unfilled}
-use Rattle.wasi_records.specs.declared.socket.TcpRecord.{TcpRecord}
-use Rattle.wasi_records.specs.Ends.{ends_of, half_of, receive_half, send_half}
-use Rattle.wasi_records.specs.Halves.{with_reader, with_writer}
-use Rattle.wasi_records.specs.Holding.{is_held}
+use Rattle.tcp_records.specs.declared.slot.Slot.{Slot}
+use Rattle.tcp_records.specs.declared.slot.Slot.TheVariants.{Filled, Unfilled}
+use Rattle.tcp_records.specs.declared.socket.TcpRecord.{TcpRecord}
+use Rattle.tcp_records.specs.Ends.{ends_of, half_of, receive_half, send_half}
+use Rattle.tcp_records.specs.Halves.{with_reader, with_writer}
+use Rattle.tcp_records.specs.Holding.{is_held}
 use Rattle.wasi_records.specs.Records.{tcp2_at}
-use Rattle.wasi_records.specs.Shutdowns.{with_streams}
-use Rattle.wasi_records.specs.Slots.{StreamEnd, slot_at}
-use Rattle.wasi_records.specs.Sockets.{with_inner}
+use Rattle.tcp_records.specs.Shutdowns.{with_streams}
+use Rattle.tcp_records.specs.Slots.{StreamEnd}
+use Rattle.wasi_records.specs.Records.{slot_at}
+use Rattle.tcp_records.specs.Sockets.{with_inner}
 use Rattle.host_store.specs.declared.kind.ConnectionEnd.{ConnectionEnd}
 use Rattle.host_store.specs.declared.kind.Kind.{Kind}
 use Rattle.host_store.specs.declared.kind.Kind.TheVariants as kind
@@ -42,6 +43,8 @@ use Rattle.host_store.specs.Kinds.{with_handle}
 use Rattle.host_store.specs.Lines.{tcp_in}
 use Rattle.host_store.specs.Machine.{result3_at}
 use Rattle.wasi_steps.specs.declared.guest_call.GuestCall.TheVariants as guest
+use Rattle.wasi_steps.specs.declared.guest_call.PollableCall.TheVariants as pollable_call
+use Rattle.wasi_steps.specs.declared.guest_call.P3TcpCall.TheVariants as p3_tcp_call
 use Rattle.wasi_steps.specs.declared.reply.CodeWord.{CodeWord}
 use Rattle.wasi_steps.specs.declared.reply.Field.{Field}
 use Rattle.wasi_steps.specs.declared.reply.Reply.{Reply}
@@ -57,23 +60,23 @@ use Rattle.wasi_causes.specs.Refusals.{SaidBy, p3_word}
 -- == steps
 -- a poll of an end
 abbrev pub IsEndPoll : Step → Type 0
-IsEndPoll (step.Call ctx (guest.P3Read end len)) = ⊤
-IsEndPoll (step.Call ctx (guest.P3Write end bytes)) = ⊤
+IsEndPoll (step.Call ctx (guest.P3Tcp (p3_tcp_call.Read end len))) = ⊤
+IsEndPoll (step.Call ctx (guest.P3Tcp (p3_tcp_call.Write end bytes))) = ⊤
 IsEndPoll _ = ⊥
 
 -- a poll that gives up where nothing can be done yet: of an end, or of a listener
 abbrev pub GivesUp : Step → Type 0
-GivesUp (step.Call ctx (guest.P3Accept listener remaining)) = ⊤
+GivesUp (step.Call ctx (guest.P3Tcp (p3_tcp_call.Accept listener remaining))) = ⊤
 GivesUp s = IsEndPoll s
 
 -- the take of a result
 abbrev pub IsResultStep : Step → Type 0
-IsResultStep (step.Call ctx (guest.P3Result slot)) = ⊤
+IsResultStep (step.Call ctx (guest.P3Tcp (p3_tcp_call.Result slot))) = ⊤
 IsResultStep _ = ⊥
 
 -- it takes a handle out of the table: a drop, and a result that is taken
 abbrev pub TakesOut : Step → Type 0
-TakesOut (step.Call ctx (guest.Drop handle)) = ⊤
+TakesOut (step.Call ctx (guest.Pollable (pollable_call.Drop handle))) = ⊤
 TakesOut s = IsResultStep s
 
 -- == an end is made

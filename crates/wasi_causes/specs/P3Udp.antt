@@ -13,9 +13,9 @@ use Rattle.wasi_world.specs.declared.ids.OpId.{OpId}
 use Rattle.wasi_world.specs.declared.outcome.WasiSocketsCtx.{WasiSocketsCtx}
 use Rattle.wasi_world.specs.Typed.{told_addr}
 use Rattle.wasi_udp.specs.Socket.{after_peer}
-use Rattle.wasi_records.specs.declared.udp.OpenUdp.{OpenUdp}
+use Rattle.udp_records.specs.declared.udp.OpenUdp.{OpenUdp}
 use Rattle.wasi_records.specs.Records.{open_at}
-use Rattle.wasi_records.specs.Udp.{with_udp_inner}
+use Rattle.udp_records.specs.Udp.{with_udp_inner}
 use Rattle.host_store.specs.declared.machine.Machine.{Machine}
 use Rattle.host_store.specs.Machine.{udp3_at}
 use Rattle.wasi_steps.specs.declared.reply.CodeWord.{CodeWord}

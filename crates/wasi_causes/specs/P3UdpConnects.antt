@@ -15,10 +15,10 @@ use Rattle.wasi_world.specs.Operation.{remote_told}
 use Rattle.wasi_world.specs.Typed.{told_addr}
 use Rattle.wasi_udp.specs.Connect.{connect_start, is_connectable, with_given}
 use Rattle.wasi_udp.specs.Shape.{Socket}
-use Rattle.wasi_records.specs.Binding.{left_of}
-use Rattle.wasi_records.specs.Datagrams.{has_streams}
-use Rattle.wasi_records.specs.declared.udp.OpenUdp.{OpenUdp}
-use Rattle.wasi_records.specs.Names.{own_of}
+use Rattle.record_common.specs.Binding.{left_of}
+use Rattle.udp_records.specs.Datagrams.{has_streams}
+use Rattle.udp_records.specs.declared.udp.OpenUdp.{OpenUdp}
+use Rattle.record_common.specs.Names.{own_of}
 use Rattle.host_store.specs.declared.machine.Machine.{Machine}
 use Rattle.host_store.specs.declared.store.StandingCall.TheVariants.{UdpConnect3}
 use Rattle.wasi_steps.specs.declared.reply.CodeWord.{CodeWord}

@@ -11,6 +11,7 @@ use Rattle.wasi_steps.specs.declared.reply.Field.TheVariants as field
 use Rattle.wasi_steps.specs.declared.reply.Reply.{Reply}
 use Rattle.wasi_steps.specs.declared.reply.Reply.TheVariants as reply
 use Rattle.wasi_steps.specs.declared.guest_call.GuestCall.TheVariants as guest
+use Rattle.wasi_steps.specs.declared.guest_call.StreamCall.TheVariants as stream_call
 use Rattle.wasi_steps.specs.declared.step.Step.TheVariants as step
 use Rattle.wasi_steps.specs.Reply.{bytes_fields, number_fields}
 use Rattle.wasi_walks.specs.Answered.{Answered}
@@ -35,7 +36,7 @@ counted_reply r = r
 -- A read of the same was answered so, and this is the reply that counts its bytes.
 pub record Skips (contexts : List WasiSocketsCtx) (m : Machine) (line c input len : ℕ) (es : List Entry) (r : Reply) (after : Machine) : Type 0 where
   pub given : Reply
-  pub reads : Answered contexts m line (step.Call c (guest.Read input len)) es given after
+  pub reads : Answered contexts m line (step.Call c (guest.Stream (stream_call.Read input len))) es given after
   pub counts : r ≡ counted_reply given
 
 -- == a splice
@@ -52,13 +53,13 @@ LacksStream m to from = (is_writable (kind_at m.table to) ≡ false) ⊎ (is_rea
 -- or what was read is written.
 pub data Splices (contexts : List WasiSocketsCtx) (m : Machine) (line c to from len : ℕ) : List Entry → Reply → Machine → Type 0 where
   NoStream : LacksStream m to from → Splices contexts m line c to from len [] (reply.Trap NoSuchHandle) m
-  CheckGivesNone : (es : List Entry) (r : Reply) (after : Machine) → Answered contexts m line (step.Call c (guest.CheckWrite to)) es r after → GivesNone r → Splices contexts m line c to from len es r after
-  NoneToRead : (es : List Entry) (permit : ℕ) (after : Machine) → Answered contexts m line (step.Call c (guest.CheckWrite to)) es (reply.Ok (number_fields permit)) after → min permit len ≡ 0
+  CheckGivesNone : (es : List Entry) (r : Reply) (after : Machine) → Answered contexts m line (step.Call c (guest.Stream (stream_call.CheckWrite to))) es r after → GivesNone r → Splices contexts m line c to from len es r after
+  NoneToRead : (es : List Entry) (permit : ℕ) (after : Machine) → Answered contexts m line (step.Call c (guest.Stream (stream_call.CheckWrite to))) es (reply.Ok (number_fields permit)) after → min permit len ≡ 0
       → Splices contexts m line c to from len es (reply.Ok (number_fields 0)) after
-  ReadGivesNone : (es fs : List Entry) (permit count : ℕ) (mid : Machine) (r : Reply) (after : Machine) → Answered contexts m line (step.Call c (guest.CheckWrite to)) es (reply.Ok (number_fields permit)) mid → min permit len ≡ suc count
-      → Answered contexts mid line (step.Call c (guest.Read from (suc count))) fs r after → GivesNone r → Splices contexts m line c to from len (es ++ fs) r after
-  NoneRead : (es fs : List Entry) (permit count : ℕ) (mid after : Machine) → Answered contexts m line (step.Call c (guest.CheckWrite to)) es (reply.Ok (number_fields permit)) mid → min permit len ≡ suc count
-      → Answered contexts mid line (step.Call c (guest.Read from (suc count))) fs (reply.Ok (bytes_fields [])) after → Splices contexts m line c to from len (es ++ fs) (reply.Ok (number_fields 0)) after
-  Writes : (es fs gs : List Entry) (permit count b : ℕ) (bytes : List ℕ) (mid read : Machine) (r : Reply) (after : Machine) → Answered contexts m line (step.Call c (guest.CheckWrite to)) es (reply.Ok (number_fields permit)) mid → min permit len ≡ suc count
-      → Answered contexts mid line (step.Call c (guest.Read from (suc count))) fs (reply.Ok (bytes_fields (b ∷ bytes))) read → Answered contexts read line (step.Call c (guest.Write to (b ∷ bytes))) gs r after
+  ReadGivesNone : (es fs : List Entry) (permit count : ℕ) (mid : Machine) (r : Reply) (after : Machine) → Answered contexts m line (step.Call c (guest.Stream (stream_call.CheckWrite to))) es (reply.Ok (number_fields permit)) mid → min permit len ≡ suc count
+      → Answered contexts mid line (step.Call c (guest.Stream (stream_call.Read from (suc count)))) fs r after → GivesNone r → Splices contexts m line c to from len (es ++ fs) r after
+  NoneRead : (es fs : List Entry) (permit count : ℕ) (mid after : Machine) → Answered contexts m line (step.Call c (guest.Stream (stream_call.CheckWrite to))) es (reply.Ok (number_fields permit)) mid → min permit len ≡ suc count
+      → Answered contexts mid line (step.Call c (guest.Stream (stream_call.Read from (suc count)))) fs (reply.Ok (bytes_fields [])) after → Splices contexts m line c to from len (es ++ fs) (reply.Ok (number_fields 0)) after
+  Writes : (es fs gs : List Entry) (permit count b : ℕ) (bytes : List ℕ) (mid read : Machine) (r : Reply) (after : Machine) → Answered contexts m line (step.Call c (guest.Stream (stream_call.CheckWrite to))) es (reply.Ok (number_fields permit)) mid → min permit len ≡ suc count
+      → Answered contexts mid line (step.Call c (guest.Stream (stream_call.Read from (suc count)))) fs (reply.Ok (bytes_fields (b ∷ bytes))) read → Answered contexts read line (step.Call c (guest.Stream (stream_call.Write to (b ∷ bytes)))) gs r after
       → Splices contexts m line c to from len (es ++ (fs ++ gs)) (spliced_reply (length (b ∷ bytes)) r) after

@@ -24,6 +24,7 @@ use Rattle.wasi_steps.specs.declared.reply.Reply.{Reply}
 use Rattle.wasi_steps.specs.declared.reply.Reply.TheVariants as reply
 use Rattle.wasi_steps.specs.declared.step.Step.{Step}
 use Rattle.wasi_steps.specs.declared.guest_call.GuestCall.TheVariants as guest
+use Rattle.wasi_steps.specs.declared.guest_call.PipeCall.TheVariants as pipe_call
 use Rattle.wasi_steps.specs.declared.step.Step.TheVariants as step
 use Rattle.wasi_steps.specs.Reply.{number_fields}
 use Rattle.wasi_walks.specs.Licence.{entry}
@@ -63,11 +64,11 @@ WatchesPlain m pollable = watch_of (kind_at m.table pollable) ≡ Some watched.P
 
 -- == how they are made
 abbrev pub MakesStream : Step → Type 0
-MakesStream (step.Call ctx (guest.PipeIn bytes)) = Unit {0}
-MakesStream (step.Call ctx (guest.PipeOut capacity)) = Unit {0}
-MakesStream (step.Call ctx guest.Sink) = Unit {0}
-MakesStream (step.Call ctx guest.ClosedIn) = Unit {0}
-MakesStream (step.Call ctx guest.ClosedOut) = Unit {0}
+MakesStream (step.Call ctx (guest.Pipe (pipe_call.In bytes))) = Unit {0}
+MakesStream (step.Call ctx (guest.Pipe (pipe_call.Out capacity))) = Unit {0}
+MakesStream (step.Call ctx (guest.Pipe pipe_call.Sink)) = Unit {0}
+MakesStream (step.Call ctx (guest.Pipe pipe_call.ClosedIn)) = Unit {0}
+MakesStream (step.Call ctx (guest.Pipe pipe_call.ClosedOut)) = Unit {0}
 MakesStream _ = ⊥
 
 -- The next handle was made and marked; it stands for this, and these are the records then.

@@ -15,13 +15,14 @@ use Rattle.host_store.specs.declared.store.StandingCall.{StandingCall}
 use Rattle.host_store.specs.declared.store.StandingCall.TheVariants.{Blocking}
 use Rattle.host_store.specs.Kinds.{kind_at, watch_of}
 use Rattle.wasi_host.specs.Pollables.{ready_asks}
-use Rattle.wasi_records.specs.Names.{first_ids}
+use Rattle.record_common.specs.Names.{first_ids}
 use Rattle.wasi_host.specs.Polling.{Found, are_pollables, begins_at, ids_after_look, ready_places}
 use Rattle.host_store.specs.Standing.{standing_as}
 use Rattle.wasi_steps.specs.declared.reply.Reply.{Reply}
 use Rattle.wasi_steps.specs.declared.reply.Reply.TheVariants as reply
 use Rattle.wasi_steps.specs.declared.step.Step.{Step}
 use Rattle.wasi_steps.specs.declared.guest_call.GuestCall.TheVariants as guest
+use Rattle.wasi_steps.specs.declared.guest_call.PollableCall.TheVariants as pollable_call
 use Rattle.wasi_steps.specs.declared.step.Step.TheVariants as step
 use Rattle.wasi_steps.specs.Reply.{no_fields, numbers_fields, truth_fields}
 use Rattle.wasi_walks.specs.Answered.{Answered}
@@ -34,7 +35,7 @@ waiting m ids call = record m { store = record m.store { standing = Some (standi
 
 -- it waits for none
 abbrev pub IsEmptyWait : Step → Type 0
-IsEmptyWait (step.Call c (guest.PollList pollables)) = pollables ≡ []
+IsEmptyWait (step.Call c (guest.Pollable (pollable_call.PollList pollables))) = pollables ≡ []
 IsEmptyWait _ = ⊥
 
 -- where this is a pollable's handle, what it watches is there
@@ -49,8 +50,8 @@ WatchedAreThere m (p ∷ pollables) = WatchedIsThere m p × WatchedAreThere m po
 -- How a look at it comes out. The first look of a wait is a `ready` of its line. A later one is a `ready` of that line too, where this
 -- would begin no accept and no receive; where it would, nothing is asked, and the pollable is ready.
 pub data LooksAs (contexts : List WasiSocketsCtx) (m : Machine) (c line pollable : ℕ) : Look → List Entry → Reply → Machine → Type 0 where
-  LooksFirst : (es : List Entry) (r : Reply) (after : Machine) → Answered contexts m line (step.Call c (guest.Ready pollable)) es r after → LooksAs contexts m c line pollable First es r after
-  LooksAgain : (es : List Entry) (r : Reply) (after : Machine) → begins_at m pollable ≡ false → Answered contexts m line (step.Call c (guest.Ready pollable)) es r after → LooksAs contexts m c line pollable Later es r after
+  LooksFirst : (es : List Entry) (r : Reply) (after : Machine) → Answered contexts m line (step.Call c (guest.Pollable (pollable_call.Ready pollable))) es r after → LooksAs contexts m c line pollable First es r after
+  LooksAgain : (es : List Entry) (r : Reply) (after : Machine) → begins_at m pollable ≡ false → Answered contexts m line (step.Call c (guest.Pollable (pollable_call.Ready pollable))) es r after → LooksAs contexts m c line pollable Later es r after
   WouldBegin : begins_at m pollable ≡ true → LooksAs contexts m c line pollable Later [] (reply.Ok (truth_fields true)) m
 
 -- How a wait for one pollable comes out: it is done where the look finds it ready, and pending where it doesn't; or it traps as the look.

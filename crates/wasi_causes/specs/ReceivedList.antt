@@ -17,15 +17,16 @@ use Rattle.wasi_world.specs.declared.ids.OpId.{OpId}
 use Rattle.wasi_world.specs.Operation.{is_wanted}
 use Rattle.wasi_world.specs.Sides.{is_same}
 use Rattle.wasi_world.specs.Typed.{told_verdict}
-use Rattle.wasi_records.specs.Receiving.{is_receiving}
-use Rattle.wasi_records.specs.declared.datagrams.Incoming.{Incoming as IncomingStream}
-use Rattle.wasi_records.specs.declared.datagrams.Receiving.{Receiving}
-use Rattle.wasi_records.specs.declared.datagrams.Receiving.TheVariants.{Came}
+use Rattle.udp_records.specs.Receiving.{is_receiving}
+use Rattle.udp_records.specs.declared.datagrams.Incoming.{Incoming as IncomingStream}
+use Rattle.udp_records.specs.declared.datagrams.Receiving.{Receiving}
+use Rattle.udp_records.specs.declared.datagrams.Receiving.TheVariants.{Came}
 use Rattle.wasi_steps.specs.declared.reply.Field.{Field}
 use Rattle.wasi_steps.specs.declared.reply.Reply.{Reply}
 use Rattle.wasi_steps.specs.declared.reply.Reply.TheVariants as reply
 use Rattle.wasi_steps.specs.declared.step.Step.{Step}
 use Rattle.wasi_steps.specs.declared.guest_call.GuestCall.TheVariants as guest
+use Rattle.wasi_steps.specs.declared.guest_call.UdpCall.TheVariants as udp_call
 use Rattle.wasi_steps.specs.declared.step.Step.TheVariants as step
 use Rattle.wasi_steps.specs.Reply.{received_values}
 use Rattle.wasi_walks.specs.Allowed.{Has, entry}
@@ -135,7 +136,7 @@ without_count (count ∷ fields) = fields
 
 -- what the reply to a step hands out on the stream of a handle
 abbrev pub handed_by : ℕ → Step → Reply → List Field
-handed_by handle (step.Call ctx (guest.UdpReceive incoming most)) (reply.Ok fields) = if handle == incoming then without_count fields else []
+handed_by handle (step.Call ctx (guest.Udp (udp_call.Receive incoming most))) (reply.Ok fields) = if handle == incoming then without_count fields else []
 handed_by handle _ _ = []
 
 -- what all of the replies do, each to the step of its line

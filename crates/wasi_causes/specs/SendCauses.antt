@@ -15,12 +15,12 @@ use Rattle.wasi_world.specs.declared.ids.OpId.{OpId}
 use Rattle.wasi_udp.specs.Receive.{receive_start, wanting}
 use Rattle.wasi_udp.specs.Send.{at_remote, send_start}
 use Rattle.wasi_udp.specs.Shape.{Socket}
-use Rattle.wasi_records.specs.declared.datagrams.Incoming.{Incoming}
-use Rattle.wasi_records.specs.declared.datagrams.Outgoing.{Outgoing}
-use Rattle.wasi_records.specs.declared.datagrams.Receiving.TheVariants as receiving
-use Rattle.wasi_records.specs.declared.datagrams.Sending.TheVariants as sending
+use Rattle.udp_records.specs.declared.datagrams.Incoming.{Incoming}
+use Rattle.udp_records.specs.declared.datagrams.Outgoing.{Outgoing}
+use Rattle.udp_records.specs.declared.datagrams.Receiving.TheVariants as receiving
+use Rattle.udp_records.specs.declared.datagrams.Sending.TheVariants as sending
 use Rattle.host_store.specs.declared.machine.Machine.{Machine}
-use Rattle.wasi_records.specs.declared.udp.OpenUdp.{OpenUdp}
+use Rattle.udp_records.specs.declared.udp.OpenUdp.{OpenUdp}
 use Rattle.wasi_steps.specs.declared.reply.CodeWord.{CodeWord}
 use Rattle.wasi_steps.specs.declared.reply.Field.{Field}
 use Rattle.wasi_steps.specs.Reply.{datagram_values, number_fields}

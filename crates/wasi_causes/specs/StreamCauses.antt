@@ -13,13 +13,13 @@ use Rattle.wasi_world.specs.declared.call.Told.TheVariants as told
 use Rattle.wasi_world.specs.declared.ids.OpId.{OpId}
 use Rattle.wasi_udp.specs.Connect.{connect_start, is_connectable, with_given}
 use Rattle.wasi_udp.specs.Socket.{after_peer}
-use Rattle.wasi_records.specs.Datagrams.{with_streams}
-use Rattle.wasi_records.specs.Names.{own_of}
+use Rattle.udp_records.specs.Datagrams.{with_streams}
+use Rattle.record_common.specs.Names.{own_of}
 use Rattle.wasi_records.specs.Records.{open_at}
-use Rattle.wasi_records.specs.Udp.{with_udp_inner}
+use Rattle.udp_records.specs.Udp.{with_udp_inner}
 use Rattle.host_store.specs.Store.{with_open_udp}
 use Rattle.host_store.specs.declared.machine.Machine.{Machine}
-use Rattle.wasi_records.specs.declared.udp.OpenUdp.{OpenUdp}
+use Rattle.udp_records.specs.declared.udp.OpenUdp.{OpenUdp}
 use Rattle.wasi_steps.specs.declared.reply.CodeWord.{CodeWord}
 use Rattle.wasi_steps.specs.declared.reply.CodeWord.TheVariants as word
 use Rattle.wasi_walks.specs.Answered.{EndsPending, word_of_code}

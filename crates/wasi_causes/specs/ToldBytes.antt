@@ -8,6 +8,10 @@ use Rattle.wasi_world.specs.declared.call.Told.{Told}
 use Rattle.wasi_world.specs.declared.call.Told.TheVariants as told
 use Rattle.wasi_world.specs.Sides.{is_same}
 use Rattle.wasi_steps.specs.declared.guest_call.GuestCall.TheVariants as guest
+use Rattle.wasi_steps.specs.declared.guest_call.TcpCall.TheVariants as tcp_call
+use Rattle.wasi_steps.specs.declared.guest_call.NameCall.TheVariants as name_call
+use Rattle.wasi_steps.specs.declared.guest_call.StreamCall.TheVariants as stream_call
+use Rattle.wasi_steps.specs.declared.guest_call.PollableCall.TheVariants as pollable_call
 use Rattle.wasi_steps.specs.declared.reply.Field.TheVariants as field
 use Rattle.wasi_steps.specs.declared.reply.Reply.{Reply}
 use Rattle.wasi_steps.specs.declared.reply.Reply.TheVariants as reply
@@ -31,18 +35,18 @@ handed_out _ = []
 
 -- a call of a TCP socket but for its addresses and options, a look at what may be written, a write, a drop or a turn
 abbrev pub ReadsNothing : Step → Type 0
-ReadsNothing (step.Call ctx guest.Network) = ⊤
-ReadsNothing (step.Call ctx (guest.TcpCreate family)) = ⊤
-ReadsNothing (step.Call ctx (guest.TcpStartBind socket network addr)) = ⊤
-ReadsNothing (step.Call ctx (guest.TcpFinishBind socket)) = ⊤
-ReadsNothing (step.Call ctx (guest.TcpStartConnect socket network addr)) = ⊤
-ReadsNothing (step.Call ctx (guest.TcpFinishConnect socket)) = ⊤
-ReadsNothing (step.Call ctx (guest.TcpStartListen socket)) = ⊤
-ReadsNothing (step.Call ctx (guest.TcpFinishListen socket)) = ⊤
-ReadsNothing (step.Call ctx (guest.TcpAccept socket)) = ⊤
-ReadsNothing (step.Call ctx (guest.TcpShutdown socket how)) = ⊤
-ReadsNothing (step.Call ctx (guest.CheckWrite output)) = ⊤
-ReadsNothing (step.Call ctx (guest.Write output bytes)) = ⊤
-ReadsNothing (step.Call ctx (guest.Drop handle)) = ⊤
+ReadsNothing (step.Call ctx (guest.Names name_call.Network)) = ⊤
+ReadsNothing (step.Call ctx (guest.Tcp (tcp_call.Create family))) = ⊤
+ReadsNothing (step.Call ctx (guest.Tcp (tcp_call.StartBind socket network addr))) = ⊤
+ReadsNothing (step.Call ctx (guest.Tcp (tcp_call.FinishBind socket))) = ⊤
+ReadsNothing (step.Call ctx (guest.Tcp (tcp_call.StartConnect socket network addr))) = ⊤
+ReadsNothing (step.Call ctx (guest.Tcp (tcp_call.FinishConnect socket))) = ⊤
+ReadsNothing (step.Call ctx (guest.Tcp (tcp_call.StartListen socket))) = ⊤
+ReadsNothing (step.Call ctx (guest.Tcp (tcp_call.FinishListen socket))) = ⊤
+ReadsNothing (step.Call ctx (guest.Tcp (tcp_call.Accept socket))) = ⊤
+ReadsNothing (step.Call ctx (guest.Tcp (tcp_call.Shutdown socket how))) = ⊤
+ReadsNothing (step.Call ctx (guest.Stream (stream_call.CheckWrite output))) = ⊤
+ReadsNothing (step.Call ctx (guest.Stream (stream_call.Write output bytes))) = ⊤
+ReadsNothing (step.Call ctx (guest.Pollable (pollable_call.Drop handle))) = ⊤
 ReadsNothing step.Turn = ⊤
 ReadsNothing _ = ⊥

@@ -4,21 +4,21 @@ use Rattle.wasi_world.specs.declared.ids.OpId.{OpId}
 use Rattle.wasi_tcp.specs.declared.writer.WriteState.{WriteState}
 use Rattle.wasi_tcp.specs.declared.writer.WriteState.TheVariants as writing
 use Rattle.wasi_records.specs.Records.{tcp2_at, open_at, lookup_at}
-use Rattle.wasi_records.specs.declared.datagrams.Incoming.{Incoming}
-use Rattle.wasi_records.specs.declared.datagrams.Outgoing.{Outgoing}
-use Rattle.wasi_records.specs.declared.datagrams.Receiving.{Receiving}
-use Rattle.wasi_records.specs.declared.datagrams.Receiving.TheVariants as receiving
-use Rattle.wasi_records.specs.declared.datagrams.Sending.{Sending}
-use Rattle.wasi_records.specs.declared.datagrams.Sending.TheVariants as sending
+use Rattle.udp_records.specs.declared.datagrams.Incoming.{Incoming}
+use Rattle.udp_records.specs.declared.datagrams.Outgoing.{Outgoing}
+use Rattle.udp_records.specs.declared.datagrams.Receiving.{Receiving}
+use Rattle.udp_records.specs.declared.datagrams.Receiving.TheVariants as receiving
+use Rattle.udp_records.specs.declared.datagrams.Sending.{Sending}
+use Rattle.udp_records.specs.declared.datagrams.Sending.TheVariants as sending
 use Rattle.wasi_jobs.specs.declared.job.HostJob.{HostJob}
 use Rattle.wasi_jobs.specs.declared.job.HostJob.TheVariants.{Write, Datagram, Receive, Lookup as LookupJob}
-use Rattle.wasi_records.specs.declared.name_lookup.Lookup.{Lookup}
-use Rattle.wasi_records.specs.declared.name_lookup.Lookup.TheVariants as lookup
+use Rattle.lookup_records.specs.declared.name_lookup.Lookup.{Lookup}
+use Rattle.lookup_records.specs.declared.name_lookup.Lookup.TheVariants as lookup
 use Rattle.wasi_records.specs.declared.records.Record.{Record}
-use Rattle.wasi_records.specs.declared.udp.OpenUdp.{OpenUdp}
+use Rattle.udp_records.specs.declared.udp.OpenUdp.{OpenUdp}
 use Rattle.host_store.specs.declared.machine.Machine.{Machine}
-use Rattle.wasi_records.specs.declared.socket.Streams.{Streams}
-use Rattle.wasi_records.specs.declared.socket.TcpRecord.{TcpRecord}
+use Rattle.tcp_records.specs.declared.socket.Streams.{Streams}
+use Rattle.tcp_records.specs.declared.socket.TcpRecord.{TcpRecord}
 use Rattle.wasi_walks.specs.Answered.{streams_in}
 use Rattle.wasi_walks.specs.Licence.{Has}
 

@@ -27,17 +27,17 @@ use Rattle.host_store.specs.declared.kind.Watched.TheVariants as watched
 use Rattle.host_store.specs.declared.machine.Machine.{Machine}
 use Rattle.host_store.specs.declared.store.StandingCall.{StandingCall}
 use Rattle.host_store.specs.declared.store.StandingCall.TheVariants as standing
-use Rattle.wasi_records.specs.declared.udp.OpenUdp.{OpenUdp}
-use Rattle.wasi_records.specs.declared.udp.UdpRecord.{UdpRecord}
-use Rattle.wasi_records.specs.declared.udp.UdpRecord.TheVariants as udp
-use Rattle.wasi_records.specs.declared.udp.UdpInProgress.TheVariants as doing
-use Rattle.wasi_records.specs.Datagrams.{has_streams}
+use Rattle.udp_records.specs.declared.udp.OpenUdp.{OpenUdp}
+use Rattle.udp_records.specs.declared.udp.UdpRecord.{UdpRecord}
+use Rattle.udp_records.specs.declared.udp.UdpRecord.TheVariants as udp
+use Rattle.udp_records.specs.declared.udp.UdpInProgress.TheVariants as doing
+use Rattle.udp_records.specs.Datagrams.{has_streams}
 use Rattle.host_store.specs.Kinds.{kind_at, name_of, udp_kind, watch_of, with_handle}
 use Rattle.host_store.specs.Machine.{tcp3_at, udp_socket_at}
 use Rattle.host_store.specs.declared.kind.Kind.TheVariants as kind
 use Rattle.wasi_records.specs.Records.{udp2_pushed, open_at, open_put}
 use Rattle.host_store.specs.Standing.{standing_as}
-use Rattle.wasi_records.specs.Udp.{is_udp_idle, is_udp_bound, opened_udp, with_udp_inner, with_udp_progress}
+use Rattle.udp_records.specs.Udp.{is_udp_idle, is_udp_bound, opened_udp, with_udp_inner, with_udp_progress}
 use Rattle.host_store.specs.Store.{with_open_udp}
 use Rattle.wasi_machine.specs.Machine.{first_ids}
 use Rattle.wasi_steps.specs.declared.reply.CodeWord.{CodeWord}

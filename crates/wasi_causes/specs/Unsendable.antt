@@ -8,8 +8,8 @@ use Rattle.wasi_addr.specs.declared.code.ErrorCode.TheVariants.{AccessDenied, Da
 use Rattle.wasi_world.specs.declared.call.Entry.{Entry}
 use Rattle.wasi_world.specs.declared.call.Told.TheVariants as told
 use Rattle.wasi_world.specs.declared.datagram.OutgoingDatagram.{OutgoingDatagram}
-use Rattle.wasi_records.specs.declared.datagrams.Sending.{Sending}
-use Rattle.wasi_records.specs.declared.datagrams.Sending.TheVariants as sending
+use Rattle.udp_records.specs.declared.datagrams.Sending.{Sending}
+use Rattle.udp_records.specs.declared.datagrams.Sending.TheVariants as sending
 use Rattle.wasi_steps.specs.declared.reply.CodeWord.{CodeWord}
 use Rattle.wasi_walks.specs.Answered.{word_of_code}
 use Rattle.wasi_walks.specs.Waiting.{EndsWith}

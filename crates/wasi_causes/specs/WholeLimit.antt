@@ -8,8 +8,8 @@ use Rattle.wasi_tcp.specs.declared.halves.TcpSendStream.{TcpSendStream}
 use Rattle.wasi_tcp.specs.declared.writer.WriteState.{WriteState}
 use Rattle.wasi_tcp.specs.declared.writer.WriteState.TheVariants as writing
 use Rattle.wasi_tcp.specs.Writer.{collected}
-use Rattle.wasi_records.specs.declared.socket.TcpRecord.{TcpRecord}
-use Rattle.wasi_records.specs.Used.{held_in}
+use Rattle.tcp_records.specs.declared.socket.TcpRecord.{TcpRecord}
+use Rattle.tcp_records.specs.Used.{held_in}
 use Rattle.host_store.specs.Limits.{left}
 use Rattle.host_store.specs.Store.{Records}
 use Rattle.wasi_walks.specs.Answered.{IsUnfinished}

@@ -22,6 +22,7 @@ ghost use Rattle.wasi_steps.specs.declared.reply.CodeWord.{CodeWord};
 ghost use Rattle.wasi_steps.specs.declared.reply.Field.{Field};
 ghost use Rattle.wasi_steps.specs.declared.reply.Reply.{Reply};
 ghost use Rattle.wasi_steps.specs.declared.guest_call.GuestCall.{GuestCall};
+ghost use Rattle.wasi_steps.specs.declared.guest_call.StreamCall.{StreamCall};
 ghost use Rattle.wasi_steps.specs.declared.step.Step.{Step};
 ghost use Rattle.wasi_steps.specs.Reply.{bytes_fields, no_fields};
 ghost use Rattle.wasi_walks.specs.Answered.{Answered};
@@ -44,42 +45,42 @@ pub fn calls_that_block_are_their_parts()
     ensures read { (contexts : List WasiSocketsCtx) (m : Machine) (line ctx input len : ℕ)
         (entries : List Entry) (reply : Reply) (after : Machine)
         → m.store.standing ≡ None
-        → Answered contexts m line (Step.Call ctx (GuestCall.BlockingRead input len)) entries reply
+        → Answered contexts m line (Step.Call ctx (GuestCall.Stream (StreamCall.BlockingRead input len))) entries reply
         after
         → BlocksAs contexts m ctx (first_ids line) (BlockingCall.Read input len) entries reply
         after }
     ensures skip { (contexts : List WasiSocketsCtx) (m : Machine) (line ctx input len : ℕ)
         (entries : List Entry) (reply : Reply) (after : Machine)
         → m.store.standing ≡ None
-        → Answered contexts m line (Step.Call ctx (GuestCall.BlockingSkip input len)) entries reply
+        → Answered contexts m line (Step.Call ctx (GuestCall.Stream (StreamCall.BlockingSkip input len))) entries reply
         after
         → BlocksAs contexts m ctx (first_ids line) (BlockingCall.Skip input len) entries reply
         after }
     ensures write { (contexts : List WasiSocketsCtx) (m : Machine) (line ctx output : ℕ)
         (bytes : List ℕ) (entries : List Entry) (reply : Reply) (after : Machine)
         → m.store.standing ≡ None
-        → Answered contexts m line (Step.Call ctx (GuestCall.BlockingWrite output bytes)) entries
+        → Answered contexts m line (Step.Call ctx (GuestCall.Stream (StreamCall.BlockingWrite output bytes))) entries
         reply after
         → BeginsToWrite contexts m ctx (first_ids line) output (length bytes) bytes entries
         reply after }
     ensures zeroes { (contexts : List WasiSocketsCtx) (m : Machine) (line ctx output len : ℕ)
         (entries : List Entry) (reply : Reply) (after : Machine)
         → m.store.standing ≡ None
-        → Answered contexts m line (Step.Call ctx (GuestCall.BlockingZeroes output len)) entries
+        → Answered contexts m line (Step.Call ctx (GuestCall.Stream (StreamCall.BlockingZeroes output len))) entries
         reply after
         → BeginsToWrite contexts m ctx (first_ids line) output len (zeros len) entries reply
         after }
     ensures flush { (contexts : List WasiSocketsCtx) (m : Machine) (line ctx output : ℕ)
         (entries : List Entry) (reply : Reply) (after : Machine)
         → m.store.standing ≡ None
-        → Answered contexts m line (Step.Call ctx (GuestCall.BlockingFlush output)) entries reply
+        → Answered contexts m line (Step.Call ctx (GuestCall.Stream (StreamCall.BlockingFlush output))) entries reply
         after
         → BlocksAs contexts m ctx (first_ids line) (BlockingCall.Flush output) entries reply
         after }
     ensures splice { (contexts : List WasiSocketsCtx) (m : Machine) (line ctx to from len : ℕ)
         (entries : List Entry) (reply : Reply) (after : Machine)
         → m.store.standing ≡ None
-        → Answered contexts m line (Step.Call ctx (GuestCall.BlockingSplice to from len)) entries
+        → Answered contexts m line (Step.Call ctx (GuestCall.Stream (StreamCall.BlockingSplice to from len))) entries
         reply after
         → BlocksAs contexts m ctx (first_ids line) (BlockingCall.Splice to from len) entries
         reply after }
@@ -120,7 +121,7 @@ pub fn blocking_reads_hand_out_what_was_told()
     ensures at_once { (contexts : List WasiSocketsCtx) (m : Machine) (line ctx input len b : ℕ)
         (bytes : List ℕ) (entries : List Entry) (after : Machine)
         → m.store.standing ≡ None
-        → Answered contexts m line (Step.Call ctx (GuestCall.BlockingRead input len)) entries
+        → Answered contexts m line (Step.Call ctx (GuestCall.Stream (StreamCall.BlockingRead input len))) entries
         (Reply.Ok (bytes_fields (b ∷ bytes))) after
         → EndsByRead m line input len (b ∷ bytes) entries after }
     ensures polled { (contexts : List WasiSocketsCtx) (m : Machine) (line input len b : ℕ)

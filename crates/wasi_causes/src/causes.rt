@@ -18,11 +18,13 @@ ghost use Rattle.host_store.specs.declared.kind.Kind.{Kind};
 ghost use Rattle.host_store.specs.declared.kind.PlainInput.{PlainInput};
 ghost use Rattle.host_store.specs.declared.kind.PlainOutput.{PlainOutput};
 ghost use Rattle.host_store.specs.declared.machine.Machine.{Machine};
-ghost use Rattle.wasi_records.specs.declared.socket.TcpRecord.{TcpRecord};
+ghost use Rattle.tcp_records.specs.declared.socket.TcpRecord.{TcpRecord};
 ghost use Rattle.wasi_steps.specs.declared.reply.CodeWord.{CodeWord};
 ghost use Rattle.wasi_steps.specs.declared.reply.Field.{Field};
 ghost use Rattle.wasi_steps.specs.declared.reply.Reply.{Reply};
 ghost use Rattle.wasi_steps.specs.declared.guest_call.GuestCall.{GuestCall};
+ghost use Rattle.wasi_steps.specs.declared.guest_call.NameCall.{NameCall};
+ghost use Rattle.wasi_steps.specs.declared.guest_call.PollableCall.{PollableCall};
 ghost use Rattle.wasi_steps.specs.declared.step.Step.{Step};
 ghost use Rattle.wasi_walks.specs.Answered.{Answered, OfRecord, record_at, streams_in};
 ghost use Rattle.wasi_walks.specs.Missing.{ExclusiveOnNothing, IsWrite, MakesHandle, MissesHandle};
@@ -39,7 +41,7 @@ ghost use Rattle.wasi_walks.specs.Licence.{Has, marks_in};
 ghost use Rattle.wasi_machine.specs.Machine.{polls_beside, run};
 ghost use Rattle.wasi_steps.specs.Steps.{context_of};
 ghost use Rattle.host_store.specs.Machine.{first_state, own_of, socket_at};
-ghost use Rattle.wasi_records.specs.declared.name_lookup.Lookup.{Lookup};
+ghost use Rattle.lookup_records.specs.declared.name_lookup.Lookup.{Lookup};
 ghost use Rattle.wasi_records.specs.Records.{input_pipe_at, lookup_at, open_at, output_pipe_at};
 ghost use Rattle.wasi_records.specs.Records.{tcp2_at};
 ghost use Rattle.host_store.specs.Kinds.{kind_at, without_handle};
@@ -47,7 +49,7 @@ ghost use Rattle.wasi_steps.specs.Reply.{no_fields};
 ghost use Rattle.wasi_causes.specs.Lookups.{LookedOn};
 ghost use Rattle.wasi_causes.specs.Turns.{IsOfJob};
 ghost use Rattle.wasi_walks.specs.Waiting.{IsPoll, left_missing};
-ghost use Rattle.wasi_records.specs.InProgress.{is_connect};
+ghost use Rattle.tcp_records.specs.InProgress.{is_connect};
 ghost use Rattle.wasi_table.specs.Table.{children_of, is_full};
 
 /// Each reply is one that the table of replies allows its step: fields of the step's kinds, a code
@@ -135,7 +137,7 @@ pub fn traps_have_causes()
     ensures has_children { (contexts : List WasiSocketsCtx) (m : Machine) (line ctx handle : ℕ)
         (entries : List Entry) (reply : Reply) (after : Machine)
         → m.store.standing ≡ None
-        → Answered contexts m line (Step.Call ctx (GuestCall.Drop handle)) entries reply after
+        → Answered contexts m line (Step.Call ctx (GuestCall.Pollable (PollableCall.Drop handle))) entries reply after
         → (reply ≡ Reply.Trap TrapKind.HasChildren) ↔ HasLiveChildren m handle }
     ensures has_children_stays { (contexts : List WasiSocketsCtx) (m : Machine) (line : ℕ)
         (s : Step) (entries : List Entry) (after : Machine)
@@ -226,17 +228,17 @@ pub fn runs_keep_their_records()
 pub fn errors_have_no_network_code()
     ensures none { (contexts : List WasiSocketsCtx) (m : Machine) (line ctx error : ℕ)
         (fields : List Field) (entries : List Entry) (after : Machine)
-        → Answered contexts m line (Step.Call ctx (GuestCall.NetworkErrorCode error)) entries
+        → Answered contexts m line (Step.Call ctx (GuestCall.Names (NameCall.NetworkErrorCode error))) entries
         (Reply.Ok fields) after
         → fields ≡ Field.Absent ∷ [] }
     ensures never { (contexts : List WasiSocketsCtx) (m : Machine) (line ctx error : ℕ)
         (entries : List Entry) (word : CodeWord) (after : Machine)
-        → Answered contexts m line (Step.Call ctx (GuestCall.NetworkErrorCode error)) entries
+        → Answered contexts m line (Step.Call ctx (GuestCall.Names (NameCall.NetworkErrorCode error))) entries
         (Reply.Err word) after
         → ⊥ }
     ensures quiet { (contexts : List WasiSocketsCtx) (m : Machine) (line ctx error : ℕ)
         (entries : List Entry) (reply : Reply) (after : Machine)
-        → Answered contexts m line (Step.Call ctx (GuestCall.NetworkErrorCode error)) entries reply
+        → Answered contexts m line (Step.Call ctx (GuestCall.Names (NameCall.NetworkErrorCode error))) entries reply
         after
         → (entries ≡ []) × (after ≡ m) }
 {}
@@ -261,57 +263,57 @@ pub fn drops_give_up_what_is_open()
         (entries : List Entry) (reply : Reply) (after : Machine)
         → m.store.standing ≡ None → kind_at m.table handle ≡ Some (Kind.Tcp2 place)
         → children_of m.table.live handle ≡ []
-        → Answered contexts m line (Step.Call ctx (GuestCall.Drop handle)) entries reply after
+        → Answered contexts m line (Step.Call ctx (GuestCall.Pollable (PollableCall.Drop handle))) entries reply after
         → reply ≡ Reply.Ok no_fields }
     ensures given_up { (contexts : List WasiSocketsCtx) (m : Machine) (line ctx handle : ℕ)
         (r : TcpRecord) (fields : List Field) (entries : List Entry) (after : Machine)
         → record_at m handle ≡ Some r
-        → Answered contexts m line (Step.Call ctx (GuestCall.Drop handle)) entries (Reply.Ok fields)
+        → Answered contexts m line (Step.Call ctx (GuestCall.Pollable (PollableCall.Drop handle))) entries (Reply.Ok fields)
         after
         → entries ≡ socket_given_up (own_of line) r }
     ensures gone { (contexts : List WasiSocketsCtx) (m : Machine) (line ctx handle : ℕ)
         (r : TcpRecord) (fields : List Field) (entries : List Entry) (after : Machine)
         → record_at m handle ≡ Some r
-        → Answered contexts m line (Step.Call ctx (GuestCall.Drop handle)) entries (Reply.Ok fields)
+        → Answered contexts m line (Step.Call ctx (GuestCall.Pollable (PollableCall.Drop handle))) entries (Reply.Ok fields)
         after
         → OfRecord m handle (λ place r. IsGone m handle place after) }
     ensures plain { (contexts : List WasiSocketsCtx) (m : Machine) (line ctx handle : ℕ)
         (kind : Kind) (entries : List Entry) (reply : Reply) (after : Machine)
         → kind_at m.table handle ≡ Some kind → GoesAtOnce kind
-        → Answered contexts m line (Step.Call ctx (GuestCall.Drop handle)) entries reply after →
+        → Answered contexts m line (Step.Call ctx (GuestCall.Pollable (PollableCall.Drop handle))) entries reply after →
         entries ≡ [] }
     ensures plain_leaves { (contexts : List WasiSocketsCtx) (m : Machine) (line ctx handle : ℕ)
         (kind : Kind) (entries : List Entry) (reply : Reply) (after : Machine)
         → kind_at m.table handle ≡ Some kind → GoesAtOnce kind → IsDropped reply
-        → Answered contexts m line (Step.Call ctx (GuestCall.Drop handle)) entries reply after
+        → Answered contexts m line (Step.Call ctx (GuestCall.Pollable (PollableCall.Drop handle))) entries reply after
         → after ≡ without m handle }
     ensures input_pipe { (contexts : List WasiSocketsCtx) (m : Machine) (line ctx handle place : ℕ)
         (bytes : List ℕ) (fields : List Field) (entries : List Entry) (after : Machine)
         → kind_at m.table handle ≡ Some (Kind.PlainInput (PlainInput.Pipe place))
         → input_pipe_at m.store.records place ≡ Some bytes
-        → Answered contexts m line (Step.Call ctx (GuestCall.Drop handle)) entries (Reply.Ok fields)
+        → Answered contexts m line (Step.Call ctx (GuestCall.Pollable (PollableCall.Drop handle))) entries (Reply.Ok fields)
         after
         → (entries ≡ []) × (after ≡ giving_back (without m handle) place) }
     ensures output_pipe { (contexts : List WasiSocketsCtx) (m : Machine) (line ctx handle place : ℕ)
         (pipe : Contents) (fields : List Field) (entries : List Entry) (after : Machine)
         → kind_at m.table handle ≡ Some (Kind.PlainOutput (PlainOutput.Pipe place))
         → output_pipe_at m.store.records place ≡ Some pipe
-        → Answered contexts m line (Step.Call ctx (GuestCall.Drop handle)) entries (Reply.Ok fields)
+        → Answered contexts m line (Step.Call ctx (GuestCall.Pollable (PollableCall.Drop handle))) entries (Reply.Ok fields)
         after
         → (entries ≡ []) × (after ≡ giving_back (without m handle) place) }
     ensures output { (contexts : List WasiSocketsCtx) (m : Machine) (line ctx handle place : ℕ)
         (entries : List Entry) (reply : Reply) (after : Machine)
         → kind_at m.table handle ≡ Some (Kind.Output place)
-        → Answered contexts m line (Step.Call ctx (GuestCall.Drop handle)) entries reply after
+        → Answered contexts m line (Step.Call ctx (GuestCall.Pollable (PollableCall.Drop handle))) entries reply after
         → LooksOnce (own_of line) entries }
     ensures table { (contexts : List WasiSocketsCtx) (m : Machine) (line ctx handle : ℕ)
         (entries : List Entry) (reply : Reply) (after : Machine)
-        → IsDropped reply → Answered contexts m line (Step.Call ctx (GuestCall.Drop handle)) entries
+        → IsDropped reply → Answered contexts m line (Step.Call ctx (GuestCall.Pollable (PollableCall.Drop handle))) entries
         reply after
         → after.table ≡ without_handle m.table handle }
     ensures not_live { (contexts : List WasiSocketsCtx) (m : Machine) (line ctx handle : ℕ)
         (entries : List Entry) (reply : Reply) (after : Machine)
-        → IsDropped reply → Answered contexts m line (Step.Call ctx (GuestCall.Drop handle)) entries
+        → IsDropped reply → Answered contexts m line (Step.Call ctx (GuestCall.Pollable (PollableCall.Drop handle))) entries
         reply after
         → kind_at after.table handle ≡ None }
 {}

@@ -12,15 +12,15 @@ ghost use Rattle.wasi_world.specs.declared.outcome.WasiSocketsCtx.{WasiSocketsCt
 ghost use Rattle.wasi_world.specs.Asks.{Give, Left};
 ghost use Rattle.host_store.specs.declared.kind.Kind.{Kind};
 ghost use Rattle.host_store.specs.declared.machine.Machine.{Machine};
-ghost use Rattle.wasi_records.specs.declared.datagrams.Outgoing.{Outgoing};
-ghost use Rattle.wasi_records.specs.declared.datagrams.Sending.{Sending};
-ghost use Rattle.wasi_records.specs.declared.udp.OpenUdp.{OpenUdp};
+ghost use Rattle.udp_records.specs.declared.datagrams.Outgoing.{Outgoing};
+ghost use Rattle.udp_records.specs.declared.datagrams.Sending.{Sending};
+ghost use Rattle.udp_records.specs.declared.udp.OpenUdp.{OpenUdp};
 ghost use Rattle.host_store.specs.Kinds.{kind_at};
 ghost use Rattle.host_udp.specs.DatagramCalls.{outgoing_ready};
 ghost use Rattle.host_store.specs.Machine.{first_state, incoming_at, outgoing_at, own_of};
 ghost use Rattle.host_store.specs.Machine.{udp_socket_at};
-ghost use Rattle.wasi_records.specs.Datagrams.{is_sending};
-ghost use Rattle.wasi_records.specs.Names.{next_name};
+ghost use Rattle.udp_records.specs.Datagrams.{is_sending};
+ghost use Rattle.record_common.specs.Names.{next_name};
 ghost use Rattle.wasi_records.specs.Records.{open_at};
 ghost use Rattle.wasi_machine.specs.Machine.{first_ids, run};
 ghost use Rattle.wasi_steps.specs.declared.reply.CodeWord.{CodeWord};
@@ -29,6 +29,8 @@ ghost use Rattle.wasi_steps.specs.declared.reply.Reply.{Reply};
 ghost use Rattle.wasi_steps.specs.declared.reply.Reply.TheVariants as Reply;
 ghost use Rattle.wasi_steps.specs.declared.step.Step.{Step};
 ghost use Rattle.wasi_steps.specs.declared.guest_call.GuestCall.TheVariants as GuestCall;
+ghost use Rattle.wasi_steps.specs.declared.guest_call.UdpCall.TheVariants as UdpCall;
+ghost use Rattle.wasi_steps.specs.declared.guest_call.PollableCall.TheVariants as PollableCall;
 ghost use Rattle.wasi_steps.specs.declared.step.Step.TheVariants as Step;
 ghost use Rattle.wasi_steps.specs.Reply.{datagram_values, number_fields, pair_fields, truth_fields};
 ghost use Rattle.wasi_walks.specs.Answered.{Answered, open_udp_at, outgoing_in, word_of_code};
@@ -64,42 +66,42 @@ pub fn udp_streams_make_two_handles()
     ensures numbers { (contexts : List WasiSocketsCtx) (m : Machine) (line ctx handle : ℕ)
         (remote : Option IpSocketAddress) (fields : List Field) (entries : List Entry)
         (after : Machine)
-        → Answered contexts m line (Step.Call ctx (GuestCall.UdpStream handle remote)) entries
+        → Answered contexts m line (Step.Call ctx (GuestCall.Udp (UdpCall.Stream handle remote))) entries
         (Reply.Ok fields) after
         → fields ≡ pair_fields m.table.next (m.table.next + 1) }
     ensures made { (contexts : List WasiSocketsCtx) (m : Machine) (line ctx handle : ℕ)
         (remote : Option IpSocketAddress) (fields : List Field) (entries : List Entry)
         (after : Machine)
-        → Answered contexts m line (Step.Call ctx (GuestCall.UdpStream handle remote)) entries
+        → Answered contexts m line (Step.Call ctx (GuestCall.Udp (UdpCall.Stream handle remote))) entries
         (Reply.Ok fields) after
         → IsSomeAnd (udp_socket_at m handle) (λ place. after.table ≡ with_both m.table place handle) }
     ensures new { (contexts : List WasiSocketsCtx) (m : Machine) (line ctx handle : ℕ)
         (remote : Option IpSocketAddress) (fields : List Field) (entries : List Entry)
         (after : Machine)
-        → Answered contexts m line (Step.Call ctx (GuestCall.UdpStream handle remote)) entries
+        → Answered contexts m line (Step.Call ctx (GuestCall.Udp (UdpCall.Stream handle remote))) entries
         (Reply.Ok fields) after
         → OfUdp m handle (λ place o. HasNewStreams place after) }
     ensures asked { (contexts : List WasiSocketsCtx) (m : Machine) (line ctx handle : ℕ)
         (remote : Option IpSocketAddress) (fields : List Field) (entries : List Entry)
         (after : Machine)
-        → Answered contexts m line (Step.Call ctx (GuestCall.UdpStream handle remote)) entries
+        → Answered contexts m line (Step.Call ctx (GuestCall.Udp (UdpCall.Stream handle remote))) entries
         (Reply.Ok fields) after
         → OfUdp m handle (λ place o. MakesStreams m (own_of line) handle place o remote entries
         after) }
     ensures alive { (contexts : List WasiSocketsCtx) (m : Machine) (line ctx handle : ℕ)
         (remote : Option IpSocketAddress) (entries : List Entry) (reply : Reply) (after : Machine)
         → m.store.standing ≡ None
-        → Answered contexts m line (Step.Call ctx (GuestCall.UdpStream handle remote)) entries reply
+        → Answered contexts m line (Step.Call ctx (GuestCall.Udp (UdpCall.Stream handle remote))) entries reply
         after
         → (reply ≡ Reply.Trap TrapKind.StreamsAlive) ↔ HasUdpStreams (open_udp_at m handle) }
     ensures alive_stays { (contexts : List WasiSocketsCtx) (m : Machine) (line ctx handle : ℕ)
         (remote : Option IpSocketAddress) (entries : List Entry) (after : Machine)
-        → Answered contexts m line (Step.Call ctx (GuestCall.UdpStream handle remote)) entries
+        → Answered contexts m line (Step.Call ctx (GuestCall.Udp (UdpCall.Stream handle remote))) entries
         (Reply.Trap TrapKind.StreamsAlive) after
         → (entries ≡ []) × (after ≡ m) }
     ensures full { (contexts : List WasiSocketsCtx) (m : Machine) (line ctx handle : ℕ)
         (remote : Option IpSocketAddress) (entries : List Entry) (after : Machine)
-        → Answered contexts m line (Step.Call ctx (GuestCall.UdpStream handle remote)) entries
+        → Answered contexts m line (Step.Call ctx (GuestCall.Udp (UdpCall.Stream handle remote))) entries
         (Reply.Trap TrapKind.Full) after
         → IsSomeAnd (udp_socket_at m handle) (λ place. LacksRoomForBoth m.table place handle) }
 {}
@@ -115,7 +117,7 @@ pub fn new_streams_keep_the_remote_address()
     ensures kept { (contexts : List WasiSocketsCtx) (m : Machine) (line ctx handle : ℕ)
         (remote : Option IpSocketAddress) (fields : List Field) (entries : List Entry)
         (after : Machine)
-        → Answered contexts m line (Step.Call ctx (GuestCall.UdpStream handle remote)) entries
+        → Answered contexts m line (Step.Call ctx (GuestCall.Udp (UdpCall.Stream handle remote))) entries
         (Reply.Ok fields) after
         → OfUdp m handle (λ place o. NewStreamsKeep m (own_of line) handle place o remote entries
         after) }
@@ -135,7 +137,7 @@ pub fn new_streams_keep_the_remote_address()
 pub fn udp_stream_refusals()
     ensures cause { (contexts : List WasiSocketsCtx) (m : Machine) (line ctx handle : ℕ)
         (remote : Option IpSocketAddress) (entries : List Entry) (word : CodeWord) (after : Machine)
-        → Answered contexts m line (Step.Call ctx (GuestCall.UdpStream handle remote)) entries
+        → Answered contexts m line (Step.Call ctx (GuestCall.Udp (UdpCall.Stream handle remote))) entries
         (Reply.Err word) after
         → RefusedOfUdp m handle (λ place o. UdpStreamRefusal m (own_of line) place o remote) entries
         word after }
@@ -151,12 +153,12 @@ pub fn udp_stream_refusals()
 pub fn udp_streams_wait_for_their_connect()
     ensures waits { (contexts : List WasiSocketsCtx) (m : Machine) (line ctx handle : ℕ)
         (remote : Option IpSocketAddress) (entries : List Entry) (number : ℕ) (after : Machine)
-        → Answered contexts m line (Step.Call ctx (GuestCall.UdpStream handle remote)) entries
+        → Answered contexts m line (Step.Call ctx (GuestCall.Udp (UdpCall.Stream handle remote))) entries
         (Reply.Pending number) after
         → OfUdp m handle (λ place o. StreamsStand m line handle place o remote entries after) }
     ensures handles { (contexts : List WasiSocketsCtx) (m : Machine) (line ctx handle : ℕ)
         (remote : Option IpSocketAddress) (entries : List Entry) (number : ℕ) (after : Machine)
-        → Answered contexts m line (Step.Call ctx (GuestCall.UdpStream handle remote)) entries
+        → Answered contexts m line (Step.Call ctx (GuestCall.Udp (UdpCall.Stream handle remote))) entries
         (Reply.Pending number) after
         → after.table ≡ m.table }
     ensures live { (contexts : List WasiSocketsCtx) (steps : List Step) (log : List Entry)
@@ -174,18 +176,18 @@ pub fn udp_streams_wait_for_their_connect()
 pub fn send_permits_have_causes()
     ensures asks_nothing { (contexts : List WasiSocketsCtx) (m : Machine) (line ctx outgoing : ℕ)
         (entries : List Entry) (reply : Reply) (after : Machine)
-        → Answered contexts m line (Step.Call ctx (GuestCall.UdpCheckSend outgoing)) entries reply
+        → Answered contexts m line (Step.Call ctx (GuestCall.Udp (UdpCall.CheckSend outgoing))) entries reply
         after
         → entries ≡ [] }
     ensures permit { (contexts : List WasiSocketsCtx) (m : Machine) (line ctx outgoing : ℕ)
         (fields : List Field) (entries : List Entry) (after : Machine)
-        → Answered contexts m line (Step.Call ctx (GuestCall.UdpCheckSend outgoing)) entries
+        → Answered contexts m line (Step.Call ctx (GuestCall.Udp (UdpCall.CheckSend outgoing))) entries
         (Reply.Ok fields) after
         → OfOutgoing m (outgoing_at m outgoing) (λ place o out. PermitsSend m place o out fields
         after) }
     ensures never { (contexts : List WasiSocketsCtx) (m : Machine) (line ctx outgoing : ℕ)
         (entries : List Entry) (word : CodeWord) (after : Machine)
-        → Answered contexts m line (Step.Call ctx (GuestCall.UdpCheckSend outgoing)) entries
+        → Answered contexts m line (Step.Call ctx (GuestCall.Udp (UdpCall.CheckSend outgoing))) entries
         (Reply.Err word) after
         → ⊥ }
 {}
@@ -199,13 +201,13 @@ pub fn sends_past_the_permit_trap()
     ensures exactly { (contexts : List WasiSocketsCtx) (m : Machine) (line ctx outgoing : ℕ)
         (datagrams : List OutgoingDatagram) (entries : List Entry) (reply : Reply) (after : Machine)
         → m.store.standing ≡ None
-        → Answered contexts m line (Step.Call ctx (GuestCall.UdpSend outgoing datagrams)) entries
+        → Answered contexts m line (Step.Call ctx (GuestCall.Udp (UdpCall.Send outgoing datagrams))) entries
         reply after
         → (reply ≡ Reply.Trap TrapKind.NotPermitted)
         ↔ IsSomeAnd (outgoing_in m outgoing) (λ out. out.permit < length datagrams) }
     ensures stays { (contexts : List WasiSocketsCtx) (m : Machine) (line ctx outgoing : ℕ)
         (datagrams : List OutgoingDatagram) (entries : List Entry) (after : Machine)
-        → Answered contexts m line (Step.Call ctx (GuestCall.UdpSend outgoing datagrams)) entries
+        → Answered contexts m line (Step.Call ctx (GuestCall.Udp (UdpCall.Send outgoing datagrams))) entries
         (Reply.Trap TrapKind.NotPermitted) after
         → (entries ≡ []) × (after ≡ m) }
 {}
@@ -219,14 +221,14 @@ pub fn stream_drops_ask_nothing()
         (o : OpenUdp) (fields : List Field) (entries : List Entry) (after : Machine)
         → kind_at m.table handle ≡ Some (Kind.Incoming place)
         → open_at m.store.records place ≡ Some o
-        → Answered contexts m line (Step.Call ctx (GuestCall.Drop handle)) entries (Reply.Ok fields)
+        → Answered contexts m line (Step.Call ctx (GuestCall.Pollable (PollableCall.Drop handle))) entries (Reply.Ok fields)
         after
         → IncomingGone m handle place o entries after }
     ensures outgoing { (contexts : List WasiSocketsCtx) (m : Machine) (line ctx handle place : ℕ)
         (o : OpenUdp) (fields : List Field) (entries : List Entry) (after : Machine)
         → kind_at m.table handle ≡ Some (Kind.Outgoing place)
         → open_at m.store.records place ≡ Some o
-        → Answered contexts m line (Step.Call ctx (GuestCall.Drop handle)) entries (Reply.Ok fields)
+        → Answered contexts m line (Step.Call ctx (GuestCall.Pollable (PollableCall.Drop handle))) entries (Reply.Ok fields)
         after
         → OutgoingGone m handle place o entries after }
 {}
@@ -255,52 +257,52 @@ pub fn sends_have_causes()
     ensures count { (contexts : List WasiSocketsCtx) (m : Machine) (line ctx outgoing : ℕ)
         (datagrams : List OutgoingDatagram) (fields : List Field) (entries : List Entry)
         (after : Machine)
-        → Answered contexts m line (Step.Call ctx (GuestCall.UdpSend outgoing datagrams)) entries
+        → Answered contexts m line (Step.Call ctx (GuestCall.Udp (UdpCall.Send outgoing datagrams))) entries
         (Reply.Ok fields) after
         → SendsSome datagrams fields }
     ensures cause { (contexts : List WasiSocketsCtx) (m : Machine) (line ctx outgoing : ℕ)
         (datagrams : List OutgoingDatagram) (entries : List Entry) (word : CodeWord)
         (after : Machine)
-        → Answered contexts m line (Step.Call ctx (GuestCall.UdpSend outgoing datagrams)) entries
+        → Answered contexts m line (Step.Call ctx (GuestCall.Udp (UdpCall.Send outgoing datagrams))) entries
         (Reply.Err word) after
         → OfOutgoing m (outgoing_at m outgoing) (λ place o out. UdpSendRefusal m
         (next_name (first_ids line)) place datagrams o out entries word after) }
     ensures spends { (contexts : List WasiSocketsCtx) (m : Machine) (line ctx outgoing : ℕ)
         (datagrams : List OutgoingDatagram) (fields : List Field) (entries : List Entry)
         (after : Machine)
-        → 0 < length datagrams → Answered contexts m line (Step.Call ctx (GuestCall.UdpSend outgoing
-        datagrams)) entries (Reply.Ok fields) after
+        → 0 < length datagrams → Answered contexts m line (Step.Call ctx (GuestCall.Udp (UdpCall.Send outgoing
+        datagrams))) entries (Reply.Ok fields) after
         → IsSpent after outgoing }
     ensures spends_refused { (contexts : List WasiSocketsCtx) (m : Machine) (line ctx outgoing : ℕ)
         (datagrams : List OutgoingDatagram) (entries : List Entry) (word : CodeWord)
         (after : Machine)
-        → Answered contexts m line (Step.Call ctx (GuestCall.UdpSend outgoing datagrams)) entries
+        → Answered contexts m line (Step.Call ctx (GuestCall.Udp (UdpCall.Send outgoing datagrams))) entries
         (Reply.Err word) after
         → IsSpent after outgoing }
     ensures asked { (contexts : List WasiSocketsCtx) (m : Machine) (line ctx outgoing : ℕ)
         (datagrams : List OutgoingDatagram) (before rest : List Entry) (e : Entry) (reply : Reply)
         (after : Machine)
-        → Answered contexts m line (Step.Call ctx (GuestCall.UdpSend outgoing datagrams))
+        → Answered contexts m line (Step.Call ctx (GuestCall.Udp (UdpCall.Send outgoing datagrams)))
         (before ++ e ∷ rest) reply after
         → OfOutgoing m (outgoing_at m outgoing) (λ place o out. IsOfSend line o.inner datagrams
         before e.op e.call) }
     ensures sent { (contexts : List WasiSocketsCtx) (m : Machine) (line ctx outgoing : ℕ)
         (datagrams : List OutgoingDatagram) (fields : List Field) (entries : List Entry)
         (after : Machine)
-        → Answered contexts m line (Step.Call ctx (GuestCall.UdpSend outgoing datagrams)) entries
+        → Answered contexts m line (Step.Call ctx (GuestCall.Udp (UdpCall.Send outgoing datagrams))) entries
         (Reply.Ok fields) after
         → OfOutgoing m (outgoing_at m outgoing) (λ place o out. CountsSent line o.inner datagrams
         fields entries (datagram_of (open_at after.store.records place))) }
     ensures fewer { (contexts : List WasiSocketsCtx) (m : Machine) (line ctx outgoing : ℕ)
         (datagrams : List OutgoingDatagram) (fields : List Field) (entries : List Entry)
         (after : Machine)
-        → Answered contexts m line (Step.Call ctx (GuestCall.UdpSend outgoing datagrams)) entries
+        → Answered contexts m line (Step.Call ctx (GuestCall.Udp (UdpCall.Send outgoing datagrams))) entries
         (Reply.Ok fields) after
         → OfOutgoing m (outgoing_at m outgoing) (λ place o out. CountsUpTo line o.inner out.sending
         datagrams fields entries) }
     ensures none { (contexts : List WasiSocketsCtx) (m : Machine) (line ctx outgoing : ℕ)
         (datagrams : List OutgoingDatagram) (entries : List Entry) (after : Machine)
-        → Answered contexts m line (Step.Call ctx (GuestCall.UdpSend outgoing datagrams)) entries
+        → Answered contexts m line (Step.Call ctx (GuestCall.Udp (UdpCall.Send outgoing datagrams))) entries
         (Reply.Ok (number_fields 0)) after
         → (datagrams ≡ []) ⊎ OfOutgoing m (outgoing_at m outgoing)
         (λ place o out. (is_sending out.sending ≡ true) × (entries ≡ [])) }
@@ -324,13 +326,13 @@ pub fn sends_are_refused_by_their_line()
         → open_at m.store.records place ≡ Some o → o.outgoing ≡ Some out
         → out.sending ≡ Sending.Nothing → length (d ∷ more) ≤ out.permit
         → IsUnsendable o.inner.family o.inner.remote d c
-        → Answered contexts m line (Step.Call ctx (GuestCall.UdpSend outgoing (d ∷ more))) entries
+        → Answered contexts m line (Step.Call ctx (GuestCall.Udp (UdpCall.Send outgoing (d ∷ more)))) entries
         reply after
         → reply ≡ Reply.Err (word_of_code c) }
     ensures only { (contexts : List WasiSocketsCtx) (m : Machine) (line ctx outgoing : ℕ)
         (datagrams : List OutgoingDatagram) (entries : List Entry) (word : CodeWord)
         (after : Machine)
-        → Answered contexts m line (Step.Call ctx (GuestCall.UdpSend outgoing datagrams)) entries
+        → Answered contexts m line (Step.Call ctx (GuestCall.Udp (UdpCall.Send outgoing datagrams))) entries
         (Reply.Err word) after
         → OfOutgoing m (outgoing_at m outgoing) (λ place o out. RefusesSend o.inner.family
         o.inner.remote out.sending datagrams entries word) }
@@ -360,24 +362,24 @@ pub fn sends_are_refused_by_their_line()
 pub fn receives_have_causes()
     ensures datagrams { (contexts : List WasiSocketsCtx) (m : Machine) (line ctx incoming most : ℕ)
         (fields : List Field) (entries : List Entry) (after : Machine)
-        → Answered contexts m line (Step.Call ctx (GuestCall.UdpReceive incoming most)) entries
+        → Answered contexts m line (Step.Call ctx (GuestCall.Udp (UdpCall.Receive incoming most))) entries
         (Reply.Ok fields) after
         → ReceivesSome most fields }
     ensures cause { (contexts : List WasiSocketsCtx) (m : Machine) (line ctx incoming most : ℕ)
         (entries : List Entry) (word : CodeWord) (after : Machine)
-        → Answered contexts m line (Step.Call ctx (GuestCall.UdpReceive incoming most)) entries
+        → Answered contexts m line (Step.Call ctx (GuestCall.Udp (UdpCall.Receive incoming most))) entries
         (Reply.Err word) after
         → OfIncoming m (incoming_at m incoming) (λ place o inc. UdpReceiveRefusal m
         (next_name (first_ids line)) place o inc entries word after) }
     ensures asked { (contexts : List WasiSocketsCtx) (m : Machine) (line ctx incoming most : ℕ)
         (before rest : List Entry) (e : Entry) (reply : Reply) (after : Machine)
-        → Answered contexts m line (Step.Call ctx (GuestCall.UdpReceive incoming most))
+        → Answered contexts m line (Step.Call ctx (GuestCall.Udp (UdpCall.Receive incoming most)))
         (before ++ e ∷ rest) reply after
         → OfIncoming m (incoming_at m incoming) (λ place o inc. IsOfReceive line o.inner most before
         e.op e.call) }
     ensures came { (contexts : List WasiSocketsCtx) (m : Machine) (line ctx incoming most : ℕ)
         (fields : List Field) (entries : List Entry) (after : Machine)
-        → Answered contexts m line (Step.Call ctx (GuestCall.UdpReceive incoming most)) entries
+        → Answered contexts m line (Step.Call ctx (GuestCall.Udp (UdpCall.Receive incoming most))) entries
         (Reply.Ok fields) after
         → OfIncoming m (incoming_at m incoming) (λ place o inc. HandsOutWhatCame line o.inner inc
         fields entries) }
@@ -385,18 +387,18 @@ pub fn receives_have_causes()
         (replies : List Reply) (m : Machine) (line ctx incoming most : ℕ) (fields : List Field)
         (entries : List Entry) (after : Machine)
         → Left (run contexts [] first_state 1 steps) log (Give (replies, m))
-        → Answered contexts m line (Step.Call ctx (GuestCall.UdpReceive incoming most)) entries
+        → Answered contexts m line (Step.Call ctx (GuestCall.Udp (UdpCall.Receive incoming most))) entries
         (Reply.Ok fields) after
         → OfIncoming m (incoming_at m incoming) (λ place o inc. ReceivedFrom inc.remote fields) }
     ensures fewer { (contexts : List WasiSocketsCtx) (m : Machine) (line ctx incoming most : ℕ)
         (fields : List Field) (entries : List Entry) (after : Machine)
-        → Answered contexts m line (Step.Call ctx (GuestCall.UdpReceive incoming most)) entries
+        → Answered contexts m line (Step.Call ctx (GuestCall.Udp (UdpCall.Receive incoming most))) entries
         (Reply.Ok fields) after
         → OfIncoming m (incoming_at m incoming) (λ place o inc. HandsOutUpTo line o.inner most inc
         (receive_of (open_at after.store.records place)) fields entries) }
     ensures none { (contexts : List WasiSocketsCtx) (m : Machine) (line ctx incoming most : ℕ)
         (entries : List Entry) (after : Machine)
-        → Answered contexts m line (Step.Call ctx (GuestCall.UdpReceive incoming most)) entries
+        → Answered contexts m line (Step.Call ctx (GuestCall.Udp (UdpCall.Receive incoming most))) entries
         (Reply.Ok (datagram_values [])) after
         → (most ≡ 0) ⊎ OfIncoming m (incoming_at m incoming)
         (λ place o inc. GivesNone line inc (receive_of (open_at after.store.records place))
@@ -413,13 +415,13 @@ pub fn stream_pollables_have_causes()
     ensures outgoing { (contexts : List WasiSocketsCtx) (m : Machine) (line ctx pollable place : ℕ)
         (entries : List Entry) (reply : Reply) (after : Machine)
         → m.store.standing ≡ None → WatchesOutgoing m pollable place
-        → Answered contexts m line (Step.Call ctx (GuestCall.Ready pollable)) entries reply after
+        → Answered contexts m line (Step.Call ctx (GuestCall.Pollable (PollableCall.Ready pollable))) entries reply after
         → (reply ≡ Reply.Ok (truth_fields (outgoing_ready (open_at m.store.records place))))
         × (entries ≡ []) × (after ≡ m) }
     ensures incoming { (contexts : List WasiSocketsCtx) (m : Machine) (line ctx pollable place : ℕ)
         (entries : List Entry) (after : Machine)
         → WatchesIncoming m pollable place
-        → Answered contexts m line (Step.Call ctx (GuestCall.Ready pollable)) entries
+        → Answered contexts m line (Step.Call ctx (GuestCall.Pollable (PollableCall.Ready pollable))) entries
         (Reply.Ok (truth_fields false)) after
         → IsReceiving (open_at after.store.records place) }
 {}

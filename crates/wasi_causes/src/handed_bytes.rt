@@ -11,6 +11,7 @@ ghost use Rattle.host_store.specs.Machine.{first_state, own_of};
 ghost use Rattle.wasi_machine.specs.Machine.{run};
 ghost use Rattle.wasi_steps.specs.declared.reply.Reply.{Reply};
 ghost use Rattle.wasi_steps.specs.declared.guest_call.GuestCall.{GuestCall};
+ghost use Rattle.wasi_steps.specs.declared.guest_call.StreamCall.{StreamCall};
 ghost use Rattle.wasi_steps.specs.declared.step.Step.{Step};
 ghost use Rattle.wasi_steps.specs.Reply.{bytes_fields};
 ghost use Rattle.wasi_walks.specs.Answered.{Answered};
@@ -32,21 +33,21 @@ pub fn reads_hand_out_what_they_were_told()
         (replies : List Reply) (m : Machine) (line ctx input len b : ℕ) (bytes : List ℕ)
         (entries : List Entry) (after : Machine)
         → Left (run contexts [] first_state 1 steps) log (Give (replies, m))
-        → Answered contexts m line (Step.Call ctx (GuestCall.Read input len)) entries
+        → Answered contexts m line (Step.Call ctx (GuestCall.Stream (StreamCall.Read input len))) entries
         (Reply.Ok (bytes_fields (b ∷ bytes))) after
         → HandsOutBytes log (own_of line) input (b ∷ bytes) entries }
     ensures blocking_read { (contexts : List WasiSocketsCtx) (steps : List Step) (log : List Entry)
         (replies : List Reply) (m : Machine) (line ctx input len b : ℕ) (bytes : List ℕ)
         (entries : List Entry) (after : Machine)
         → Left (run contexts [] first_state 1 steps) log (Give (replies, m))
-        → Answered contexts m line (Step.Call ctx (GuestCall.BlockingRead input len)) entries
+        → Answered contexts m line (Step.Call ctx (GuestCall.Stream (StreamCall.BlockingRead input len))) entries
         (Reply.Ok (bytes_fields (b ∷ bytes))) after
         → HandsOutBytes log (own_of line) input (b ∷ bytes) entries }
     ensures polled { (contexts : List WasiSocketsCtx) (steps : List Step) (log : List Entry)
         (replies : List Reply) (m : Machine) (line n ctx input len b : ℕ) (bytes : List ℕ)
         (entries : List Entry) (after : Machine)
         → Left (run contexts [] first_state 1 steps) log (Give (replies, m))
-        → step_at steps n ≡ Some (Step.Call ctx (GuestCall.BlockingRead input len))
+        → step_at steps n ≡ Some (Step.Call ctx (GuestCall.Stream (StreamCall.BlockingRead input len)))
         → Answered contexts m line (Step.Poll n) entries (Reply.Ok (bytes_fields (b ∷ bytes)))
         after
         → HandsOutBytes log (own_of n) input (b ∷ bytes) entries }
@@ -63,13 +64,13 @@ pub fn reads_hand_out_all_they_were_told()
         (replies : List Reply) (m : Machine) (line ctx input len : ℕ) (side : OpId)
         (entries : List Entry) (reply : Reply) (after : Machine)
         → Left (run contexts [] first_state 1 steps) log (Give (replies, m))
-        → Answered contexts m line (Step.Call ctx (GuestCall.Read input len)) entries reply after
+        → Answered contexts m line (Step.Call ctx (GuestCall.Stream (StreamCall.Read input len))) entries reply after
         → IsSide log input side → told_in side entries ≡ handed_out reply }
     ensures others { (contexts : List WasiSocketsCtx) (steps : List Step) (log : List Entry)
         (replies : List Reply) (m : Machine) (line ctx input len : ℕ) (side : OpId)
         (entries : List Entry) (reply : Reply) (after : Machine)
         → Left (run contexts [] first_state 1 steps) log (Give (replies, m))
-        → Answered contexts m line (Step.Call ctx (GuestCall.Read input len)) entries reply after
+        → Answered contexts m line (Step.Call ctx (GuestCall.Stream (StreamCall.Read input len))) entries reply after
         → (IsSide log input side → ⊥) → told_in side entries ≡ [] }
 {}
 

@@ -9,7 +9,7 @@ ghost use Rattle.wasi_world.specs.declared.ids.Ids.{Ids};
 ghost use Rattle.wasi_world.specs.declared.outcome.WasiSocketsCtx.{WasiSocketsCtx};
 ghost use Rattle.wasi_world.specs.Asks.{Give, Left};
 ghost use Rattle.wasi_tcp.specs.declared.socket.TcpState.{TcpState};
-ghost use Rattle.wasi_records.specs.declared.socket.TcpRecord.{TcpRecord};
+ghost use Rattle.tcp_records.specs.declared.socket.TcpRecord.{TcpRecord};
 ghost use Rattle.wasi_records.specs.Records.{tcp2_at};
 ghost use Rattle.host_store.specs.declared.machine.Machine.{Machine};
 ghost use Rattle.host_store.specs.declared.store.StandingCall.{StandingCall};
@@ -22,6 +22,7 @@ ghost use Rattle.wasi_steps.specs.declared.reply.Reply.{Reply};
 ghost use Rattle.wasi_steps.specs.declared.reply.Reply.TheVariants as Reply;
 ghost use Rattle.wasi_steps.specs.declared.step.Step.{Step};
 ghost use Rattle.wasi_steps.specs.declared.guest_call.GuestCall.TheVariants as GuestCall;
+ghost use Rattle.wasi_steps.specs.declared.guest_call.TcpCall.TheVariants as TcpCall;
 ghost use Rattle.wasi_steps.specs.declared.step.Step.TheVariants as Step;
 ghost use Rattle.wasi_walks.specs.Answered.{Answered, HasOperationInProgress, KnowsBound, OfRecord};
 ghost use Rattle.wasi_walks.specs.Answered.{record_at};
@@ -44,23 +45,23 @@ ghost use Rattle.wasi_causes.specs.Reached.{ListensNoMore};
 pub fn finish_listen_refusals()
     ensures asks_nothing { (contexts : List WasiSocketsCtx) (m : Machine) (line ctx handle : ℕ)
         (entries : List Entry) (reply : Reply) (after : Machine)
-        → Answered contexts m line (Step.Call ctx (GuestCall.TcpFinishListen handle)) entries reply
+        → Answered contexts m line (Step.Call ctx (GuestCall.Tcp (TcpCall.FinishListen handle))) entries reply
         after
         → entries ≡ [] }
     ensures exactly { (contexts : List WasiSocketsCtx) (m : Machine) (line ctx handle : ℕ)
         (entries : List Entry) (reply : Reply) (after : Machine)
         → m.store.standing ≡ None
-        → Answered contexts m line (Step.Call ctx (GuestCall.TcpFinishListen handle)) entries reply
+        → Answered contexts m line (Step.Call ctx (GuestCall.Tcp (TcpCall.FinishListen handle))) entries reply
         after
         → (reply ≡ Reply.Err CodeWord.NotInProgress) ↔ HasNoListenInProgress (record_at m handle) }
     ensures no_other { (contexts : List WasiSocketsCtx) (m : Machine) (line ctx handle : ℕ)
         (entries : List Entry) (word : CodeWord) (after : Machine)
-        → Answered contexts m line (Step.Call ctx (GuestCall.TcpFinishListen handle)) entries
+        → Answered contexts m line (Step.Call ctx (GuestCall.Tcp (TcpCall.FinishListen handle))) entries
         (Reply.Err word) after
         → word ≡ CodeWord.NotInProgress }
     ensures stays { (contexts : List WasiSocketsCtx) (m : Machine) (line ctx handle : ℕ)
         (entries : List Entry) (word : CodeWord) (after : Machine)
-        → Answered contexts m line (Step.Call ctx (GuestCall.TcpFinishListen handle)) entries
+        → Answered contexts m line (Step.Call ctx (GuestCall.Tcp (TcpCall.FinishListen handle))) entries
         (Reply.Err word) after
         → after ≡ m }
 {}
@@ -82,19 +83,19 @@ pub fn start_listen_refusals()
     ensures exactly { (contexts : List WasiSocketsCtx) (m : Machine) (line ctx handle : ℕ)
         (entries : List Entry) (reply : Reply) (after : Machine)
         → m.store.standing ≡ None
-        → Answered contexts m line (Step.Call ctx (GuestCall.TcpStartListen handle)) entries reply
+        → Answered contexts m line (Step.Call ctx (GuestCall.Tcp (TcpCall.StartListen handle))) entries reply
         after
         → (reply ≡ Reply.Err CodeWord.ConcurrencyConflict)
         ↔ HasOperationInProgress (record_at m handle) }
     ensures cause { (contexts : List WasiSocketsCtx) (m : Machine) (line ctx handle : ℕ)
         (entries : List Entry) (word : CodeWord) (after : Machine)
         → ListensLateAt m handle
-        → Answered contexts m line (Step.Call ctx (GuestCall.TcpStartListen handle)) entries
+        → Answered contexts m line (Step.Call ctx (GuestCall.Tcp (TcpCall.StartListen handle))) entries
         (Reply.Err word) after
         → RefusedListen m (own_of line) handle entries word after }
     ensures stays { (contexts : List WasiSocketsCtx) (m : Machine) (line ctx handle : ℕ)
         (entries : List Entry) (word : CodeWord) (after : Machine)
-        → Answered contexts m line (Step.Call ctx (GuestCall.TcpStartListen handle)) entries
+        → Answered contexts m line (Step.Call ctx (GuestCall.Tcp (TcpCall.StartListen handle))) entries
         (Reply.Err word) after
         → (after ≡ m) ⊎ (KnowsBound m handle after ⊎ OfRecord m handle
         (λ place r. after ≡ closed_by_listen m place r)) }
@@ -102,7 +103,7 @@ pub fn start_listen_refusals()
         (replies : List Reply) (m : Machine) (line ctx handle : ℕ) (entries : List Entry)
         (word : CodeWord) (after : Machine)
         → Left (run contexts [] first_state 1 steps) log (Give (replies, m))
-        → Answered contexts m line (Step.Call ctx (GuestCall.TcpStartListen handle)) entries
+        → Answered contexts m line (Step.Call ctx (GuestCall.Tcp (TcpCall.StartListen handle))) entries
         (Reply.Err word) after
         → RefusedListen m (own_of line) handle entries word after }
 {}
@@ -147,7 +148,7 @@ pub fn listens_leave_a_closed_socket()
 pub fn accept_refusals()
     ensures { (contexts : List WasiSocketsCtx) (m : Machine) (line ctx handle : ℕ)
         (entries : List Entry) (word : CodeWord) (after : Machine)
-        → AcceptsAt m handle → Answered contexts m line (Step.Call ctx (GuestCall.TcpAccept handle))
+        → AcceptsAt m handle → Answered contexts m line (Step.Call ctx (GuestCall.Tcp (TcpCall.Accept handle)))
         entries (Reply.Err word) after
         → RefusedAccept m line handle entries word after }
 {}
@@ -164,12 +165,12 @@ pub fn accept_refusals()
 pub fn accepts_take_what_was_handed_over()
     ensures numbers { (contexts : List WasiSocketsCtx) (m : Machine) (line ctx handle : ℕ)
         (fields : List Field) (entries : List Entry) (after : Machine)
-        → Answered contexts m line (Step.Call ctx (GuestCall.TcpAccept handle)) entries
+        → Answered contexts m line (Step.Call ctx (GuestCall.Tcp (TcpCall.Accept handle))) entries
         (Reply.Ok fields) after
         → fields ≡ triple_fields m.table.next (m.table.next + 1) (m.table.next + 2) }
     ensures takes { (contexts : List WasiSocketsCtx) (m : Machine) (line ctx handle : ℕ)
         (fields : List Field) (entries : List Entry) (after : Machine)
-        → AcceptsAt m handle → Answered contexts m line (Step.Call ctx (GuestCall.TcpAccept handle))
+        → AcceptsAt m handle → Answered contexts m line (Step.Call ctx (GuestCall.Tcp (TcpCall.Accept handle)))
         entries (Reply.Ok fields) after
         → OfRecord m handle (λ place r. AcceptTakes m (own_of line) line handle place r entries
         after) }

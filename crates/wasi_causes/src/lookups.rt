@@ -12,12 +12,12 @@ ghost use Rattle.wasi_world.specs.declared.outcome.WasiSocketsCtx.{WasiSocketsCt
 ghost use Rattle.wasi_world.specs.Asks.{Give, Left};
 ghost use Rattle.host_store.specs.declared.kind.Kind.{Kind};
 ghost use Rattle.host_store.specs.declared.machine.Machine.{Machine};
-ghost use Rattle.wasi_records.specs.declared.name_lookup.Lookup.{Lookup};
-ghost use Rattle.wasi_records.specs.declared.name_lookup.Lookup.TheVariants as Lookup;
+ghost use Rattle.lookup_records.specs.declared.name_lookup.Lookup.{Lookup};
+ghost use Rattle.lookup_records.specs.declared.name_lookup.Lookup.TheVariants as Lookup;
 ghost use Rattle.host_store.specs.Kinds.{is_network, kind_at};
 ghost use Rattle.host_store.specs.Machine.{first_state, lookup_number, own_of};
 ghost use Rattle.host_tcp.specs.Creates.{with_room};
-ghost use Rattle.wasi_records.specs.NameLookup.{looks_on};
+ghost use Rattle.lookup_records.specs.NameLookup.{looks_on};
 ghost use Rattle.host_lookups.specs.NameLookupCalls.{lookup_ready};
 ghost use Rattle.wasi_records.specs.Records.{lookup_at};
 ghost use Rattle.wasi_machine.specs.Machine.{context_at, run};
@@ -28,6 +28,13 @@ ghost use Rattle.wasi_steps.specs.declared.reply.Reply.{Reply};
 ghost use Rattle.wasi_steps.specs.declared.reply.Reply.TheVariants as Reply;
 ghost use Rattle.wasi_steps.specs.declared.step.Step.{Step};
 ghost use Rattle.wasi_steps.specs.declared.guest_call.GuestCall.TheVariants as GuestCall;
+ghost use Rattle.wasi_steps.specs.declared.guest_call.TcpCall.TheVariants as TcpCall;
+ghost use Rattle.wasi_steps.specs.declared.guest_call.UdpCall.TheVariants as UdpCall;
+ghost use Rattle.wasi_steps.specs.declared.guest_call.NameCall.TheVariants as NameCall;
+ghost use Rattle.wasi_steps.specs.declared.guest_call.PollableCall.TheVariants as PollableCall;
+ghost use Rattle.wasi_steps.specs.declared.guest_call.P3TcpCall.TheVariants as P3TcpCall;
+ghost use Rattle.wasi_steps.specs.declared.guest_call.P3UdpCall.TheVariants as P3UdpCall;
+ghost use Rattle.wasi_steps.specs.declared.guest_call.P3NameCall.TheVariants as P3NameCall;
 ghost use Rattle.wasi_steps.specs.declared.step.Step.TheVariants as Step;
 ghost use Rattle.wasi_steps.specs.Reply.{found_values, truth_fields};
 ghost use Rattle.wasi_walks.specs.Answered.{Answered};
@@ -47,25 +54,25 @@ pub fn resolve_refusals()
     ensures forbidden { (contexts : List WasiSocketsCtx) (m : Machine) (line ctx network : ℕ)
         (name : List ℕ) (entries : List Entry) (reply : Reply) (after : Machine)
         → m.store.standing ≡ None → is_network (kind_at m.table network) ≡ true
-        → Answered contexts m line (Step.Call ctx (GuestCall.Resolve network name)) entries reply
+        → Answered contexts m line (Step.Call ctx (GuestCall.Names (NameCall.Resolve network name))) entries reply
         after
         → (reply ≡ Reply.Err CodeWord.PermanentResolverFailure)
         ↔ ((context_at contexts ctx).ip_name_lookup ≡ false) }
     ensures unnamed { (contexts : List WasiSocketsCtx) (m : Machine) (line ctx network : ℕ)
         (name : List ℕ) (entries : List Entry) (reply : Reply) (after : Machine)
         → m.store.standing ≡ None → is_network (kind_at m.table network) ≡ true
-        → Answered contexts m line (Step.Call ctx (GuestCall.Resolve network name)) entries reply
+        → Answered contexts m line (Step.Call ctx (GuestCall.Names (NameCall.Resolve network name))) entries reply
         after
         → (reply ≡ Reply.Err CodeWord.InvalidArgument)
         ↔ (((context_at contexts ctx).ip_name_lookup ≡ true) × (name_is name ≡ None)) }
     ensures cause { (contexts : List WasiSocketsCtx) (m : Machine) (line ctx network : ℕ)
         (name : List ℕ) (entries : List Entry) (word : CodeWord) (after : Machine)
-        → Answered contexts m line (Step.Call ctx (GuestCall.Resolve network name)) entries
+        → Answered contexts m line (Step.Call ctx (GuestCall.Names (NameCall.Resolve network name))) entries
         (Reply.Err word) after
         → ResolveRefusal (own_of line) (context_at contexts ctx) name entries word }
     ensures stays { (contexts : List WasiSocketsCtx) (m : Machine) (line ctx network : ℕ)
         (name : List ℕ) (entries : List Entry) (word : CodeWord) (after : Machine)
-        → Answered contexts m line (Step.Call ctx (GuestCall.Resolve network name)) entries
+        → Answered contexts m line (Step.Call ctx (GuestCall.Names (NameCall.Resolve network name))) entries
         (Reply.Err word) after
         → after ≡ m }
 {}
@@ -80,12 +87,12 @@ pub fn resolve_refusals()
 pub fn resolves_make_a_handle()
     ensures done { (contexts : List WasiSocketsCtx) (m : Machine) (line ctx network : ℕ)
         (name : List ℕ) (fields : List Field) (entries : List Entry) (after : Machine)
-        → Answered contexts m line (Step.Call ctx (GuestCall.Resolve network name)) entries
+        → Answered contexts m line (Step.Call ctx (GuestCall.Names (NameCall.Resolve network name))) entries
         (Reply.Ok fields) after
         → Resolves m (own_of line) (context_at contexts ctx) network name entries fields after }
     ensures full { (contexts : List WasiSocketsCtx) (m : Machine) (line ctx network : ℕ)
         (name : List ℕ) (entries : List Entry) (after : Machine)
-        → Answered contexts m line (Step.Call ctx (GuestCall.Resolve network name)) entries
+        → Answered contexts m line (Step.Call ctx (GuestCall.Names (NameCall.Resolve network name))) entries
         (Reply.Trap TrapKind.Full) after
         → LosesLookup m (own_of line) name entries after }
 {}
@@ -104,31 +111,31 @@ pub fn resolves_make_a_handle()
 pub fn addresses_are_handed_out_in_order()
     ensures asks_nothing { (contexts : List WasiSocketsCtx) (m : Machine) (line ctx handle : ℕ)
         (entries : List Entry) (reply : Reply) (after : Machine)
-        → Answered contexts m line (Step.Call ctx (GuestCall.ResolveNext handle)) entries reply
+        → Answered contexts m line (Step.Call ctx (GuestCall.Names (NameCall.ResolveNext handle))) entries reply
         after
         → entries ≡ [] }
     ensures in_progress { (contexts : List WasiSocketsCtx) (m : Machine) (line ctx handle : ℕ)
         (entries : List Entry) (reply : Reply) (after : Machine)
         → m.store.standing ≡ None
-        → Answered contexts m line (Step.Call ctx (GuestCall.ResolveNext handle)) entries reply
+        → Answered contexts m line (Step.Call ctx (GuestCall.Names (NameCall.ResolveNext handle))) entries reply
         after
         → (reply ≡ Reply.Err CodeWord.WouldBlock) ↔ (looks_on (found_lookup m handle) ≡ true) }
     ensures failed { (contexts : List WasiSocketsCtx) (m : Machine) (line ctx handle : ℕ)
         (entries : List Entry) (reply : Reply) (after : Machine)
         → m.store.standing ≡ None
-        → Answered contexts m line (Step.Call ctx (GuestCall.ResolveNext handle)) entries reply
+        → Answered contexts m line (Step.Call ctx (GuestCall.Names (NameCall.ResolveNext handle))) entries reply
         after
         → (reply ≡ Reply.Err CodeWord.NameUnresolvable)
         ↔ (found_lookup m handle ≡ Some Lookup.Failed) }
     ensures stays { (contexts : List WasiSocketsCtx) (m : Machine) (line ctx handle : ℕ)
         (entries : List Entry) (word : CodeWord) (after : Machine)
-        → Answered contexts m line (Step.Call ctx (GuestCall.ResolveNext handle)) entries
+        → Answered contexts m line (Step.Call ctx (GuestCall.Names (NameCall.ResolveNext handle))) entries
         (Reply.Err word) after
         → after ≡ m }
     ensures over { (contexts : List WasiSocketsCtx) (m : Machine) (line ctx handle : ℕ)
         (entries : List Entry) (reply : Reply) (after : Machine)
         → m.store.standing ≡ None
-        → Answered contexts m line (Step.Call ctx (GuestCall.ResolveNext handle)) entries reply
+        → Answered contexts m line (Step.Call ctx (GuestCall.Names (NameCall.ResolveNext handle))) entries reply
         after
         → (reply ≡ Reply.Ok (found_values None))
         ↔ (found_lookup m handle ≡ Some (Lookup.Found [])) }
@@ -136,13 +143,13 @@ pub fn addresses_are_handed_out_in_order()
         (a : IpAddress) (left : List IpAddress) (entries : List Entry) (reply : Reply)
         (after : Machine)
         → m.store.standing ≡ None → found_lookup m handle ≡ Some (Lookup.Found (a ∷ left))
-        → Answered contexts m line (Step.Call ctx (GuestCall.ResolveNext handle)) entries reply
+        → Answered contexts m line (Step.Call ctx (GuestCall.Names (NameCall.ResolveNext handle))) entries reply
         after
         → (reply ≡ Reply.Ok (found_values (Some a)))
         × (found_lookup after handle ≡ Some (Lookup.Found left)) }
     ensures handed { (contexts : List WasiSocketsCtx) (m : Machine) (line ctx handle : ℕ)
         (fields : List Field) (entries : List Entry) (after : Machine)
-        → Answered contexts m line (Step.Call ctx (GuestCall.ResolveNext handle)) entries
+        → Answered contexts m line (Step.Call ctx (GuestCall.Names (NameCall.ResolveNext handle))) entries
         (Reply.Ok fields) after
         → OfLookup m handle (λ place l. HandsOut m place l fields after) }
     ensures missing { (contexts : List WasiSocketsCtx) (steps : List Step) (log : List Entry)
@@ -161,14 +168,14 @@ pub fn lookups_are_watched_and_dropped()
     ensures watched { (contexts : List WasiSocketsCtx) (m : Machine) (line ctx pollable place : ℕ)
         (entries : List Entry) (reply : Reply) (after : Machine)
         → m.store.standing ≡ None → WatchesLookup m pollable place
-        → Answered contexts m line (Step.Call ctx (GuestCall.Ready pollable)) entries reply after
+        → Answered contexts m line (Step.Call ctx (GuestCall.Pollable (PollableCall.Ready pollable))) entries reply after
         → (reply ≡ Reply.Ok (truth_fields (lookup_ready (lookup_at m.store.records place))))
         × (entries ≡ []) × (after ≡ m) }
     ensures dropped { (contexts : List WasiSocketsCtx) (m : Machine) (line ctx handle place : ℕ)
         (l : Lookup) (fields : List Field) (entries : List Entry) (after : Machine)
         → kind_at m.table handle ≡ Some (Kind.Lookup place)
         → lookup_at m.store.records place ≡ Some l
-        → Answered contexts m line (Step.Call ctx (GuestCall.Drop handle)) entries (Reply.Ok fields)
+        → Answered contexts m line (Step.Call ctx (GuestCall.Pollable (PollableCall.Drop handle))) entries (Reply.Ok fields)
         after
         → LookupGone m handle place entries after }
 {}
@@ -183,33 +190,33 @@ pub fn what_is_forbidden_asks_nothing()
     ensures tcp { (contexts : List WasiSocketsCtx) (m : Machine) (line ctx : ℕ)
         (family : SocketAddressFamily) (entries : List Entry) (reply : Reply) (after : Machine)
         → (context_at contexts ctx).tcp ≡ false
-        → Answered contexts m line (Step.Call ctx (GuestCall.TcpCreate family)) entries reply after
+        → Answered contexts m line (Step.Call ctx (GuestCall.Tcp (TcpCall.Create family))) entries reply after
         → (entries ≡ []) × (((reply ≡ Reply.Busy) × (after ≡ m))
         ⊎ (after ≡ with_room m (context_at contexts ctx))) }
     ensures p3_tcp { (contexts : List WasiSocketsCtx) (m : Machine) (line ctx : ℕ)
         (family : SocketAddressFamily) (entries : List Entry) (reply : Reply) (after : Machine)
         → (context_at contexts ctx).tcp ≡ false
-        → Answered contexts m line (Step.Call ctx (GuestCall.P3TcpCreate family)) entries reply
+        → Answered contexts m line (Step.Call ctx (GuestCall.P3Tcp (P3TcpCall.Create family))) entries reply
         after → (entries ≡ []) × (after ≡ m) }
     ensures udp { (contexts : List WasiSocketsCtx) (m : Machine) (line ctx : ℕ)
         (family : SocketAddressFamily) (entries : List Entry) (reply : Reply) (after : Machine)
         → (context_at contexts ctx).udp ≡ false
-        → Answered contexts m line (Step.Call ctx (GuestCall.UdpCreate family)) entries reply after
+        → Answered contexts m line (Step.Call ctx (GuestCall.Udp (UdpCall.Create family))) entries reply after
         → (entries ≡ []) × (after ≡ m) }
     ensures p3_udp { (contexts : List WasiSocketsCtx) (m : Machine) (line ctx : ℕ)
         (family : SocketAddressFamily) (entries : List Entry) (reply : Reply) (after : Machine)
         → (context_at contexts ctx).udp ≡ false
-        → Answered contexts m line (Step.Call ctx (GuestCall.P3UdpCreate family)) entries reply
+        → Answered contexts m line (Step.Call ctx (GuestCall.P3Udp (P3UdpCall.Create family))) entries reply
         after → (entries ≡ []) × (after ≡ m) }
     ensures lookup { (contexts : List WasiSocketsCtx) (m : Machine) (line ctx network : ℕ)
         (name : List ℕ) (entries : List Entry) (reply : Reply) (after : Machine)
         → (context_at contexts ctx).ip_name_lookup ≡ false
-        → Answered contexts m line (Step.Call ctx (GuestCall.Resolve network name)) entries reply
+        → Answered contexts m line (Step.Call ctx (GuestCall.Names (NameCall.Resolve network name))) entries reply
         after
         → (entries ≡ []) × (after ≡ m) }
     ensures p3_lookup { (contexts : List WasiSocketsCtx) (m : Machine) (line ctx : ℕ)
         (name : List ℕ) (entries : List Entry) (reply : Reply) (after : Machine)
         → (context_at contexts ctx).ip_name_lookup ≡ false
-        → Answered contexts m line (Step.Call ctx (GuestCall.P3Resolve name)) entries reply after
+        → Answered contexts m line (Step.Call ctx (GuestCall.P3Names (P3NameCall.Resolve name))) entries reply after
         → (entries ≡ []) × (after ≡ m) }
 {}

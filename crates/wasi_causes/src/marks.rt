@@ -13,6 +13,8 @@ ghost use Rattle.host_store.specs.Machine.{first_state, own_of};
 ghost use Rattle.host_store.specs.Standing.{standing_as};
 ghost use Rattle.wasi_machine.specs.Machine.{run};
 ghost use Rattle.wasi_steps.specs.declared.guest_call.GuestCall.{GuestCall};
+ghost use Rattle.wasi_steps.specs.declared.guest_call.TcpCall.{TcpCall};
+ghost use Rattle.wasi_steps.specs.declared.guest_call.StreamCall.{StreamCall};
 ghost use Rattle.wasi_steps.specs.declared.reply.CodeWord.{CodeWord};
 ghost use Rattle.wasi_steps.specs.declared.reply.Field.{Field};
 ghost use Rattle.wasi_steps.specs.declared.reply.Reply.{Reply};
@@ -36,7 +38,7 @@ pub fn marks_have_handles_of_their_own()
         (replies : List Reply) (m : Machine) (line ctx listener : ℕ) (fields : List Field)
         (entries : List Entry) (after : Machine)
         → Left (run contexts [] first_state 1 steps) log (Give (replies, m))
-        → Answered contexts m line (Step.Call ctx (GuestCall.TcpAccept listener)) entries
+        → Answered contexts m line (Step.Call ctx (GuestCall.Tcp (TcpCall.Accept listener))) entries
         (Reply.Ok fields) after
         → MarksThree log (own_of line) listener fields entries }
 {}
@@ -53,14 +55,14 @@ pub fn failed_reads_are_of_their_stream()
         (replies : List Reply) (m : Machine) (line ctx stream len : ℕ) (entries : List Entry)
         (word : CodeWord) (handle : ℕ) (after : Machine)
         → Left (run contexts [] first_state 1 steps) log (Give (replies, m))
-        → Answered contexts m line (Step.Call ctx (GuestCall.Read stream len)) entries
+        → Answered contexts m line (Step.Call ctx (GuestCall.Stream (StreamCall.Read stream len))) entries
         (Reply.Failed word handle) after
         → FailsOnItsSide log (own_of line) stream word entries }
     ensures blocking_read { (contexts : List WasiSocketsCtx) (steps : List Step) (log : List Entry)
         (replies : List Reply) (m : Machine) (line ctx stream len : ℕ) (entries : List Entry)
         (word : CodeWord) (handle : ℕ) (after : Machine)
         → Left (run contexts [] first_state 1 steps) log (Give (replies, m))
-        → Answered contexts m line (Step.Call ctx (GuestCall.BlockingRead stream len)) entries
+        → Answered contexts m line (Step.Call ctx (GuestCall.Stream (StreamCall.BlockingRead stream len))) entries
         (Reply.Failed word handle) after
         → FailsAtLast log (own_of line) stream word entries }
     ensures polled { (contexts : List WasiSocketsCtx) (steps : List Step) (log : List Entry)
@@ -83,14 +85,14 @@ pub fn handles_that_are_given_are_marked()
     ensures created { (contexts : List WasiSocketsCtx) (m : Machine) (line ctx : ℕ)
         (family : SocketAddressFamily) (fields : List Field) (entries : List Entry)
         (after : Machine)
-        → Answered contexts m line (Step.Call ctx (GuestCall.TcpCreate family)) entries
+        → Answered contexts m line (Step.Call ctx (GuestCall.Tcp (TcpCall.Create family))) entries
         (Reply.Ok fields) after → GivesOne (own_of line) entries fields }
     ensures connected { (contexts : List WasiSocketsCtx) (m : Machine) (line ctx socket : ℕ)
         (fields : List Field) (entries : List Entry) (after : Machine)
-        → Answered contexts m line (Step.Call ctx (GuestCall.TcpFinishConnect socket)) entries
+        → Answered contexts m line (Step.Call ctx (GuestCall.Tcp (TcpCall.FinishConnect socket))) entries
         (Reply.Ok fields) after → GivesTwo (own_of line) entries fields }
     ensures accepted { (contexts : List WasiSocketsCtx) (m : Machine) (line ctx listener : ℕ)
         (fields : List Field) (entries : List Entry) (after : Machine)
-        → Answered contexts m line (Step.Call ctx (GuestCall.TcpAccept listener)) entries
+        → Answered contexts m line (Step.Call ctx (GuestCall.Tcp (TcpCall.Accept listener))) entries
         (Reply.Ok fields) after → GivesThree (own_of line) entries fields }
 {}

@@ -13,6 +13,7 @@ ghost use Rattle.wasi_steps.specs.declared.reply.Reply.{Reply};
 ghost use Rattle.wasi_steps.specs.declared.reply.Reply.TheVariants as Reply;
 ghost use Rattle.wasi_steps.specs.declared.setting.TcpSetting.{TcpSetting};
 ghost use Rattle.wasi_steps.specs.declared.guest_call.GuestCall.TheVariants as GuestCall;
+ghost use Rattle.wasi_steps.specs.declared.guest_call.TcpCall.TheVariants as TcpCall;
 ghost use Rattle.wasi_steps.specs.declared.step.Step.TheVariants as Step;
 ghost use Rattle.wasi_walks.specs.Answered.{Answered, OfRecord};
 ghost use Rattle.wasi_causes.specs.Options.{RefusedGet, RefusedSet, GetsOption, SetsChosen};
@@ -28,12 +29,12 @@ ghost use Rattle.wasi_steps.specs.Settings.{chosen};
 pub fn get_option_refusals()
     ensures cause { (contexts : List WasiSocketsCtx) (m : Machine) (line ctx handle : ℕ)
         (option : Opt) (entries : List Entry) (word : CodeWord) (after : Machine)
-        → Answered contexts m line (Step.Call ctx (GuestCall.TcpGet handle option)) entries
+        → Answered contexts m line (Step.Call ctx (GuestCall.Tcp (TcpCall.Get handle option))) entries
         (Reply.Err word) after
         → RefusedGet m (own_of line) handle option entries word after }
     ensures stays { (contexts : List WasiSocketsCtx) (m : Machine) (line ctx handle : ℕ)
         (option : Opt) (entries : List Entry) (reply : Reply) (after : Machine)
-        → Answered contexts m line (Step.Call ctx (GuestCall.TcpGet handle option)) entries reply
+        → Answered contexts m line (Step.Call ctx (GuestCall.Tcp (TcpCall.Get handle option))) entries reply
         after → after ≡ m }
 {}
 
@@ -50,12 +51,12 @@ pub fn get_option_refusals()
 pub fn set_option_refusals()
     ensures cause { (contexts : List WasiSocketsCtx) (m : Machine) (line ctx handle : ℕ)
         (setting : TcpSetting) (entries : List Entry) (word : CodeWord) (after : Machine)
-        → Answered contexts m line (Step.Call ctx (GuestCall.TcpSet handle setting)) entries
+        → Answered contexts m line (Step.Call ctx (GuestCall.Tcp (TcpCall.Set handle setting))) entries
         (Reply.Err word) after
         → RefusedSet m (own_of line) handle setting entries word after }
     ensures stays { (contexts : List WasiSocketsCtx) (m : Machine) (line ctx handle : ℕ)
         (setting : TcpSetting) (entries : List Entry) (word : CodeWord) (after : Machine)
-        → Answered contexts m line (Step.Call ctx (GuestCall.TcpSet handle setting)) entries
+        → Answered contexts m line (Step.Call ctx (GuestCall.Tcp (TcpCall.Set handle setting))) entries
         (Reply.Err word) after
         → after ≡ m }
 {}
@@ -74,17 +75,17 @@ pub fn set_option_refusals()
 pub fn options_are_read_and_set()
     ensures read { (contexts : List WasiSocketsCtx) (m : Machine) (line ctx handle : ℕ)
         (option : Opt) (fields : List Field) (entries : List Entry) (after : Machine)
-        → Answered contexts m line (Step.Call ctx (GuestCall.TcpGet handle option)) entries
+        → Answered contexts m line (Step.Call ctx (GuestCall.Tcp (TcpCall.Get handle option))) entries
         (Reply.Ok fields) after
         → OfRecord m handle (λ place r. GetsOption (own_of line) option r fields entries) }
     ensures nothing { (contexts : List WasiSocketsCtx) (m : Machine) (line ctx handle : ℕ)
         (setting : TcpSetting) (fields : List Field) (entries : List Entry) (after : Machine)
-        → Answered contexts m line (Step.Call ctx (GuestCall.TcpSet handle setting)) entries
+        → Answered contexts m line (Step.Call ctx (GuestCall.Tcp (TcpCall.Set handle setting))) entries
         (Reply.Ok fields) after
         → fields ≡ no_fields }
     ensures written { (contexts : List WasiSocketsCtx) (m : Machine) (line ctx handle : ℕ)
         (setting : TcpSetting) (fields : List Field) (entries : List Entry) (after : Machine)
-        → Answered contexts m line (Step.Call ctx (GuestCall.TcpSet handle setting)) entries
+        → Answered contexts m line (Step.Call ctx (GuestCall.Tcp (TcpCall.Set handle setting))) entries
         (Reply.Ok fields) after
         → OfRecord m handle (λ place r. SetsChosen m (own_of line) (chosen setting) place r entries
         after) }

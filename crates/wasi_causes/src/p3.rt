@@ -16,10 +16,12 @@ ghost use Rattle.host_store.specs.Kinds.{kind_at};
 ghost use Rattle.host_store.specs.Machine.{own_of};
 ghost use Rattle.host_store.specs.Store.{with_socket};
 ghost use Rattle.wasi_machine.specs.Machine.{context_at};
-ghost use Rattle.wasi_records.specs.declared.socket.TcpRecord.{TcpRecord};
-ghost use Rattle.wasi_records.specs.Holding.{is_held, without_socket};
+ghost use Rattle.tcp_records.specs.declared.socket.TcpRecord.{TcpRecord};
+ghost use Rattle.tcp_records.specs.Holding.{is_held, without_socket};
 ghost use Rattle.wasi_records.specs.Records.{tcp2_at};
 ghost use Rattle.wasi_steps.specs.declared.guest_call.GuestCall.{GuestCall};
+ghost use Rattle.wasi_steps.specs.declared.guest_call.PollableCall.{PollableCall};
+ghost use Rattle.wasi_steps.specs.declared.guest_call.P3TcpCall.{P3TcpCall};
 ghost use Rattle.wasi_steps.specs.declared.reply.CodeWord.{CodeWord};
 ghost use Rattle.wasi_steps.specs.declared.reply.Field.{Field};
 ghost use Rattle.wasi_steps.specs.declared.reply.Reply.{Reply};
@@ -45,16 +47,16 @@ ghost use Rattle.wasi_causes.specs.Refusals.{P3LocalRefusal, P3RemoteRefusal};
 pub fn p3_create_refusals()
     ensures cause { (contexts : List WasiSocketsCtx) (m : Machine) (line ctx : ℕ)
         (family : SocketAddressFamily) (entries : List Entry) (word : CodeWord) (after : Machine)
-        → Answered contexts m line (Step.Call ctx (GuestCall.P3TcpCreate family)) entries
+        → Answered contexts m line (Step.Call ctx (GuestCall.P3Tcp (P3TcpCall.Create family))) entries
         (Reply.Err word) after
         → P3CreateRefusal (own_of line) (context_at contexts ctx) family entries word }
     ensures stays { (contexts : List WasiSocketsCtx) (m : Machine) (line ctx : ℕ)
         (family : SocketAddressFamily) (entries : List Entry) (word : CodeWord) (after : Machine)
-        → Answered contexts m line (Step.Call ctx (GuestCall.P3TcpCreate family)) entries
+        → Answered contexts m line (Step.Call ctx (GuestCall.P3Tcp (P3TcpCall.Create family))) entries
         (Reply.Err word) after → after ≡ m }
     ensures full { (contexts : List WasiSocketsCtx) (m : Machine) (line ctx : ℕ)
         (family : SocketAddressFamily) (entries : List Entry) (after : Machine)
-        → Answered contexts m line (Step.Call ctx (GuestCall.P3TcpCreate family)) entries
+        → Answered contexts m line (Step.Call ctx (GuestCall.P3Tcp (P3TcpCall.Create family))) entries
         (Reply.Trap TrapKind.Full) after
         → LeavesSocket m line (context_at contexts ctx) family entries after }
 {}
@@ -71,22 +73,22 @@ pub fn p3_create_refusals()
 pub fn p3_address_refusals()
     ensures local { (contexts : List WasiSocketsCtx) (m : Machine) (line ctx handle : ℕ)
         (entries : List Entry) (word : CodeWord) (after : Machine)
-        → Answered contexts m line (Step.Call ctx (GuestCall.P3TcpLocalAddress handle)) entries
+        → Answered contexts m line (Step.Call ctx (GuestCall.P3Tcp (P3TcpCall.LocalAddress handle))) entries
         (Reply.Err word) after
         → P3LocalRefusal m (own_of line) handle entries word after }
     ensures local_stays { (contexts : List WasiSocketsCtx) (m : Machine) (line ctx handle : ℕ)
         (entries : List Entry) (word : CodeWord) (after : Machine)
-        → Answered contexts m line (Step.Call ctx (GuestCall.P3TcpLocalAddress handle)) entries
+        → Answered contexts m line (Step.Call ctx (GuestCall.P3Tcp (P3TcpCall.LocalAddress handle))) entries
         (Reply.Err word) after
         → (after ≡ m) ⊎ KnowsTcp3Bound m handle after }
     ensures remote { (contexts : List WasiSocketsCtx) (m : Machine) (line ctx handle : ℕ)
         (entries : List Entry) (word : CodeWord) (after : Machine)
-        → Answered contexts m line (Step.Call ctx (GuestCall.P3TcpRemoteAddress handle)) entries
+        → Answered contexts m line (Step.Call ctx (GuestCall.P3Tcp (P3TcpCall.RemoteAddress handle))) entries
         (Reply.Err word) after
         → P3RemoteRefusal m (own_of line) handle entries word }
     ensures remote_stays { (contexts : List WasiSocketsCtx) (m : Machine) (line ctx handle : ℕ)
         (entries : List Entry) (word : CodeWord) (after : Machine)
-        → Answered contexts m line (Step.Call ctx (GuestCall.P3TcpRemoteAddress handle)) entries
+        → Answered contexts m line (Step.Call ctx (GuestCall.P3Tcp (P3TcpCall.RemoteAddress handle))) entries
         (Reply.Err word) after → after ≡ m }
 {}
 
@@ -95,19 +97,19 @@ pub fn p3_address_refusals()
 pub fn p3_listening_and_family_are_never_refused()
     ensures listening { (contexts : List WasiSocketsCtx) (m : Machine) (line ctx handle : ℕ)
         (entries : List Entry) (word : CodeWord) (after : Machine)
-        → Answered contexts m line (Step.Call ctx (GuestCall.P3TcpIsListening handle)) entries
+        → Answered contexts m line (Step.Call ctx (GuestCall.P3Tcp (P3TcpCall.IsListening handle))) entries
         (Reply.Err word) after → ⊥ }
     ensures listening_is_quiet { (contexts : List WasiSocketsCtx) (m : Machine)
         (line ctx handle : ℕ) (entries : List Entry) (reply : Reply) (after : Machine)
-        → Answered contexts m line (Step.Call ctx (GuestCall.P3TcpIsListening handle)) entries
+        → Answered contexts m line (Step.Call ctx (GuestCall.P3Tcp (P3TcpCall.IsListening handle))) entries
         reply after → (entries ≡ []) × (after ≡ m) }
     ensures family { (contexts : List WasiSocketsCtx) (m : Machine) (line ctx handle : ℕ)
         (entries : List Entry) (word : CodeWord) (after : Machine)
-        → Answered contexts m line (Step.Call ctx (GuestCall.P3TcpAddressFamily handle)) entries
+        → Answered contexts m line (Step.Call ctx (GuestCall.P3Tcp (P3TcpCall.AddressFamily handle))) entries
         (Reply.Err word) after → ⊥ }
     ensures family_is_quiet { (contexts : List WasiSocketsCtx) (m : Machine) (line ctx handle : ℕ)
         (entries : List Entry) (reply : Reply) (after : Machine)
-        → Answered contexts m line (Step.Call ctx (GuestCall.P3TcpAddressFamily handle)) entries
+        → Answered contexts m line (Step.Call ctx (GuestCall.P3Tcp (P3TcpCall.AddressFamily handle))) entries
         reply after → (entries ≡ []) × (after ≡ m) }
 {}
 
@@ -121,16 +123,16 @@ pub fn p3_listening_and_family_are_never_refused()
 pub fn p3_option_refusals()
     ensures get { (contexts : List WasiSocketsCtx) (m : Machine) (line ctx handle : ℕ)
         (option : Opt) (entries : List Entry) (word : CodeWord) (after : Machine)
-        → Answered contexts m line (Step.Call ctx (GuestCall.P3TcpGet handle option)) entries
+        → Answered contexts m line (Step.Call ctx (GuestCall.P3Tcp (P3TcpCall.Get handle option))) entries
         (Reply.Err word) after
         → P3RefusedGet m (own_of line) handle option entries word after }
     ensures get_stays { (contexts : List WasiSocketsCtx) (m : Machine) (line ctx handle : ℕ)
         (option : Opt) (entries : List Entry) (reply : Reply) (after : Machine)
-        → Answered contexts m line (Step.Call ctx (GuestCall.P3TcpGet handle option)) entries reply
+        → Answered contexts m line (Step.Call ctx (GuestCall.P3Tcp (P3TcpCall.Get handle option))) entries reply
         after → after ≡ m }
     ensures set { (contexts : List WasiSocketsCtx) (m : Machine) (line ctx handle : ℕ)
         (setting : TcpSetting) (entries : List Entry) (word : CodeWord) (after : Machine)
-        → Answered contexts m line (Step.Call ctx (GuestCall.P3TcpSet handle setting)) entries
+        → Answered contexts m line (Step.Call ctx (GuestCall.P3Tcp (P3TcpCall.Set handle setting))) entries
         (Reply.Err word) after
         → P3RefusedSet m (own_of line) handle setting entries word after }
 {}
@@ -146,16 +148,16 @@ pub fn p3_option_refusals()
 pub fn p3_options_are_read_and_set()
     ensures read { (contexts : List WasiSocketsCtx) (m : Machine) (line ctx handle : ℕ)
         (option : Opt) (fields : List Field) (entries : List Entry) (after : Machine)
-        → Answered contexts m line (Step.Call ctx (GuestCall.P3TcpGet handle option)) entries
+        → Answered contexts m line (Step.Call ctx (GuestCall.P3Tcp (P3TcpCall.Get handle option))) entries
         (Reply.Ok fields) after
         → OfTcp3 m handle (λ place r. GetsOption (own_of line) option r fields entries) }
     ensures nothing { (contexts : List WasiSocketsCtx) (m : Machine) (line ctx handle : ℕ)
         (setting : TcpSetting) (fields : List Field) (entries : List Entry) (after : Machine)
-        → Answered contexts m line (Step.Call ctx (GuestCall.P3TcpSet handle setting)) entries
+        → Answered contexts m line (Step.Call ctx (GuestCall.P3Tcp (P3TcpCall.Set handle setting))) entries
         (Reply.Ok fields) after → fields ≡ no_fields }
     ensures written { (contexts : List WasiSocketsCtx) (m : Machine) (line ctx handle : ℕ)
         (setting : TcpSetting) (fields : List Field) (entries : List Entry) (after : Machine)
-        → Answered contexts m line (Step.Call ctx (GuestCall.P3TcpSet handle setting)) entries
+        → Answered contexts m line (Step.Call ctx (GuestCall.P3Tcp (P3TcpCall.Set handle setting))) entries
         (Reply.Ok fields) after
         → OfTcp3 m handle (λ place r. SetsChosen m (own_of line) (chosen setting) place r entries
         after) }
@@ -175,25 +177,25 @@ pub fn p3_drops_give_up_what_is_open()
         (entries : List Entry) (reply : Reply) (after : Machine)
         → m.store.standing ≡ None → kind_at m.table handle ≡ Some (Kind.Tcp3 place)
         → children_of m.table.live handle ≡ []
-        → Answered contexts m line (Step.Call ctx (GuestCall.Drop handle)) entries reply after
+        → Answered contexts m line (Step.Call ctx (GuestCall.Pollable (PollableCall.Drop handle))) entries reply after
         → reply ≡ Reply.Ok no_fields }
     ensures given_up { (contexts : List WasiSocketsCtx) (m : Machine) (line ctx handle place : ℕ)
         (r : TcpRecord) (fields : List Field) (entries : List Entry) (after : Machine)
         → kind_at m.table handle ≡ Some (Kind.Tcp3 place)
         → tcp2_at m.store.records place ≡ Some r → is_held (without_socket r) ≡ false
-        → Answered contexts m line (Step.Call ctx (GuestCall.Drop handle)) entries
+        → Answered contexts m line (Step.Call ctx (GuestCall.Pollable (PollableCall.Drop handle))) entries
         (Reply.Ok fields) after → entries ≡ socket_given_up (own_of line) r }
     ensures gone { (contexts : List WasiSocketsCtx) (m : Machine) (line ctx handle place : ℕ)
         (r : TcpRecord) (fields : List Field) (entries : List Entry) (after : Machine)
         → kind_at m.table handle ≡ Some (Kind.Tcp3 place)
         → tcp2_at m.store.records place ≡ Some r → is_held (without_socket r) ≡ false
-        → Answered contexts m line (Step.Call ctx (GuestCall.Drop handle)) entries
+        → Answered contexts m line (Step.Call ctx (GuestCall.Pollable (PollableCall.Drop handle))) entries
         (Reply.Ok fields) after → IsGone m handle place after }
     ensures kept { (contexts : List WasiSocketsCtx) (m : Machine) (line ctx handle place : ℕ)
         (r : TcpRecord) (fields : List Field) (entries : List Entry) (after : Machine)
         → kind_at m.table handle ≡ Some (Kind.Tcp3 place)
         → tcp2_at m.store.records place ≡ Some r → is_held (without_socket r) ≡ true
-        → Answered contexts m line (Step.Call ctx (GuestCall.Drop handle)) entries
+        → Answered contexts m line (Step.Call ctx (GuestCall.Pollable (PollableCall.Drop handle))) entries
         (Reply.Ok fields) after → (entries ≡ []) × (after ≡ record (without m handle)
         { store = with_socket m.store place (without_socket r) }) }
 {}

@@ -8,6 +8,8 @@ ghost use Rattle.wasi_world.specs.declared.outcome.WasiSocketsCtx.{WasiSocketsCt
 ghost use Rattle.host_store.specs.declared.machine.Machine.{Machine};
 ghost use Rattle.host_store.specs.Machine.{own_of};
 ghost use Rattle.wasi_steps.specs.declared.guest_call.GuestCall.{GuestCall};
+ghost use Rattle.wasi_steps.specs.declared.guest_call.P3TcpCall.{P3TcpCall};
+ghost use Rattle.wasi_steps.specs.declared.guest_call.P3UdpCall.{P3UdpCall};
 ghost use Rattle.wasi_steps.specs.declared.reply.CodeWord.{CodeWord};
 ghost use Rattle.wasi_steps.specs.declared.reply.Field.{Field};
 ghost use Rattle.wasi_steps.specs.declared.reply.Reply.{Reply};
@@ -31,17 +33,17 @@ ghost use Rattle.wasi_causes.specs.Refusals.{OfTcp3};
 pub fn p3_binds()
     ensures refused { (contexts : List WasiSocketsCtx) (m : Machine) (line ctx handle : ℕ)
         (a : IpSocketAddress) (entries : List Entry) (word : CodeWord) (after : Machine)
-        → Answered contexts m line (Step.Call ctx (GuestCall.P3TcpBind handle a)) entries
+        → Answered contexts m line (Step.Call ctx (GuestCall.P3Tcp (P3TcpCall.Bind handle a))) entries
         (Reply.Err word) after
         → P3BindRefusal m (own_of line) handle a entries word after }
     ensures done { (contexts : List WasiSocketsCtx) (m : Machine) (line ctx handle : ℕ)
         (a : IpSocketAddress) (entries : List Entry) (fields : List Field) (after : Machine)
-        → Answered contexts m line (Step.Call ctx (GuestCall.P3TcpBind handle a)) entries
+        → Answered contexts m line (Step.Call ctx (GuestCall.P3Tcp (P3TcpCall.Bind handle a))) entries
         (Reply.Ok fields) after
         → OfTcp3 m handle (λ place r. Binds m (own_of line) place r a entries after) }
     ensures pending { (contexts : List WasiSocketsCtx) (m : Machine) (line ctx handle : ℕ)
         (a : IpSocketAddress) (entries : List Entry) (number : ℕ) (after : Machine)
-        → Answered contexts m line (Step.Call ctx (GuestCall.P3TcpBind handle a)) entries
+        → Answered contexts m line (Step.Call ctx (GuestCall.P3Tcp (P3TcpCall.Bind handle a))) entries
         (Reply.Pending number) after
         → OfTcp3 m handle (λ place r. BindStands m line place r a entries after) }
 {}
@@ -58,17 +60,17 @@ pub fn p3_binds()
 pub fn p3_udp_binds()
     ensures refused { (contexts : List WasiSocketsCtx) (m : Machine) (line ctx handle : ℕ)
         (a : IpSocketAddress) (entries : List Entry) (word : CodeWord) (after : Machine)
-        → Answered contexts m line (Step.Call ctx (GuestCall.P3UdpBind handle a)) entries
+        → Answered contexts m line (Step.Call ctx (GuestCall.P3Udp (P3UdpCall.Bind handle a))) entries
         (Reply.Err word) after
         → P3UdpBindRefusal m (own_of line) handle a entries word after }
     ensures done { (contexts : List WasiSocketsCtx) (m : Machine) (line ctx handle : ℕ)
         (a : IpSocketAddress) (entries : List Entry) (fields : List Field) (after : Machine)
-        → Answered contexts m line (Step.Call ctx (GuestCall.P3UdpBind handle a)) entries
+        → Answered contexts m line (Step.Call ctx (GuestCall.P3Udp (P3UdpCall.Bind handle a))) entries
         (Reply.Ok fields) after
         → OfUdp3 m handle (λ place o. BindsUdp m (own_of line) place o a entries after) }
     ensures pending { (contexts : List WasiSocketsCtx) (m : Machine) (line ctx handle : ℕ)
         (a : IpSocketAddress) (entries : List Entry) (number : ℕ) (after : Machine)
-        → Answered contexts m line (Step.Call ctx (GuestCall.P3UdpBind handle a)) entries
+        → Answered contexts m line (Step.Call ctx (GuestCall.P3Udp (P3UdpCall.Bind handle a))) entries
         (Reply.Pending number) after
         → OfUdp3 m handle (λ place o. UdpBindStands m line place o a entries after) }
 {}

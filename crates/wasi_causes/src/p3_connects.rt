@@ -6,13 +6,14 @@ ghost use Rattle.std.specs.Prelude.{Some, None};
 ghost use Rattle.wasi_addr.specs.declared.address.IpSocketAddress.{IpSocketAddress};
 ghost use Rattle.wasi_world.specs.declared.call.Entry.{Entry};
 ghost use Rattle.wasi_world.specs.declared.outcome.WasiSocketsCtx.{WasiSocketsCtx};
-ghost use Rattle.wasi_records.specs.declared.socket.TcpRecord.{TcpRecord};
+ghost use Rattle.tcp_records.specs.declared.socket.TcpRecord.{TcpRecord};
 ghost use Rattle.wasi_records.specs.Records.{tcp2_at};
 ghost use Rattle.host_store.specs.declared.beside.BesideCall.{BesideCall};
 ghost use Rattle.host_store.specs.declared.machine.Machine.{Machine};
 ghost use Rattle.host_store.specs.Beside.{beside_as, beside_of};
 ghost use Rattle.host_store.specs.Machine.{own_of};
 ghost use Rattle.wasi_steps.specs.declared.guest_call.GuestCall.{GuestCall};
+ghost use Rattle.wasi_steps.specs.declared.guest_call.P3TcpCall.{P3TcpCall};
 ghost use Rattle.wasi_steps.specs.declared.reply.CodeWord.{CodeWord};
 ghost use Rattle.wasi_steps.specs.declared.reply.Field.{Field};
 ghost use Rattle.wasi_steps.specs.declared.reply.Reply.{Reply};
@@ -34,17 +35,17 @@ ghost use Rattle.wasi_causes.specs.Refusals.{OfTcp3};
 pub fn p3_connects()
     ensures refused { (contexts : List WasiSocketsCtx) (m : Machine) (line ctx handle : ℕ)
         (a : IpSocketAddress) (entries : List Entry) (word : CodeWord) (after : Machine)
-        → Answered contexts m line (Step.Call ctx (GuestCall.P3TcpConnect handle a)) entries
+        → Answered contexts m line (Step.Call ctx (GuestCall.P3Tcp (P3TcpCall.Connect handle a))) entries
         (Reply.Err word) after
         → P3ConnectRefusal m (own_of line) handle a entries word after }
     ensures done { (contexts : List WasiSocketsCtx) (m : Machine) (line ctx handle : ℕ)
         (a : IpSocketAddress) (entries : List Entry) (fields : List Field) (after : Machine)
-        → Answered contexts m line (Step.Call ctx (GuestCall.P3TcpConnect handle a)) entries
+        → Answered contexts m line (Step.Call ctx (GuestCall.P3Tcp (P3TcpCall.Connect handle a))) entries
         (Reply.Ok fields) after
         → OfTcp3 m handle (λ place r. Connects m (own_of line) place r a entries after) }
     ensures pending { (contexts : List WasiSocketsCtx) (m : Machine) (line ctx handle : ℕ)
         (a : IpSocketAddress) (entries : List Entry) (number : ℕ) (after : Machine)
-        → Answered contexts m line (Step.Call ctx (GuestCall.P3TcpConnect handle a)) entries
+        → Answered contexts m line (Step.Call ctx (GuestCall.P3Tcp (P3TcpCall.Connect handle a))) entries
         (Reply.Pending number) after
         → OfTcp3 m handle (λ place r. ConnectStands m line place r a entries after) }
 {}

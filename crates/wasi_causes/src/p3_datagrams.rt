@@ -10,13 +10,14 @@ ghost use Rattle.wasi_world.specs.Asks.{Give, Left};
 ghost use Rattle.wasi_world.specs.Operation as item;
 ghost use Rattle.wasi_world.specs.Operation.{Operation, is_now};
 ghost use Rattle.wasi_records.specs.Records.{open_at};
-ghost use Rattle.wasi_records.specs.declared.udp.OpenUdp.{OpenUdp};
+ghost use Rattle.udp_records.specs.declared.udp.OpenUdp.{OpenUdp};
 ghost use Rattle.host_store.specs.declared.beside.BesideCall.{BesideCall};
 ghost use Rattle.host_store.specs.declared.machine.Machine.{Machine};
 ghost use Rattle.host_store.specs.Beside.{beside_as, beside_of};
 ghost use Rattle.host_store.specs.Machine.{first_state, own_of};
 ghost use Rattle.wasi_machine.specs.Machine.{run};
 ghost use Rattle.wasi_steps.specs.declared.guest_call.GuestCall.{GuestCall};
+ghost use Rattle.wasi_steps.specs.declared.guest_call.P3UdpCall.{P3UdpCall};
 ghost use Rattle.wasi_steps.specs.declared.reply.CodeWord.{CodeWord};
 ghost use Rattle.wasi_steps.specs.declared.reply.Field.{Field};
 ghost use Rattle.wasi_steps.specs.declared.reply.Reply.{Reply};
@@ -44,17 +45,17 @@ ghost use Rattle.wasi_causes.specs.P3Udp.{OfUdp3};
 pub fn p3_udp_sends()
     ensures refused { (contexts : List WasiSocketsCtx) (m : Machine) (line ctx handle : ℕ)
         (d : OutgoingDatagram) (entries : List Entry) (word : CodeWord) (after : Machine)
-        → Answered contexts m line (Step.Call ctx (GuestCall.P3UdpSend handle d)) entries
+        → Answered contexts m line (Step.Call ctx (GuestCall.P3Udp (P3UdpCall.Send handle d))) entries
         (Reply.Err word) after
         → P3SendRefusal m (own_of line) handle d entries word after }
     ensures done { (contexts : List WasiSocketsCtx) (m : Machine) (line ctx handle : ℕ)
         (d : OutgoingDatagram) (entries : List Entry) (fields : List Field) (after : Machine)
-        → Answered contexts m line (Step.Call ctx (GuestCall.P3UdpSend handle d)) entries
+        → Answered contexts m line (Step.Call ctx (GuestCall.P3Udp (P3UdpCall.Send handle d))) entries
         (Reply.Ok fields) after
         → OfUdp3 m handle (λ place o. SendsOne m (own_of line) place o d entries after) }
     ensures pending { (contexts : List WasiSocketsCtx) (m : Machine) (line ctx handle : ℕ)
         (d : OutgoingDatagram) (entries : List Entry) (number : ℕ) (after : Machine)
-        → Answered contexts m line (Step.Call ctx (GuestCall.P3UdpSend handle d)) entries
+        → Answered contexts m line (Step.Call ctx (GuestCall.P3Udp (P3UdpCall.Send handle d))) entries
         (Reply.Pending number) after
         → OfUdp3 m handle (λ place o. SendStands m line place o d entries after) }
 {}
@@ -109,17 +110,17 @@ pub fn polls_of_sends()
 pub fn p3_udp_receives()
     ensures refused { (contexts : List WasiSocketsCtx) (m : Machine) (line ctx handle : ℕ)
         (entries : List Entry) (word : CodeWord) (after : Machine)
-        → Answered contexts m line (Step.Call ctx (GuestCall.P3UdpReceive handle)) entries
+        → Answered contexts m line (Step.Call ctx (GuestCall.P3Udp (P3UdpCall.Receive handle))) entries
         (Reply.Err word) after
         → P3ReceiveRefusal m (own_of line) handle entries word after }
     ensures done { (contexts : List WasiSocketsCtx) (m : Machine) (line ctx handle : ℕ)
         (entries : List Entry) (fields : List Field) (after : Machine)
-        → Answered contexts m line (Step.Call ctx (GuestCall.P3UdpReceive handle)) entries
+        → Answered contexts m line (Step.Call ctx (GuestCall.P3Udp (P3UdpCall.Receive handle))) entries
         (Reply.Ok fields) after
         → OfUdp3 m handle (λ place o. ReceivesOne m (own_of line) place o entries fields after) }
     ensures pending { (contexts : List WasiSocketsCtx) (m : Machine) (line ctx handle : ℕ)
         (entries : List Entry) (number : ℕ) (after : Machine)
-        → Answered contexts m line (Step.Call ctx (GuestCall.P3UdpReceive handle)) entries
+        → Answered contexts m line (Step.Call ctx (GuestCall.P3Udp (P3UdpCall.Receive handle))) entries
         (Reply.Pending number) after
         → OfUdp3 m handle (λ place o. ReceiveStands m line place o entries after) }
 {}

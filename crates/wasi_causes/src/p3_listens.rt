@@ -10,10 +10,10 @@ ghost use Rattle.wasi_world.specs.declared.outcome.WasiSocketsCtx.{WasiSocketsCt
 ghost use Rattle.wasi_world.specs.Asks.{Give, Left};
 ghost use Rattle.wasi_world.specs.Operation.{Operation};
 ghost use Rattle.wasi_table.specs.Table.{children_of};
-ghost use Rattle.wasi_records.specs.declared.socket.TcpRecord.{TcpRecord};
-ghost use Rattle.wasi_records.specs.declared.tcp_listening.Listening.{Listening};
-ghost use Rattle.wasi_records.specs.Holding.{is_held};
-ghost use Rattle.wasi_records.specs.Listening.{with_listening};
+ghost use Rattle.tcp_records.specs.declared.socket.TcpRecord.{TcpRecord};
+ghost use Rattle.tcp_records.specs.declared.tcp_listening.Listening.{Listening};
+ghost use Rattle.tcp_records.specs.Holding.{is_held};
+ghost use Rattle.tcp_records.specs.Listening.{with_listening};
 ghost use Rattle.wasi_records.specs.Records.{tcp2_at};
 ghost use Rattle.host_store.specs.declared.kind.Kind.{Kind};
 ghost use Rattle.host_store.specs.declared.machine.Machine.{Machine};
@@ -24,6 +24,8 @@ ghost use Rattle.host_store.specs.Standing.{standing_as};
 ghost use Rattle.host_store.specs.Store.{with_socket};
 ghost use Rattle.wasi_machine.specs.Machine.{run};
 ghost use Rattle.wasi_steps.specs.declared.guest_call.GuestCall.{GuestCall};
+ghost use Rattle.wasi_steps.specs.declared.guest_call.PollableCall.{PollableCall};
+ghost use Rattle.wasi_steps.specs.declared.guest_call.P3TcpCall.{P3TcpCall};
 ghost use Rattle.wasi_steps.specs.declared.reply.CodeWord.{CodeWord};
 ghost use Rattle.wasi_steps.specs.declared.reply.Field.{Field};
 ghost use Rattle.wasi_steps.specs.declared.reply.Reply.{Reply};
@@ -56,22 +58,22 @@ ghost use Rattle.wasi_causes.specs.Refusals.{OfTcp3};
 pub fn p3_listens()
     ensures refused { (contexts : List WasiSocketsCtx) (m : Machine) (line ctx handle : ℕ)
         (entries : List Entry) (word : CodeWord) (after : Machine)
-        → Answered contexts m line (Step.Call ctx (GuestCall.P3TcpListen handle)) entries
+        → Answered contexts m line (Step.Call ctx (GuestCall.P3Tcp (P3TcpCall.Listen handle))) entries
         (Reply.Err word) after
         → P3ListenRefusal m (own_of line) handle entries word after }
     ensures done { (contexts : List WasiSocketsCtx) (m : Machine) (line ctx handle : ℕ)
         (entries : List Entry) (fields : List Field) (after : Machine)
-        → Answered contexts m line (Step.Call ctx (GuestCall.P3TcpListen handle)) entries
+        → Answered contexts m line (Step.Call ctx (GuestCall.P3Tcp (P3TcpCall.Listen handle))) entries
         (Reply.Ok fields) after
         → OfTcp3 m handle (λ place r. Listens m (own_of line) handle place r entries fields after) }
     ensures pending { (contexts : List WasiSocketsCtx) (m : Machine) (line ctx handle : ℕ)
         (entries : List Entry) (number : ℕ) (after : Machine)
-        → Answered contexts m line (Step.Call ctx (GuestCall.P3TcpListen handle)) entries
+        → Answered contexts m line (Step.Call ctx (GuestCall.P3Tcp (P3TcpCall.Listen handle))) entries
         (Reply.Pending number) after
         → OfTcp3 m handle (λ place r. ListenStands m line handle place r entries after) }
     ensures full { (contexts : List WasiSocketsCtx) (m : Machine) (line ctx handle : ℕ)
         (entries : List Entry) (after : Machine)
-        → Answered contexts m line (Step.Call ctx (GuestCall.P3TcpListen handle)) entries
+        → Answered contexts m line (Step.Call ctx (GuestCall.P3Tcp (P3TcpCall.Listen handle))) entries
         (Reply.Trap TrapKind.Full) after
         → OfTcp3 m handle (λ place r. ListensUnnamed m (own_of line) place r entries after) }
 {}
@@ -121,31 +123,31 @@ pub fn polls_of_p3_listens()
 pub fn p3_accepts()
     ensures gives { (contexts : List WasiSocketsCtx) (m : Machine) (line ctx handle : ℕ)
         (remaining : ℕ) (entries : List Entry) (fields : List Field) (after : Machine)
-        → Answered contexts m line (Step.Call ctx (GuestCall.P3Accept handle remaining)) entries
+        → Answered contexts m line (Step.Call ctx (GuestCall.P3Tcp (P3TcpCall.Accept handle remaining))) entries
         (Reply.Ok fields) after
         → OfListener m handle (λ place r. ByListener r (λ l. AcceptGave m line handle remaining
         place r l entries fields after)) }
     ensures cancelled { (contexts : List WasiSocketsCtx) (m : Machine) (line ctx handle : ℕ)
         (remaining : ℕ) (entries : List Entry) (after : Machine)
-        → Answered contexts m line (Step.Call ctx (GuestCall.P3Accept handle remaining)) entries
+        → Answered contexts m line (Step.Call ctx (GuestCall.P3Tcp (P3TcpCall.Accept handle remaining))) entries
         Reply.Cancelled after
         → OfListener m handle (λ place r. ByListener r (λ l. NoneCame m line place r l entries
         after)) }
     ensures refused { (contexts : List WasiSocketsCtx) (m : Machine) (line ctx handle : ℕ)
         (remaining : ℕ) (entries : List Entry) (word : CodeWord) (after : Machine)
-        → Answered contexts m line (Step.Call ctx (GuestCall.P3Accept handle remaining)) entries
+        → Answered contexts m line (Step.Call ctx (GuestCall.P3Tcp (P3TcpCall.Accept handle remaining))) entries
         (Reply.Err word) after
         → AcceptRefusal m handle entries word after }
     ensures never { (contexts : List WasiSocketsCtx) (steps : List Step) (log : List Entry)
         (replies : List Reply) (m : Machine) (line ctx handle remaining : ℕ)
         (entries : List Entry) (word : CodeWord) (after : Machine)
         → Left (run contexts [] first_state 1 steps) log (Give (replies, m))
-        → Answered contexts m line (Step.Call ctx (GuestCall.P3Accept handle remaining)) entries
+        → Answered contexts m line (Step.Call ctx (GuestCall.P3Tcp (P3TcpCall.Accept handle remaining))) entries
         (Reply.Err word) after
         → ⊥ }
     ensures full { (contexts : List WasiSocketsCtx) (m : Machine) (line ctx handle : ℕ)
         (remaining : ℕ) (entries : List Entry) (after : Machine)
-        → Answered contexts m line (Step.Call ctx (GuestCall.P3Accept handle remaining)) entries
+        → Answered contexts m line (Step.Call ctx (GuestCall.P3Tcp (P3TcpCall.Accept handle remaining))) entries
         (Reply.Trap TrapKind.Full) after
         → OfListener m handle (λ place r. ByListener r (λ l. TakesUnnamed m line place r l entries
         after)) }
@@ -165,28 +167,28 @@ pub fn p3_listeners_are_dropped()
         (entries : List Entry) (reply : Reply) (after : Machine)
         → m.store.standing ≡ None → kind_at m.table handle ≡ Some (Kind.Listen3 place)
         → children_of m.table.live handle ≡ []
-        → Answered contexts m line (Step.Call ctx (GuestCall.Drop handle)) entries reply after
+        → Answered contexts m line (Step.Call ctx (GuestCall.Pollable (PollableCall.Drop handle))) entries reply after
         → reply ≡ Reply.Ok no_fields }
     ensures given_up { (contexts : List WasiSocketsCtx) (m : Machine) (line ctx handle place : ℕ)
         (r : TcpRecord) (fields : List Field) (entries : List Entry) (after : Machine)
         → kind_at m.table handle ≡ Some (Kind.Listen3 place)
         → tcp2_at m.store.records place ≡ Some r
         → is_held (with_listening r Listening.Not) ≡ false
-        → Answered contexts m line (Step.Call ctx (GuestCall.Drop handle)) entries
+        → Answered contexts m line (Step.Call ctx (GuestCall.Pollable (PollableCall.Drop handle))) entries
         (Reply.Ok fields) after → entries ≡ socket_given_up (own_of line) r }
     ensures gone { (contexts : List WasiSocketsCtx) (m : Machine) (line ctx handle place : ℕ)
         (r : TcpRecord) (fields : List Field) (entries : List Entry) (after : Machine)
         → kind_at m.table handle ≡ Some (Kind.Listen3 place)
         → tcp2_at m.store.records place ≡ Some r
         → is_held (with_listening r Listening.Not) ≡ false
-        → Answered contexts m line (Step.Call ctx (GuestCall.Drop handle)) entries
+        → Answered contexts m line (Step.Call ctx (GuestCall.Pollable (PollableCall.Drop handle))) entries
         (Reply.Ok fields) after → IsGone m handle place after }
     ensures kept { (contexts : List WasiSocketsCtx) (m : Machine) (line ctx handle place : ℕ)
         (r : TcpRecord) (fields : List Field) (entries : List Entry) (after : Machine)
         → kind_at m.table handle ≡ Some (Kind.Listen3 place)
         → tcp2_at m.store.records place ≡ Some r
         → is_held (with_listening r Listening.Not) ≡ true
-        → Answered contexts m line (Step.Call ctx (GuestCall.Drop handle)) entries
+        → Answered contexts m line (Step.Call ctx (GuestCall.Pollable (PollableCall.Drop handle))) entries
         (Reply.Ok fields) after → (entries ≡ listening_given_up r.listening)
         × (after ≡ record (without m handle)
         { store = with_socket m.store place (with_listening r Listening.Not) }) }

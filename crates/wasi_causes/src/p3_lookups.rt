@@ -11,6 +11,7 @@ ghost use Rattle.host_store.specs.Beside.{beside_as, beside_of};
 ghost use Rattle.host_store.specs.Machine.{own_of};
 ghost use Rattle.wasi_machine.specs.Machine.{context_at};
 ghost use Rattle.wasi_steps.specs.declared.guest_call.GuestCall.{GuestCall};
+ghost use Rattle.wasi_steps.specs.declared.guest_call.P3NameCall.{P3NameCall};
 ghost use Rattle.wasi_steps.specs.declared.reply.CodeWord.{CodeWord};
 ghost use Rattle.wasi_steps.specs.declared.reply.Field.{Field};
 ghost use Rattle.wasi_steps.specs.declared.reply.Reply.{Reply};
@@ -38,33 +39,33 @@ pub fn p3_lookups()
     ensures forbidden { (contexts : List WasiSocketsCtx) (m : Machine) (line ctx : ℕ)
         (name : List ℕ) (entries : List Entry) (reply : Reply) (after : Machine)
         → m.store.standing ≡ None
-        → Answered contexts m line (Step.Call ctx (GuestCall.P3Resolve name)) entries reply after
+        → Answered contexts m line (Step.Call ctx (GuestCall.P3Names (P3NameCall.Resolve name))) entries reply after
         → (reply ≡ Reply.Err CodeWord.PermanentResolverFailure)
         ↔ ((context_at contexts ctx).ip_name_lookup ≡ false) }
     ensures unnamed { (contexts : List WasiSocketsCtx) (m : Machine) (line ctx : ℕ)
         (name : List ℕ) (entries : List Entry) (reply : Reply) (after : Machine)
         → m.store.standing ≡ None
-        → Answered contexts m line (Step.Call ctx (GuestCall.P3Resolve name)) entries reply after
+        → Answered contexts m line (Step.Call ctx (GuestCall.P3Names (P3NameCall.Resolve name))) entries reply after
         → (reply ≡ Reply.Err CodeWord.InvalidArgument)
         ↔ (((context_at contexts ctx).ip_name_lookup ≡ true) × (name_is name ≡ None)) }
     ensures refused { (contexts : List WasiSocketsCtx) (m : Machine) (line ctx : ℕ)
         (name : List ℕ) (entries : List Entry) (word : CodeWord) (after : Machine)
-        → Answered contexts m line (Step.Call ctx (GuestCall.P3Resolve name)) entries
+        → Answered contexts m line (Step.Call ctx (GuestCall.P3Names (P3NameCall.Resolve name))) entries
         (Reply.Err word) after
         → ResolveRefusal (own_of line) (context_at contexts ctx) name entries word }
     ensures stays { (contexts : List WasiSocketsCtx) (m : Machine) (line ctx : ℕ)
         (name : List ℕ) (entries : List Entry) (word : CodeWord) (after : Machine)
-        → Answered contexts m line (Step.Call ctx (GuestCall.P3Resolve name)) entries
+        → Answered contexts m line (Step.Call ctx (GuestCall.P3Names (P3NameCall.Resolve name))) entries
         (Reply.Err word) after
         → after ≡ m }
     ensures done { (contexts : List WasiSocketsCtx) (m : Machine) (line ctx : ℕ)
         (name : List ℕ) (entries : List Entry) (fields : List Field) (after : Machine)
-        → Answered contexts m line (Step.Call ctx (GuestCall.P3Resolve name)) entries
+        → Answered contexts m line (Step.Call ctx (GuestCall.P3Names (P3NameCall.Resolve name))) entries
         (Reply.Ok fields) after
         → FindsAddresses m (own_of line) (context_at contexts ctx) name entries fields after }
     ensures pending { (contexts : List WasiSocketsCtx) (m : Machine) (line ctx : ℕ)
         (name : List ℕ) (entries : List Entry) (number : ℕ) (after : Machine)
-        → Answered contexts m line (Step.Call ctx (GuestCall.P3Resolve name)) entries
+        → Answered contexts m line (Step.Call ctx (GuestCall.P3Names (P3NameCall.Resolve name))) entries
         (Reply.Pending number) after
         → LookupStands m line (context_at contexts ctx) name entries after }
 {}

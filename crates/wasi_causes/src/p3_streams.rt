@@ -9,10 +9,11 @@ ghost use Rattle.wasi_world.specs.declared.outcome.TrapKind.TheVariants as TrapK
 ghost use Rattle.wasi_world.specs.declared.outcome.WasiSocketsCtx.{WasiSocketsCtx};
 ghost use Rattle.wasi_world.specs.Asks.{Give, Left};
 ghost use Rattle.wasi_table.specs.Table.{children_of};
-ghost use Rattle.wasi_records.specs.declared.slot.Slot.{Slot};
-ghost use Rattle.wasi_records.specs.declared.socket.TcpRecord.{TcpRecord};
+ghost use Rattle.tcp_records.specs.declared.slot.Slot.{Slot};
+ghost use Rattle.tcp_records.specs.declared.socket.TcpRecord.{TcpRecord};
 ghost use Rattle.wasi_records.specs.Records.{tcp2_at};
-ghost use Rattle.wasi_records.specs.Slots.{slot_at, StreamEnd};
+ghost use Rattle.wasi_records.specs.Records.{slot_at};
+ghost use Rattle.tcp_records.specs.Slots.{StreamEnd};
 ghost use Rattle.host_store.specs.declared.kind.ConnectionEnd.{ConnectionEnd};
 ghost use Rattle.host_store.specs.declared.kind.Kind.{Kind};
 ghost use Rattle.host_store.specs.declared.machine.Machine.{Machine};
@@ -20,6 +21,8 @@ ghost use Rattle.host_store.specs.Kinds.{kind_at};
 ghost use Rattle.host_store.specs.Machine.{first_state, own_of, receive3_at, send3_at};
 ghost use Rattle.wasi_machine.specs.Machine.{run};
 ghost use Rattle.wasi_steps.specs.declared.guest_call.GuestCall.{GuestCall};
+ghost use Rattle.wasi_steps.specs.declared.guest_call.PollableCall.{PollableCall};
+ghost use Rattle.wasi_steps.specs.declared.guest_call.P3TcpCall.{P3TcpCall};
 ghost use Rattle.wasi_steps.specs.declared.reply.CodeWord.{CodeWord};
 ghost use Rattle.wasi_steps.specs.declared.reply.Field.{Field};
 ghost use Rattle.wasi_steps.specs.declared.reply.Reply.{Reply};
@@ -49,35 +52,35 @@ ghost use Rattle.wasi_causes.specs.Refusals.{OfTcp3};
 pub fn p3_ends_are_made()
     ensures receives { (contexts : List WasiSocketsCtx) (m : Machine) (line ctx handle : ℕ)
         (entries : List Entry) (fields : List Field) (after : Machine)
-        → Answered contexts m line (Step.Call ctx (GuestCall.P3TcpReceive handle)) entries
+        → Answered contexts m line (Step.Call ctx (GuestCall.P3Tcp (P3TcpCall.Receive handle))) entries
         (Reply.Ok fields) after
         → OfTcp3 m handle (λ place r. MakesEnd m (own_of line) ShutdownType.Receive handle place r
         entries fields after) }
     ensures sends { (contexts : List WasiSocketsCtx) (m : Machine) (line ctx handle : ℕ)
         (entries : List Entry) (fields : List Field) (after : Machine)
-        → Answered contexts m line (Step.Call ctx (GuestCall.P3TcpSend handle)) entries
+        → Answered contexts m line (Step.Call ctx (GuestCall.P3Tcp (P3TcpCall.Send handle))) entries
         (Reply.Ok fields) after
         → OfTcp3 m handle (λ place r. MakesEnd m (own_of line) ShutdownType.Send handle place r
         entries fields after) }
     ensures receive_stays { (contexts : List WasiSocketsCtx) (m : Machine) (line ctx handle : ℕ)
         (entries : List Entry) (word : CodeWord) (after : Machine)
-        → Answered contexts m line (Step.Call ctx (GuestCall.P3TcpReceive handle)) entries
+        → Answered contexts m line (Step.Call ctx (GuestCall.P3Tcp (P3TcpCall.Receive handle))) entries
         (Reply.Err word) after
         → ⊥ }
     ensures send_stays { (contexts : List WasiSocketsCtx) (m : Machine) (line ctx handle : ℕ)
         (entries : List Entry) (word : CodeWord) (after : Machine)
-        → Answered contexts m line (Step.Call ctx (GuestCall.P3TcpSend handle)) entries
+        → Answered contexts m line (Step.Call ctx (GuestCall.P3Tcp (P3TcpCall.Send handle))) entries
         (Reply.Err word) after
         → ⊥ }
     ensures receive_full { (contexts : List WasiSocketsCtx) (m : Machine) (line ctx handle : ℕ)
         (entries : List Entry) (after : Machine)
-        → Answered contexts m line (Step.Call ctx (GuestCall.P3TcpReceive handle)) entries
+        → Answered contexts m line (Step.Call ctx (GuestCall.P3Tcp (P3TcpCall.Receive handle))) entries
         (Reply.Trap TrapKind.Full) after
         → OfTcp3 m handle (λ place r. LacksRoomForEnd m (own_of line) ShutdownType.Receive handle
         place r entries after) }
     ensures send_full { (contexts : List WasiSocketsCtx) (m : Machine) (line ctx handle : ℕ)
         (entries : List Entry) (after : Machine)
-        → Answered contexts m line (Step.Call ctx (GuestCall.P3TcpSend handle)) entries
+        → Answered contexts m line (Step.Call ctx (GuestCall.P3Tcp (P3TcpCall.Send handle))) entries
         (Reply.Trap TrapKind.Full) after
         → OfTcp3 m handle (λ place r. LacksRoomForEnd m (own_of line) ShutdownType.Send handle
         place r entries after) }
@@ -100,29 +103,29 @@ pub fn p3_ends_are_made()
 pub fn p3_reads()
     ensures gives { (contexts : List WasiSocketsCtx) (m : Machine) (line ctx handle len : ℕ)
         (entries : List Entry) (fields : List Field) (after : Machine)
-        → Answered contexts m line (Step.Call ctx (GuestCall.P3Read handle len)) entries
+        → Answered contexts m line (Step.Call ctx (GuestCall.P3Tcp (P3TcpCall.Read handle len))) entries
         (Reply.Ok fields) after
         → OfEnd (receive3_at m handle) (λ end. EndReads m (own_of line) len end entries fields
         after) }
     ensures cancelled { (contexts : List WasiSocketsCtx) (m : Machine) (line ctx handle len : ℕ)
         (entries : List Entry) (after : Machine)
-        → Answered contexts m line (Step.Call ctx (GuestCall.P3Read handle len)) entries
+        → Answered contexts m line (Step.Call ctx (GuestCall.P3Tcp (P3TcpCall.Read handle len))) entries
         Reply.Cancelled after
         → OfEnd (receive3_at m handle) (λ end. ReadGivesUp m (own_of line) len end entries after) }
     ensures dropped { (contexts : List WasiSocketsCtx) (m : Machine) (line ctx handle len : ℕ)
         (entries : List Entry) (after : Machine)
-        → Answered contexts m line (Step.Call ctx (GuestCall.P3Read handle len)) entries
+        → Answered contexts m line (Step.Call ctx (GuestCall.P3Tcp (P3TcpCall.Read handle len))) entries
         Reply.Dropped after
         → OfEnd (receive3_at m handle) (λ end. ReadEnds m (own_of line) len end entries after) }
     ensures stays { (contexts : List WasiSocketsCtx) (m : Machine) (line ctx handle len : ℕ)
         (entries : List Entry) (word : CodeWord) (after : Machine)
-        → Answered contexts m line (Step.Call ctx (GuestCall.P3Read handle len)) entries
+        → Answered contexts m line (Step.Call ctx (GuestCall.P3Tcp (P3TcpCall.Read handle len))) entries
         (Reply.Err word) after
         → ⊥ }
     ensures which { (contexts : List WasiSocketsCtx) (m : Machine) (line ctx handle len : ℕ)
         (end : ConnectionEnd) (entries : List Entry) (reply : Reply) (after : Machine)
         → m.store.standing ≡ None → receive3_at m handle ≡ Some end
-        → Answered contexts m line (Step.Call ctx (GuestCall.P3Read handle len)) entries reply after
+        → Answered contexts m line (Step.Call ctx (GuestCall.P3Tcp (P3TcpCall.Read handle len))) entries reply after
         → EndAnswers entries reply (ReadIsClosed m end) }
 {}
 
@@ -141,30 +144,30 @@ pub fn p3_reads()
 pub fn p3_writes()
     ensures gives { (contexts : List WasiSocketsCtx) (m : Machine) (line ctx handle : ℕ)
         (bytes : List ℕ) (entries : List Entry) (fields : List Field) (after : Machine)
-        → Answered contexts m line (Step.Call ctx (GuestCall.P3Write handle bytes)) entries
+        → Answered contexts m line (Step.Call ctx (GuestCall.P3Tcp (P3TcpCall.Write handle bytes))) entries
         (Reply.Ok fields) after
         → OfEnd (send3_at m handle) (λ end. EndWrites m (own_of line) bytes end entries fields
         after) }
     ensures cancelled { (contexts : List WasiSocketsCtx) (m : Machine) (line ctx handle : ℕ)
         (bytes : List ℕ) (entries : List Entry) (after : Machine)
-        → Answered contexts m line (Step.Call ctx (GuestCall.P3Write handle bytes)) entries
+        → Answered contexts m line (Step.Call ctx (GuestCall.P3Tcp (P3TcpCall.Write handle bytes))) entries
         Reply.Cancelled after
         → OfEnd (send3_at m handle) (λ end. WriteGivesUp m (own_of line) bytes end entries after) }
     ensures dropped { (contexts : List WasiSocketsCtx) (m : Machine) (line ctx handle : ℕ)
         (bytes : List ℕ) (entries : List Entry) (after : Machine)
-        → Answered contexts m line (Step.Call ctx (GuestCall.P3Write handle bytes)) entries
+        → Answered contexts m line (Step.Call ctx (GuestCall.P3Tcp (P3TcpCall.Write handle bytes))) entries
         Reply.Dropped after
         → OfEnd (send3_at m handle) (λ end. WriteEnds m (own_of line) bytes end entries after) }
     ensures stays { (contexts : List WasiSocketsCtx) (m : Machine) (line ctx handle : ℕ)
         (bytes : List ℕ) (entries : List Entry) (word : CodeWord) (after : Machine)
-        → Answered contexts m line (Step.Call ctx (GuestCall.P3Write handle bytes)) entries
+        → Answered contexts m line (Step.Call ctx (GuestCall.P3Tcp (P3TcpCall.Write handle bytes))) entries
         (Reply.Err word) after
         → ⊥ }
     ensures which { (contexts : List WasiSocketsCtx) (m : Machine) (line ctx handle : ℕ)
         (bytes : List ℕ) (end : ConnectionEnd) (entries : List Entry) (reply : Reply)
         (after : Machine)
         → m.store.standing ≡ None → send3_at m handle ≡ Some end
-        → Answered contexts m line (Step.Call ctx (GuestCall.P3Write handle bytes)) entries reply
+        → Answered contexts m line (Step.Call ctx (GuestCall.P3Tcp (P3TcpCall.Write handle bytes))) entries reply
         after
         → EndAnswers entries reply (WriteIsClosed m end) }
 {}
@@ -182,38 +185,38 @@ pub fn p3_writes()
 pub fn p3_results()
     ensures well { (contexts : List WasiSocketsCtx) (m : Machine) (line ctx handle : ℕ)
         (entries : List Entry) (fields : List Field) (after : Machine)
-        → Answered contexts m line (Step.Call ctx (GuestCall.P3Result handle)) entries
+        → Answered contexts m line (Step.Call ctx (GuestCall.P3Tcp (P3TcpCall.Result handle))) entries
         (Reply.Ok fields) after
         → WentWell m handle entries after }
     ensures ill { (contexts : List WasiSocketsCtx) (m : Machine) (line ctx handle : ℕ)
         (entries : List Entry) (word : CodeWord) (after : Machine)
-        → Answered contexts m line (Step.Call ctx (GuestCall.P3Result handle)) entries
+        → Answered contexts m line (Step.Call ctx (GuestCall.P3Tcp (P3TcpCall.Result handle))) entries
         (Reply.Err word) after
         → WentIll m handle entries word after }
     ensures unfilled { (contexts : List WasiSocketsCtx) (m : Machine) (line ctx handle : ℕ)
         (entries : List Entry) (reply : Reply) (after : Machine)
         → m.store.standing ≡ None
-        → Answered contexts m line (Step.Call ctx (GuestCall.P3Result handle)) entries reply after
+        → Answered contexts m line (Step.Call ctx (GuestCall.P3Tcp (P3TcpCall.Result handle))) entries reply after
         → (reply ≡ Reply.Unfilled) ↔ IsUnfilled m handle }
     ensures unfilled_stays { (contexts : List WasiSocketsCtx) (m : Machine) (line ctx handle : ℕ)
         (entries : List Entry) (after : Machine)
-        → Answered contexts m line (Step.Call ctx (GuestCall.P3Result handle)) entries
+        → Answered contexts m line (Step.Call ctx (GuestCall.P3Tcp (P3TcpCall.Result handle))) entries
         Reply.Unfilled after
         → after ≡ m }
     ensures quiet { (contexts : List WasiSocketsCtx) (m : Machine) (line ctx handle : ℕ)
         (entries : List Entry) (reply : Reply) (after : Machine)
-        → Answered contexts m line (Step.Call ctx (GuestCall.P3Result handle)) entries reply after
+        → Answered contexts m line (Step.Call ctx (GuestCall.P3Tcp (P3TcpCall.Result handle))) entries reply after
         → entries ≡ [] }
     ensures has_children { (contexts : List WasiSocketsCtx) (m : Machine) (line ctx handle : ℕ)
         (entries : List Entry) (after : Machine)
-        → Answered contexts m line (Step.Call ctx (GuestCall.P3Result handle)) entries
+        → Answered contexts m line (Step.Call ctx (GuestCall.P3Tcp (P3TcpCall.Result handle))) entries
         (Reply.Trap TrapKind.HasChildren) after
         → HasLiveChildren m handle }
     ensures never { (contexts : List WasiSocketsCtx) (steps : List Step) (log : List Entry)
         (replies : List Reply) (m : Machine) (line ctx handle : ℕ) (entries : List Entry)
         (after : Machine)
         → Left (run contexts [] first_state 1 steps) log (Give (replies, m))
-        → Answered contexts m line (Step.Call ctx (GuestCall.P3Result handle)) entries
+        → Answered contexts m line (Step.Call ctx (GuestCall.P3Tcp (P3TcpCall.Result handle))) entries
         (Reply.Trap TrapKind.HasChildren) after
         → ⊥ }
 {}
@@ -230,39 +233,39 @@ pub fn p3_ends_are_dropped()
     ensures receives { (contexts : List WasiSocketsCtx) (m : Machine) (line ctx handle : ℕ)
         (end : ConnectionEnd) (fields : List Field) (entries : List Entry) (after : Machine)
         → kind_at m.table handle ≡ Some (Kind.Receive3 end)
-        → Answered contexts m line (Step.Call ctx (GuestCall.Drop handle)) entries
+        → Answered contexts m line (Step.Call ctx (GuestCall.Pollable (PollableCall.Drop handle))) entries
         (Reply.Ok fields) after
         → ReadEndGoes (without m handle) (own_of line) end entries after }
     ensures sends { (contexts : List WasiSocketsCtx) (m : Machine) (line ctx handle : ℕ)
         (end : ConnectionEnd) (fields : List Field) (entries : List Entry) (after : Machine)
         → kind_at m.table handle ≡ Some (Kind.Send3 end)
-        → Answered contexts m line (Step.Call ctx (GuestCall.Drop handle)) entries
+        → Answered contexts m line (Step.Call ctx (GuestCall.Pollable (PollableCall.Drop handle))) entries
         (Reply.Ok fields) after
         → WriteEndGoes (without m handle) (own_of line) end entries after }
     ensures result { (contexts : List WasiSocketsCtx) (m : Machine) (line ctx handle place : ℕ)
         (s : Slot) (fields : List Field) (entries : List Entry) (after : Machine)
         → kind_at m.table handle ≡ Some (Kind.Result3 place)
         → slot_at m.store.records place ≡ Some s
-        → Answered contexts m line (Step.Call ctx (GuestCall.Drop handle)) entries
+        → Answered contexts m line (Step.Call ctx (GuestCall.Pollable (PollableCall.Drop handle))) entries
         (Reply.Ok fields) after
         → (entries ≡ []) × IsLetGo (without m handle) place after }
     ensures receive_done { (contexts : List WasiSocketsCtx) (m : Machine) (line ctx handle : ℕ)
         (end : ConnectionEnd) (entries : List Entry) (reply : Reply) (after : Machine)
         → m.store.standing ≡ None → kind_at m.table handle ≡ Some (Kind.Receive3 end)
         → children_of m.table.live handle ≡ []
-        → Answered contexts m line (Step.Call ctx (GuestCall.Drop handle)) entries reply after
+        → Answered contexts m line (Step.Call ctx (GuestCall.Pollable (PollableCall.Drop handle))) entries reply after
         → reply ≡ Reply.Ok no_fields }
     ensures send_done { (contexts : List WasiSocketsCtx) (m : Machine) (line ctx handle : ℕ)
         (end : ConnectionEnd) (entries : List Entry) (reply : Reply) (after : Machine)
         → m.store.standing ≡ None → kind_at m.table handle ≡ Some (Kind.Send3 end)
         → children_of m.table.live handle ≡ []
-        → Answered contexts m line (Step.Call ctx (GuestCall.Drop handle)) entries reply after
+        → Answered contexts m line (Step.Call ctx (GuestCall.Pollable (PollableCall.Drop handle))) entries reply after
         → reply ≡ Reply.Ok no_fields }
     ensures result_done { (contexts : List WasiSocketsCtx) (m : Machine) (line ctx handle : ℕ)
         (place : ℕ) (entries : List Entry) (reply : Reply) (after : Machine)
         → m.store.standing ≡ None → kind_at m.table handle ≡ Some (Kind.Result3 place)
         → children_of m.table.live handle ≡ []
-        → Answered contexts m line (Step.Call ctx (GuestCall.Drop handle)) entries reply after
+        → Answered contexts m line (Step.Call ctx (GuestCall.Pollable (PollableCall.Drop handle))) entries reply after
         → reply ≡ Reply.Ok no_fields }
 {}
 

@@ -14,11 +14,13 @@ ghost use Rattle.host_store.specs.Kinds.{kind_at};
 ghost use Rattle.host_store.specs.Machine.{own_of};
 ghost use Rattle.host_store.specs.Beside.{has_datagram};
 ghost use Rattle.wasi_machine.specs.Machine.{context_at};
-ghost use Rattle.wasi_records.specs.declared.udp.OpenUdp.{OpenUdp};
-ghost use Rattle.wasi_records.specs.declared.udp.UdpRecord.{UdpRecord};
-ghost use Rattle.wasi_records.specs.Udp.{without_udp_socket};
+ghost use Rattle.udp_records.specs.declared.udp.OpenUdp.{OpenUdp};
+ghost use Rattle.udp_records.specs.declared.udp.UdpRecord.{UdpRecord};
+ghost use Rattle.udp_records.specs.Udp.{without_udp_socket};
 ghost use Rattle.wasi_records.specs.Records.{udp2_at};
 ghost use Rattle.wasi_steps.specs.declared.guest_call.GuestCall.{GuestCall};
+ghost use Rattle.wasi_steps.specs.declared.guest_call.PollableCall.{PollableCall};
+ghost use Rattle.wasi_steps.specs.declared.guest_call.P3UdpCall.{P3UdpCall};
 ghost use Rattle.wasi_steps.specs.declared.reply.CodeWord.{CodeWord};
 ghost use Rattle.wasi_steps.specs.declared.reply.Field.{Field};
 ghost use Rattle.wasi_steps.specs.declared.reply.Reply.{Reply};
@@ -46,7 +48,7 @@ ghost use Rattle.wasi_causes.specs.Udp.{putting_udp, udp_given_up, udp_left};
 pub fn p3_udp_create_refusals()
     ensures cause { (contexts : List WasiSocketsCtx) (m : Machine) (line ctx : ℕ)
         (family : SocketAddressFamily) (entries : List Entry) (word : CodeWord) (after : Machine)
-        → Answered contexts m line (Step.Call ctx (GuestCall.P3UdpCreate family)) entries
+        → Answered contexts m line (Step.Call ctx (GuestCall.P3Udp (P3UdpCall.Create family))) entries
         (Reply.Err word) after
         → P3UdpCreateRefusal m (own_of line) (context_at contexts ctx) family entries word
         after }
@@ -65,19 +67,19 @@ pub fn p3_udp_creates_make_a_handle()
     ensures done { (contexts : List WasiSocketsCtx) (m : Machine) (line ctx : ℕ)
         (family : SocketAddressFamily) (entries : List Entry) (fields : List Field)
         (after : Machine)
-        → Answered contexts m line (Step.Call ctx (GuestCall.P3UdpCreate family)) entries
+        → Answered contexts m line (Step.Call ctx (GuestCall.P3Udp (P3UdpCall.Create family))) entries
         (Reply.Ok fields) after
         → CreatesUdpFor Interface.P3 m (own_of line) (context_at contexts ctx) family entries
         fields after }
     ensures pending { (contexts : List WasiSocketsCtx) (m : Machine) (line ctx : ℕ)
         (family : SocketAddressFamily) (entries : List Entry) (number : ℕ) (after : Machine)
-        → Answered contexts m line (Step.Call ctx (GuestCall.P3UdpCreate family)) entries
+        → Answered contexts m line (Step.Call ctx (GuestCall.P3Udp (P3UdpCall.Create family))) entries
         (Reply.Pending number) after
         → CreateStandsFor Interface.P3 m line (own_of line) (context_at contexts ctx) family
         entries after }
     ensures full { (contexts : List WasiSocketsCtx) (m : Machine) (line ctx : ℕ)
         (family : SocketAddressFamily) (entries : List Entry) (after : Machine)
-        → Answered contexts m line (Step.Call ctx (GuestCall.P3UdpCreate family)) entries
+        → Answered contexts m line (Step.Call ctx (GuestCall.P3Udp (P3UdpCall.Create family))) entries
         (Reply.Trap TrapKind.Full) after
         → LeavesUdpSocket m line (context_at contexts ctx) family entries after }
 {}
@@ -96,32 +98,32 @@ pub fn p3_udp_creates_make_a_handle()
 pub fn p3_udp_addresses()
     ensures local { (contexts : List WasiSocketsCtx) (m : Machine) (line ctx handle : ℕ)
         (entries : List Entry) (word : CodeWord) (after : Machine)
-        → Answered contexts m line (Step.Call ctx (GuestCall.P3UdpLocalAddress handle)) entries
+        → Answered contexts m line (Step.Call ctx (GuestCall.P3Udp (P3UdpCall.LocalAddress handle))) entries
         (Reply.Err word) after
         → P3UdpLocalRefusal m (own_of line) handle entries word after }
     ensures local_stays { (contexts : List WasiSocketsCtx) (m : Machine) (line ctx handle : ℕ)
         (entries : List Entry) (word : CodeWord) (after : Machine)
-        → Answered contexts m line (Step.Call ctx (GuestCall.P3UdpLocalAddress handle)) entries
+        → Answered contexts m line (Step.Call ctx (GuestCall.P3Udp (P3UdpCall.LocalAddress handle))) entries
         (Reply.Err word) after
         → (after ≡ m) ⊎ KnowsUdp3Bound m handle after }
     ensures local_told { (contexts : List WasiSocketsCtx) (m : Machine) (line ctx handle : ℕ)
         (entries : List Entry) (fields : List Field) (after : Machine)
-        → Answered contexts m line (Step.Call ctx (GuestCall.P3UdpLocalAddress handle)) entries
+        → Answered contexts m line (Step.Call ctx (GuestCall.P3Udp (P3UdpCall.LocalAddress handle))) entries
         (Reply.Ok fields) after
         → OfUdp3 m handle (λ place o. TellsUdpLocal m (own_of line) place o entries fields after) }
     ensures remote { (contexts : List WasiSocketsCtx) (m : Machine) (line ctx handle : ℕ)
         (entries : List Entry) (word : CodeWord) (after : Machine)
-        → Answered contexts m line (Step.Call ctx (GuestCall.P3UdpRemoteAddress handle)) entries
+        → Answered contexts m line (Step.Call ctx (GuestCall.P3Udp (P3UdpCall.RemoteAddress handle))) entries
         (Reply.Err word) after
         → (word ≡ CodeWord.InvalidState) × OfUdp3 m handle (λ place o. o.inner.remote ≡ None) }
     ensures remote_is_quiet { (contexts : List WasiSocketsCtx) (m : Machine) (line ctx handle : ℕ)
         (entries : List Entry) (reply : Reply) (after : Machine)
-        → Answered contexts m line (Step.Call ctx (GuestCall.P3UdpRemoteAddress handle)) entries
+        → Answered contexts m line (Step.Call ctx (GuestCall.P3Udp (P3UdpCall.RemoteAddress handle))) entries
         reply after
         → (entries ≡ []) × (after ≡ m) }
     ensures remote_told { (contexts : List WasiSocketsCtx) (m : Machine) (line ctx handle : ℕ)
         (entries : List Entry) (fields : List Field) (after : Machine)
-        → Answered contexts m line (Step.Call ctx (GuestCall.P3UdpRemoteAddress handle)) entries
+        → Answered contexts m line (Step.Call ctx (GuestCall.P3Udp (P3UdpCall.RemoteAddress handle))) entries
         (Reply.Ok fields) after
         → OfUdp3 m handle (λ place o. TellsUdpRemote o fields) }
 {}
@@ -134,17 +136,17 @@ pub fn p3_udp_addresses()
 pub fn p3_udp_family_is_told()
     ensures told { (contexts : List WasiSocketsCtx) (m : Machine) (line ctx handle : ℕ)
         (entries : List Entry) (fields : List Field) (after : Machine)
-        → Answered contexts m line (Step.Call ctx (GuestCall.P3UdpAddressFamily handle)) entries
+        → Answered contexts m line (Step.Call ctx (GuestCall.P3Udp (P3UdpCall.AddressFamily handle))) entries
         (Reply.Ok fields) after
         → OfUdp3 m handle (λ place o. fields ≡ family_fields o.inner.family) }
     ensures never { (contexts : List WasiSocketsCtx) (m : Machine) (line ctx handle : ℕ)
         (entries : List Entry) (word : CodeWord) (after : Machine)
-        → Answered contexts m line (Step.Call ctx (GuestCall.P3UdpAddressFamily handle)) entries
+        → Answered contexts m line (Step.Call ctx (GuestCall.P3Udp (P3UdpCall.AddressFamily handle))) entries
         (Reply.Err word) after
         → ⊥ }
     ensures quiet { (contexts : List WasiSocketsCtx) (m : Machine) (line ctx handle : ℕ)
         (entries : List Entry) (reply : Reply) (after : Machine)
-        → Answered contexts m line (Step.Call ctx (GuestCall.P3UdpAddressFamily handle)) entries
+        → Answered contexts m line (Step.Call ctx (GuestCall.P3Udp (P3UdpCall.AddressFamily handle))) entries
         reply after
         → (entries ≡ []) × (after ≡ m) }
 {}
@@ -159,12 +161,12 @@ pub fn p3_udp_family_is_told()
 pub fn p3_udp_disconnects()
     ensures refused { (contexts : List WasiSocketsCtx) (m : Machine) (line ctx handle : ℕ)
         (entries : List Entry) (word : CodeWord) (after : Machine)
-        → Answered contexts m line (Step.Call ctx (GuestCall.P3UdpDisconnect handle)) entries
+        → Answered contexts m line (Step.Call ctx (GuestCall.P3Udp (P3UdpCall.Disconnect handle))) entries
         (Reply.Err word) after
         → P3DisconnectRefusal m (own_of line) handle entries word after }
     ensures done { (contexts : List WasiSocketsCtx) (m : Machine) (line ctx handle : ℕ)
         (entries : List Entry) (fields : List Field) (after : Machine)
-        → Answered contexts m line (Step.Call ctx (GuestCall.P3UdpDisconnect handle)) entries
+        → Answered contexts m line (Step.Call ctx (GuestCall.P3Udp (P3UdpCall.Disconnect handle))) entries
         (Reply.Ok fields) after
         → OfUdp3 m handle (λ place o. Disconnects m (own_of line) place o entries after) }
 {}
@@ -177,22 +179,22 @@ pub fn p3_udp_disconnects()
 pub fn p3_udp_option_refusals()
     ensures get { (contexts : List WasiSocketsCtx) (m : Machine) (line ctx handle : ℕ)
         (option : UdpOption) (entries : List Entry) (word : CodeWord) (after : Machine)
-        → Answered contexts m line (Step.Call ctx (GuestCall.P3UdpGet handle option)) entries
+        → Answered contexts m line (Step.Call ctx (GuestCall.P3Udp (P3UdpCall.Get handle option))) entries
         (Reply.Err word) after
         → P3UdpGetRefusal m (own_of line) handle (udp_opt option) entries word }
     ensures get_stays { (contexts : List WasiSocketsCtx) (m : Machine) (line ctx handle : ℕ)
         (option : UdpOption) (entries : List Entry) (reply : Reply) (after : Machine)
-        → Answered contexts m line (Step.Call ctx (GuestCall.P3UdpGet handle option)) entries
+        → Answered contexts m line (Step.Call ctx (GuestCall.P3Udp (P3UdpCall.Get handle option))) entries
         reply after
         → after ≡ m }
     ensures set { (contexts : List WasiSocketsCtx) (m : Machine) (line ctx handle : ℕ)
         (setting : UdpSetting) (entries : List Entry) (word : CodeWord) (after : Machine)
-        → Answered contexts m line (Step.Call ctx (GuestCall.P3UdpSet handle setting)) entries
+        → Answered contexts m line (Step.Call ctx (GuestCall.P3Udp (P3UdpCall.Set handle setting))) entries
         (Reply.Err word) after
         → P3UdpSetRefusal m (own_of line) handle setting entries word }
     ensures set_stays { (contexts : List WasiSocketsCtx) (m : Machine) (line ctx handle : ℕ)
         (setting : UdpSetting) (entries : List Entry) (reply : Reply) (after : Machine)
-        → Answered contexts m line (Step.Call ctx (GuestCall.P3UdpSet handle setting)) entries
+        → Answered contexts m line (Step.Call ctx (GuestCall.P3Udp (P3UdpCall.Set handle setting))) entries
         reply after
         → after ≡ m }
 {}
@@ -206,13 +208,13 @@ pub fn p3_udp_option_refusals()
 pub fn p3_udp_options_are_read_and_set()
     ensures read { (contexts : List WasiSocketsCtx) (m : Machine) (line ctx handle : ℕ)
         (option : UdpOption) (entries : List Entry) (fields : List Field) (after : Machine)
-        → Answered contexts m line (Step.Call ctx (GuestCall.P3UdpGet handle option)) entries
+        → Answered contexts m line (Step.Call ctx (GuestCall.P3Udp (P3UdpCall.Get handle option))) entries
         (Reply.Ok fields) after
         → OfUdp3 m handle (λ place o. GetsUdpOption (own_of line) (udp_opt option) o fields
         entries) }
     ensures written { (contexts : List WasiSocketsCtx) (m : Machine) (line ctx handle : ℕ)
         (setting : UdpSetting) (entries : List Entry) (fields : List Field) (after : Machine)
-        → Answered contexts m line (Step.Call ctx (GuestCall.P3UdpSet handle setting)) entries
+        → Answered contexts m line (Step.Call ctx (GuestCall.P3Udp (P3UdpCall.Set handle setting))) entries
         (Reply.Ok fields) after
         → OfUdp3 m handle (λ place o. SetsUdpOption (own_of line) setting o entries) }
 {}
@@ -230,7 +232,7 @@ pub fn p3_udp_drops_close()
         (entries : List Entry) (reply : Reply) (after : Machine)
         → m.store.standing ≡ None → kind_at m.table handle ≡ Some (Kind.Udp3 place)
         → children_of m.table.live handle ≡ []
-        → Answered contexts m line (Step.Call ctx (GuestCall.Drop handle)) entries
+        → Answered contexts m line (Step.Call ctx (GuestCall.Pollable (PollableCall.Drop handle))) entries
         reply after
         → reply ≡ Reply.Ok no_fields }
     ensures closed { (contexts : List WasiSocketsCtx) (m : Machine) (line ctx handle place : ℕ)
@@ -238,7 +240,7 @@ pub fn p3_udp_drops_close()
         → kind_at m.table handle ≡ Some (Kind.Udp3 place)
         → udp2_at m.store.records place ≡ Some u
         → has_datagram m.store.beside place ≡ false
-        → Answered contexts m line (Step.Call ctx (GuestCall.Drop handle)) entries
+        → Answered contexts m line (Step.Call ctx (GuestCall.Pollable (PollableCall.Drop handle))) entries
         (Reply.Ok fields) after
         → entries ≡ udp_given_up (own_of line) u }
     ensures left { (contexts : List WasiSocketsCtx) (m : Machine) (line ctx handle place : ℕ)
@@ -246,7 +248,7 @@ pub fn p3_udp_drops_close()
         → kind_at m.table handle ≡ Some (Kind.Udp3 place)
         → udp2_at m.store.records place ≡ Some u
         → has_datagram m.store.beside place ≡ false
-        → Answered contexts m line (Step.Call ctx (GuestCall.Drop handle)) entries
+        → Answered contexts m line (Step.Call ctx (GuestCall.Pollable (PollableCall.Drop handle))) entries
         (Reply.Ok fields) after
         → after ≡ udp_left (without m handle) place u }
     ensures held { (contexts : List WasiSocketsCtx) (m : Machine) (line ctx handle place : ℕ)
@@ -254,7 +256,7 @@ pub fn p3_udp_drops_close()
         → kind_at m.table handle ≡ Some (Kind.Udp3 place)
         → udp2_at m.store.records place ≡ Some (UdpRecord.Open o)
         → has_datagram m.store.beside place ≡ true
-        → Answered contexts m line (Step.Call ctx (GuestCall.Drop handle)) entries
+        → Answered contexts m line (Step.Call ctx (GuestCall.Pollable (PollableCall.Drop handle))) entries
         (Reply.Ok fields) after
         → (entries ≡ [])
         × (after ≡ putting_udp (without m handle) place (without_udp_socket o)) }

@@ -8,12 +8,13 @@ ghost use Rattle.wasi_world.specs.declared.ids.Ids.{Ids};
 ghost use Rattle.wasi_world.specs.declared.outcome.WasiSocketsCtx.{WasiSocketsCtx};
 ghost use Rattle.wasi_world.specs.Operation.{Operation};
 ghost use Rattle.wasi_records.specs.Records.{open_at};
-ghost use Rattle.wasi_records.specs.declared.udp.OpenUdp.{OpenUdp};
+ghost use Rattle.udp_records.specs.declared.udp.OpenUdp.{OpenUdp};
 ghost use Rattle.host_store.specs.declared.machine.Machine.{Machine};
 ghost use Rattle.host_store.specs.declared.store.StandingCall.{StandingCall};
 ghost use Rattle.host_store.specs.Machine.{own_of};
 ghost use Rattle.host_store.specs.Standing.{standing_as};
 ghost use Rattle.wasi_steps.specs.declared.guest_call.GuestCall.{GuestCall};
+ghost use Rattle.wasi_steps.specs.declared.guest_call.P3UdpCall.{P3UdpCall};
 ghost use Rattle.wasi_steps.specs.declared.reply.CodeWord.{CodeWord};
 ghost use Rattle.wasi_steps.specs.declared.reply.Field.{Field};
 ghost use Rattle.wasi_steps.specs.declared.reply.Reply.{Reply};
@@ -39,17 +40,17 @@ ghost use Rattle.wasi_causes.specs.P3UdpConnects.{UdpConnectRefusal, UdpConnectS
 pub fn p3_udp_connects()
     ensures refused { (contexts : List WasiSocketsCtx) (m : Machine) (line ctx handle : ℕ)
         (a : IpSocketAddress) (entries : List Entry) (word : CodeWord) (after : Machine)
-        → Answered contexts m line (Step.Call ctx (GuestCall.P3UdpConnect handle a)) entries
+        → Answered contexts m line (Step.Call ctx (GuestCall.P3Udp (P3UdpCall.Connect handle a))) entries
         (Reply.Err word) after
         → UdpConnectRefusal m (own_of line) handle a entries word after }
     ensures done { (contexts : List WasiSocketsCtx) (m : Machine) (line ctx handle : ℕ)
         (a : IpSocketAddress) (entries : List Entry) (fields : List Field) (after : Machine)
-        → Answered contexts m line (Step.Call ctx (GuestCall.P3UdpConnect handle a)) entries
+        → Answered contexts m line (Step.Call ctx (GuestCall.P3Udp (P3UdpCall.Connect handle a))) entries
         (Reply.Ok fields) after
         → OfUdp3 m handle (λ place o. ConnectsUdp m (own_of line) place o a entries after) }
     ensures pending { (contexts : List WasiSocketsCtx) (m : Machine) (line ctx handle : ℕ)
         (a : IpSocketAddress) (entries : List Entry) (number : ℕ) (after : Machine)
-        → Answered contexts m line (Step.Call ctx (GuestCall.P3UdpConnect handle a)) entries
+        → Answered contexts m line (Step.Call ctx (GuestCall.P3Udp (P3UdpCall.Connect handle a))) entries
         (Reply.Pending number) after
         → OfUdp3 m handle (λ place o. UdpConnectStands m line place o a entries after) }
 {}

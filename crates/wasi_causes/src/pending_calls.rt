@@ -11,6 +11,8 @@ ghost use Rattle.host_store.specs.declared.machine.Machine.{Machine};
 ghost use Rattle.wasi_steps.specs.declared.reply.CodeWord.{CodeWord};
 ghost use Rattle.wasi_steps.specs.declared.reply.Reply.{Reply};
 ghost use Rattle.wasi_steps.specs.declared.guest_call.GuestCall.{GuestCall};
+ghost use Rattle.wasi_steps.specs.declared.guest_call.TcpCall.{TcpCall};
+ghost use Rattle.wasi_steps.specs.declared.guest_call.PollableCall.{PollableCall};
 ghost use Rattle.wasi_steps.specs.declared.step.Step.{Step};
 ghost use Rattle.wasi_walks.specs.Answered.{Answered, EndsPending};
 ghost use Rattle.wasi_causes.specs.Blocking.{StreamCallStands};
@@ -115,15 +117,15 @@ pub fn pending_where_told()
         ⊎ IsSome (beside_of after.store number) }
     ensures told { (contexts : List WasiSocketsCtx) (m : Machine) (line ctx handle network : ℕ)
         (a : IpSocketAddress) (entries : List Entry) (number : ℕ) (after : Machine)
-        → Answered contexts m line (Step.Call ctx (GuestCall.TcpStartBind handle network a)) entries
+        → Answered contexts m line (Step.Call ctx (GuestCall.Tcp (TcpCall.StartBind handle network a))) entries
         (Reply.Pending number) after → EndsPending (own_of line) entries }
     ensures listen { (contexts : List WasiSocketsCtx) (m : Machine) (line ctx handle : ℕ)
         (entries : List Entry) (number : ℕ) (after : Machine)
-        → Answered contexts m line (Step.Call ctx (GuestCall.TcpStartListen handle)) entries
+        → Answered contexts m line (Step.Call ctx (GuestCall.Tcp (TcpCall.StartListen handle))) entries
         (Reply.Pending number) after → EndsPending (own_of line) entries }
     ensures output { (contexts : List WasiSocketsCtx) (m : Machine) (line ctx handle : ℕ)
         (entries : List Entry) (number : ℕ) (after : Machine)
-        → Answered contexts m line (Step.Call ctx (GuestCall.Drop handle)) entries
+        → Answered contexts m line (Step.Call ctx (GuestCall.Pollable (PollableCall.Drop handle))) entries
         (Reply.Pending number) after
         → OutputWaits m (own_of line) (output_at m handle) entries
         ⊎ OutgoingWaits m (outgoing_at m handle) entries }

@@ -9,6 +9,7 @@ ghost use Rattle.host_store.specs.declared.machine.Machine.{Machine};
 ghost use Rattle.wasi_steps.specs.declared.reply.Field.{Field};
 ghost use Rattle.wasi_steps.specs.declared.reply.Reply.{Reply};
 ghost use Rattle.wasi_steps.specs.declared.guest_call.GuestCall.{GuestCall};
+ghost use Rattle.wasi_steps.specs.declared.guest_call.PollableCall.{PollableCall};
 ghost use Rattle.wasi_steps.specs.declared.step.Step.{Step};
 ghost use Rattle.wasi_walks.specs.Answered.{Answered};
 ghost use Rattle.wasi_causes.specs.Plain.{WatchesPlain};
@@ -41,29 +42,29 @@ ghost use Rattle.wasi_walks.specs.Waiting.{WatchesIdle};
 pub fn readiness_has_causes()
     ensures values { (contexts : List WasiSocketsCtx) (m : Machine) (line ctx pollable : ℕ)
         (fields : List Field) (entries : List Entry) (after : Machine)
-        → Answered contexts m line (Step.Call ctx (GuestCall.Ready pollable)) entries
+        → Answered contexts m line (Step.Call ctx (GuestCall.Pollable (PollableCall.Ready pollable))) entries
         (Reply.Ok fields) after
         → (fields ≡ truth_fields true) ⊎ (fields ≡ truth_fields false) }
     ensures not_ready { (contexts : List WasiSocketsCtx) (m : Machine) (line ctx pollable : ℕ)
         (entries : List Entry) (after : Machine)
         → (WatchesDatagrams m pollable → ⊥) → WatchesConnect m pollable → WatchesAccept m pollable
-        → Answered contexts m line (Step.Call ctx (GuestCall.Ready pollable)) entries
+        → Answered contexts m line (Step.Call ctx (GuestCall.Pollable (PollableCall.Ready pollable))) entries
         (Reply.Ok (truth_fields false)) after
         → OfWatched m pollable (λ w r. IsUnready (own_of line) r entries w)
         ⊎ LookupWaits m pollable entries }
     ensures idle { (contexts : List WasiSocketsCtx) (m : Machine) (line ctx pollable : ℕ)
         (entries : List Entry) (reply : Reply) (after : Machine)
         → m.store.standing ≡ None → WatchesIdle m pollable
-        → Answered contexts m line (Step.Call ctx (GuestCall.Ready pollable)) entries reply after
+        → Answered contexts m line (Step.Call ctx (GuestCall.Pollable (PollableCall.Ready pollable))) entries reply after
         → (reply ≡ Reply.Ok (truth_fields true)) × (entries ≡ []) × (after ≡ m) }
     ensures plain { (contexts : List WasiSocketsCtx) (m : Machine) (line ctx pollable : ℕ)
         (entries : List Entry) (reply : Reply) (after : Machine)
         → m.store.standing ≡ None → WatchesPlain m pollable
-        → Answered contexts m line (Step.Call ctx (GuestCall.Ready pollable)) entries reply after
+        → Answered contexts m line (Step.Call ctx (GuestCall.Pollable (PollableCall.Ready pollable))) entries reply after
         → (reply ≡ Reply.Ok (truth_fields true)) × (entries ≡ []) × (after ≡ m) }
     ensures never_fails { (contexts : List WasiSocketsCtx) (m : Machine) (line ctx pollable : ℕ)
         (entries : List Entry) (reply : Reply) (after : Machine)
-        → Answered contexts m line (Step.Call ctx (GuestCall.Ready pollable)) entries reply after →
+        → Answered contexts m line (Step.Call ctx (GuestCall.Pollable (PollableCall.Ready pollable))) entries reply after →
         IsFailure reply
         → ⊥ }
 {}
@@ -78,24 +79,24 @@ pub fn readiness_has_causes()
 pub fn subscribe_makes_a_pollable()
     ensures number { (contexts : List WasiSocketsCtx) (m : Machine) (line ctx handle : ℕ)
         (fields : List Field) (entries : List Entry) (after : Machine)
-        → Answered contexts m line (Step.Call ctx (GuestCall.Subscribe handle)) entries
+        → Answered contexts m line (Step.Call ctx (GuestCall.Pollable (PollableCall.Subscribe handle))) entries
         (Reply.Ok fields) after
         → fields ≡ number_fields m.table.next }
     ensures marked { (contexts : List WasiSocketsCtx) (m : Machine) (line ctx handle : ℕ)
         (fields : List Field) (entries : List Entry) (after : Machine)
-        → Answered contexts m line (Step.Call ctx (GuestCall.Subscribe handle)) entries
+        → Answered contexts m line (Step.Call ctx (GuestCall.Pollable (PollableCall.Subscribe handle))) entries
         (Reply.Ok fields) after
         → IsSomeAnd (watched_by (kind_at m.table handle))
         (λ w. entries ≡ pollable_mark m (own_of line) handle w ∷ []) }
     ensures made { (contexts : List WasiSocketsCtx) (m : Machine) (line ctx handle : ℕ)
         (fields : List Field) (entries : List Entry) (after : Machine)
-        → Answered contexts m line (Step.Call ctx (GuestCall.Subscribe handle)) entries
+        → Answered contexts m line (Step.Call ctx (GuestCall.Pollable (PollableCall.Subscribe handle))) entries
         (Reply.Ok fields) after
         → IsSomeAnd (watched_by (kind_at m.table handle))
         (λ w. after ≡ record m { table = with_handle m.table (Kind.Pollable w) (Some handle) }) }
     ensures never_fails { (contexts : List WasiSocketsCtx) (m : Machine) (line ctx handle : ℕ)
         (entries : List Entry) (reply : Reply) (after : Machine)
-        → Answered contexts m line (Step.Call ctx (GuestCall.Subscribe handle)) entries reply after
+        → Answered contexts m line (Step.Call ctx (GuestCall.Pollable (PollableCall.Subscribe handle))) entries reply after
         → IsFailure reply
         → ⊥ }
 {}

@@ -25,6 +25,8 @@ ghost use Rattle.wasi_steps.specs.declared.reply.CodeWord.{CodeWord};
 ghost use Rattle.wasi_steps.specs.declared.reply.Field.{Field};
 ghost use Rattle.wasi_steps.specs.declared.reply.Reply.{Reply};
 ghost use Rattle.wasi_steps.specs.declared.guest_call.GuestCall.{GuestCall};
+ghost use Rattle.wasi_steps.specs.declared.guest_call.StreamCall.{StreamCall};
+ghost use Rattle.wasi_steps.specs.declared.guest_call.PipeCall.{PipeCall};
 ghost use Rattle.wasi_steps.specs.declared.step.Step.{Step};
 ghost use Rattle.wasi_steps.specs.Reply.{bytes_fields, number_fields};
 ghost use Rattle.wasi_walks.specs.Answered.{Answered, CheckFails, closing_reader, closing_writer};
@@ -51,13 +53,13 @@ ghost use Rattle.wasi_causes.specs.WholeLimit.{PermitsNone};
 pub fn reads_hand_out_what_was_told()
     ensures told { (contexts : List WasiSocketsCtx) (m : Machine) (line ctx input len b : ℕ)
         (bytes : List ℕ) (entries : List Entry) (after : Machine)
-        → Answered contexts m line (Step.Call ctx (GuestCall.Read input len)) entries
+        → Answered contexts m line (Step.Call ctx (GuestCall.Stream (StreamCall.Read input len))) entries
         (Reply.Ok (bytes_fields (b ∷ bytes))) after
         → (OfStreams m (input_at m input) (λ place r s. ReadsTold (own_of line) len s.reader
         (b ∷ bytes) entries) × (after ≡ m)) ⊎ TakesFront m input len (b ∷ bytes) entries after }
     ensures none { (contexts : List WasiSocketsCtx) (m : Machine) (line ctx input len : ℕ)
         (entries : List Entry) (after : Machine)
-        → Answered contexts m line (Step.Call ctx (GuestCall.Read input len)) entries
+        → Answered contexts m line (Step.Call ctx (GuestCall.Stream (StreamCall.Read input len))) entries
         (Reply.Ok (bytes_fields [])) after
         → (OfStreams m (input_at m input) (λ place r s. ReadsNone (own_of line) len s.reader
         entries) × (after ≡ m)) ⊎ TakesNothing m input len entries after }
@@ -75,13 +77,13 @@ pub fn reads_hand_out_what_was_told()
 pub fn reads_end()
     ensures closed { (contexts : List WasiSocketsCtx) (m : Machine) (line ctx input len : ℕ)
         (entries : List Entry) (after : Machine)
-        → Answered contexts m line (Step.Call ctx (GuestCall.Read input len)) entries Reply.Closed
+        → Answered contexts m line (Step.Call ctx (GuestCall.Stream (StreamCall.Read input len))) entries Reply.Closed
         after
         → OfStreams m (input_at m input) (λ place r s. ReadsEnd (own_of line) len s.reader entries
         × (after ≡ closing_reader m place r s)) ⊎ EndsPlain m input entries after }
     ensures failed { (contexts : List WasiSocketsCtx) (m : Machine) (line ctx input len : ℕ)
         (entries : List Entry) (word : CodeWord) (handle : ℕ) (after : Machine)
-        → Answered contexts m line (Step.Call ctx (GuestCall.Read input len)) entries
+        → Answered contexts m line (Step.Call ctx (GuestCall.Stream (StreamCall.Read input len))) entries
         (Reply.Failed word handle) after
         → OfStreams m (input_at m input) (λ place r s. FailsWith m (own_of line) input
         (ReadFails (own_of line) len s.reader) entries word handle
@@ -89,7 +91,7 @@ pub fn reads_end()
     ensures plain { (contexts : List WasiSocketsCtx) (m : Machine) (line ctx input len : ℕ)
         (entries : List Entry) (reply : Reply) (after : Machine)
         → m.store.standing ≡ None
-        → Answered contexts m line (Step.Call ctx (GuestCall.Read input len)) entries reply after
+        → Answered contexts m line (Step.Call ctx (GuestCall.Stream (StreamCall.Read input len))) entries reply after
         → PlainRead m input entries reply }
 {}
 
@@ -101,22 +103,22 @@ pub fn reads_end()
 pub fn errors_are_marked_with_their_socket()
     ensures read { (contexts : List WasiSocketsCtx) (m : Machine) (line ctx stream len : ℕ)
         (entries : List Entry) (word : CodeWord) (handle : ℕ) (after : Machine)
-        → Answered contexts m line (Step.Call ctx (GuestCall.Read stream len)) entries
+        → Answered contexts m line (Step.Call ctx (GuestCall.Stream (StreamCall.Read stream len))) entries
         (Reply.Failed word handle) after → MarksItsSocket m (own_of line) stream (input_at m stream)
         entries }
     ensures check { (contexts : List WasiSocketsCtx) (m : Machine) (line ctx stream : ℕ)
         (entries : List Entry) (word : CodeWord) (handle : ℕ) (after : Machine)
-        → Answered contexts m line (Step.Call ctx (GuestCall.CheckWrite stream)) entries
+        → Answered contexts m line (Step.Call ctx (GuestCall.Stream (StreamCall.CheckWrite stream))) entries
         (Reply.Failed word handle) after → MarksItsSocket m (own_of line) stream
         (output_at m stream) entries }
     ensures write { (contexts : List WasiSocketsCtx) (m : Machine) (line ctx stream : ℕ)
         (bytes : List ℕ) (entries : List Entry) (word : CodeWord) (handle : ℕ) (after : Machine)
-        → Answered contexts m line (Step.Call ctx (GuestCall.Write stream bytes)) entries
+        → Answered contexts m line (Step.Call ctx (GuestCall.Stream (StreamCall.Write stream bytes))) entries
         (Reply.Failed word handle) after → MarksItsSocket m (own_of line) stream
         (output_at m stream) entries }
     ensures flush { (contexts : List WasiSocketsCtx) (m : Machine) (line ctx stream : ℕ)
         (entries : List Entry) (word : CodeWord) (handle : ℕ) (after : Machine)
-        → Answered contexts m line (Step.Call ctx (GuestCall.Flush stream)) entries
+        → Answered contexts m line (Step.Call ctx (GuestCall.Stream (StreamCall.Flush stream))) entries
         (Reply.Failed word handle) after
         → MarksItsSocket m (own_of line) stream (output_at m stream) entries }
 {}
@@ -133,14 +135,14 @@ pub fn errors_are_marked_with_their_socket()
 pub fn permits_have_causes()
     ensures permits { (contexts : List WasiSocketsCtx) (m : Machine) (line ctx output n : ℕ)
         (entries : List Entry) (after : Machine)
-        → Answered contexts m line (Step.Call ctx (GuestCall.CheckWrite output)) entries
+        → Answered contexts m line (Step.Call ctx (GuestCall.Stream (StreamCall.CheckWrite output))) entries
         (Reply.Ok (number_fields n)) after
         → OfStreams m (output_at m output)
         (λ place r s. Permits (own_of line) s.writer (most_of m.store r) n entries)
         ⊎ IsSomeAnd (plain_output_at m output) (λ o. PermitsPlain m o n) }
     ensures none { (contexts : List WasiSocketsCtx) (m : Machine) (line ctx output : ℕ)
         (entries : List Entry) (after : Machine)
-        → Answered contexts m line (Step.Call ctx (GuestCall.CheckWrite output)) entries
+        → Answered contexts m line (Step.Call ctx (GuestCall.Stream (StreamCall.CheckWrite output))) entries
         (Reply.Ok (number_fields 0)) after
         → OfStreams m (output_at m output)
         (λ place r s. PermitsNone m.store r (own_of line) s.writer entries) }
@@ -156,13 +158,13 @@ pub fn writes_past_the_permit_trap()
     ensures exactly { (contexts : List WasiSocketsCtx) (m : Machine) (line ctx output : ℕ)
         (bytes : List ℕ) (entries : List Entry) (reply : Reply) (after : Machine)
         → m.store.standing ≡ None
-        → Answered contexts m line (Step.Call ctx (GuestCall.Write output bytes)) entries reply
+        → Answered contexts m line (Step.Call ctx (GuestCall.Stream (StreamCall.Write output bytes))) entries reply
         after
         → (reply ≡ Reply.Trap TrapKind.NotPermitted)
         ↔ IsSomeAnd (output_streams m output) (λ s. IsUnpermitted s.writer (length bytes)) }
     ensures stays { (contexts : List WasiSocketsCtx) (m : Machine) (line ctx output : ℕ)
         (bytes : List ℕ) (entries : List Entry) (after : Machine)
-        → Answered contexts m line (Step.Call ctx (GuestCall.Write output bytes)) entries
+        → Answered contexts m line (Step.Call ctx (GuestCall.Stream (StreamCall.Write output bytes))) entries
         (Reply.Trap TrapKind.NotPermitted) after → (entries ≡ []) × (after ≡ m) }
 {}
 
@@ -175,12 +177,12 @@ pub fn writes_past_the_capacity_trap()
     ensures exactly { (contexts : List WasiSocketsCtx) (m : Machine) (line ctx output : ℕ)
         (bytes : List ℕ) (entries : List Entry) (reply : Reply) (after : Machine)
         → m.store.standing ≡ None
-        → Answered contexts m line (Step.Call ctx (GuestCall.Write output bytes)) entries reply
+        → Answered contexts m line (Step.Call ctx (GuestCall.Stream (StreamCall.Write output bytes))) entries reply
         after
         → PastCapacity m output (length bytes) reply }
     ensures stays { (contexts : List WasiSocketsCtx) (m : Machine) (line ctx output : ℕ)
         (bytes : List ℕ) (entries : List Entry) (after : Machine)
-        → Answered contexts m line (Step.Call ctx (GuestCall.Write output bytes)) entries
+        → Answered contexts m line (Step.Call ctx (GuestCall.Stream (StreamCall.Write output bytes))) entries
         (Reply.Trap TrapKind.Capacity) after → (entries ≡ []) × (after ≡ m) }
 {}
 
@@ -195,25 +197,25 @@ pub fn writes_past_the_capacity_trap()
 pub fn flushes_tell_the_kept_error()
     ensures done { (contexts : List WasiSocketsCtx) (m : Machine) (line ctx output : ℕ)
         (fields : List Field) (entries : List Entry) (after : Machine)
-        → Answered contexts m line (Step.Call ctx (GuestCall.Flush output)) entries
+        → Answered contexts m line (Step.Call ctx (GuestCall.Stream (StreamCall.Flush output))) entries
         (Reply.Ok fields) after
         → (entries ≡ []) × (after ≡ m) }
     ensures closed { (contexts : List WasiSocketsCtx) (m : Machine) (line ctx output : ℕ)
         (entries : List Entry) (after : Machine)
-        → Answered contexts m line (Step.Call ctx (GuestCall.Flush output)) entries Reply.Closed
+        → Answered contexts m line (Step.Call ctx (GuestCall.Stream (StreamCall.Flush output))) entries Reply.Closed
         after
         → (OfStreams m (output_at m output) (λ place r s. IsGivenUp s.writer) × (entries ≡ [])
         × (after ≡ m)) ⊎ EndsOutput m output entries after }
     ensures failed { (contexts : List WasiSocketsCtx) (m : Machine) (line ctx output : ℕ)
         (entries : List Entry) (word : CodeWord) (handle : ℕ) (after : Machine)
-        → Answered contexts m line (Step.Call ctx (GuestCall.Flush output)) entries
+        → Answered contexts m line (Step.Call ctx (GuestCall.Stream (StreamCall.Flush output))) entries
         (Reply.Failed word handle) after
         → OfStreams m (output_at m output) (λ place r s. FailsWith m (own_of line) output
         (WasClosedWith s.writer) entries word handle) × (after ≡ with_error m) }
     ensures plain { (contexts : List WasiSocketsCtx) (m : Machine) (line ctx output : ℕ)
         (entries : List Entry) (reply : Reply) (after : Machine)
         → m.store.standing ≡ None
-        → Answered contexts m line (Step.Call ctx (GuestCall.Flush output)) entries reply after
+        → Answered contexts m line (Step.Call ctx (GuestCall.Stream (StreamCall.Flush output))) entries reply after
         → PlainFlush m output entries reply after }
 {}
 
@@ -226,14 +228,14 @@ pub fn flushes_tell_the_kept_error()
 pub fn checks_tell_the_kept_error()
     ensures closed { (contexts : List WasiSocketsCtx) (m : Machine) (line ctx output : ℕ)
         (entries : List Entry) (after : Machine)
-        → Answered contexts m line (Step.Call ctx (GuestCall.CheckWrite output)) entries
+        → Answered contexts m line (Step.Call ctx (GuestCall.Stream (StreamCall.CheckWrite output))) entries
         Reply.Closed after
         → OfStreams m (output_at m output) (λ place r s. CheckFails WriteError.Closed s.writer
         entries × (after ≡ closing_writer m place r s WriteError.Closed))
         ⊎ EndsCheck m output entries after }
     ensures failed { (contexts : List WasiSocketsCtx) (m : Machine) (line ctx output : ℕ)
         (entries : List Entry) (word : CodeWord) (handle : ℕ) (after : Machine)
-        → Answered contexts m line (Step.Call ctx (GuestCall.CheckWrite output)) entries
+        → Answered contexts m line (Step.Call ctx (GuestCall.Stream (StreamCall.CheckWrite output))) entries
         (Reply.Failed word handle) after
         → OfStreams m (output_at m output) (λ place r s. FailsWith m (own_of line) output
         (λ c before. CheckFails (WriteError.LastOperationFailed c) s.writer before
@@ -242,7 +244,7 @@ pub fn checks_tell_the_kept_error()
     ensures plain { (contexts : List WasiSocketsCtx) (m : Machine) (line ctx output : ℕ)
         (entries : List Entry) (reply : Reply) (after : Machine)
         → m.store.standing ≡ None
-        → Answered contexts m line (Step.Call ctx (GuestCall.CheckWrite output)) entries reply after
+        → Answered contexts m line (Step.Call ctx (GuestCall.Stream (StreamCall.CheckWrite output))) entries reply after
         → PlainCheck m output entries reply after }
 {}
 
@@ -258,14 +260,14 @@ pub fn checks_tell_the_kept_error()
 pub fn writes_tell_their_error()
     ensures closed { (contexts : List WasiSocketsCtx) (m : Machine) (line ctx output : ℕ)
         (bytes : List ℕ) (entries : List Entry) (after : Machine)
-        → Answered contexts m line (Step.Call ctx (GuestCall.Write output bytes)) entries
+        → Answered contexts m line (Step.Call ctx (GuestCall.Stream (StreamCall.Write output bytes))) entries
         Reply.Closed after
         → OfStreams m (output_at m output) (λ place r s. WriteFails (own_of line) WriteError.Closed
         s.writer entries × (after ≡ closing_writer m place r s WriteError.Closed))
         ⊎ EndsOutput m output entries after }
     ensures failed { (contexts : List WasiSocketsCtx) (m : Machine) (line ctx output : ℕ)
         (bytes : List ℕ) (entries : List Entry) (word : CodeWord) (handle : ℕ) (after : Machine)
-        → Answered contexts m line (Step.Call ctx (GuestCall.Write output bytes)) entries
+        → Answered contexts m line (Step.Call ctx (GuestCall.Stream (StreamCall.Write output bytes))) entries
         (Reply.Failed word handle) after
         → OfStreams m (output_at m output) (λ place r s. FailsWith m (own_of line) output
         (λ c before. WriteFails (own_of line) (WriteError.LastOperationFailed c) s.writer before
@@ -274,12 +276,12 @@ pub fn writes_tell_their_error()
     ensures plain { (contexts : List WasiSocketsCtx) (m : Machine) (line ctx output : ℕ)
         (bytes : List ℕ) (entries : List Entry) (reply : Reply) (after : Machine)
         → m.store.standing ≡ None
-        → Answered contexts m line (Step.Call ctx (GuestCall.Write output bytes)) entries reply
+        → Answered contexts m line (Step.Call ctx (GuestCall.Stream (StreamCall.Write output bytes))) entries reply
         after
         → PlainWrite m output entries reply }
     ensures taken { (contexts : List WasiSocketsCtx) (m : Machine) (line ctx output : ℕ)
         (bytes : List ℕ) (fields : List Field) (entries : List Entry) (after : Machine)
-        → Answered contexts m line (Step.Call ctx (GuestCall.Write output bytes)) entries
+        → Answered contexts m line (Step.Call ctx (GuestCall.Stream (StreamCall.Write output bytes))) entries
         (Reply.Ok fields) after
         → IfSome (plain_output_at m output) (λ o. WritesPlain m o bytes after) }
 {}
@@ -293,29 +295,29 @@ pub fn writes_tell_their_error()
 pub fn pipes_are_made()
     ensures pipe_in { (contexts : List WasiSocketsCtx) (m : Machine) (line ctx : ℕ) (bytes : List ℕ)
         (fields : List Field) (entries : List Entry) (after : Machine)
-        → Answered contexts m line (Step.Call ctx (GuestCall.PipeIn bytes)) entries
+        → Answered contexts m line (Step.Call ctx (GuestCall.Pipe (PipeCall.In bytes))) entries
         (Reply.Ok fields) after
         → MakesPlain m line (Kind.PlainInput (PlainInput.Pipe (length m.store.records)))
         (with_record_more m.store (Record.InputPipe bytes)) entries fields after }
     ensures pipe_out { (contexts : List WasiSocketsCtx) (m : Machine) (line ctx capacity : ℕ)
         (fields : List Field) (entries : List Entry) (after : Machine)
-        → Answered contexts m line (Step.Call ctx (GuestCall.PipeOut capacity)) entries
+        → Answered contexts m line (Step.Call ctx (GuestCall.Pipe (PipeCall.Out capacity))) entries
         (Reply.Ok fields) after
         → MakesPlain m line (Kind.PlainOutput (PlainOutput.Pipe (length m.store.records)))
         (with_record_more m.store (Record.OutputPipe (no_contents capacity))) entries fields
         after }
     ensures sink { (contexts : List WasiSocketsCtx) (m : Machine) (line ctx : ℕ)
         (fields : List Field) (entries : List Entry) (after : Machine)
-        → Answered contexts m line (Step.Call ctx GuestCall.Sink) entries (Reply.Ok fields) after
+        → Answered contexts m line (Step.Call ctx (GuestCall.Pipe PipeCall.Sink)) entries (Reply.Ok fields) after
         → MakesPlain m line (Kind.PlainOutput PlainOutput.Sink) m.store entries fields after }
     ensures closed_in { (contexts : List WasiSocketsCtx) (m : Machine) (line ctx : ℕ)
         (fields : List Field) (entries : List Entry) (after : Machine)
-        → Answered contexts m line (Step.Call ctx GuestCall.ClosedIn) entries (Reply.Ok fields)
+        → Answered contexts m line (Step.Call ctx (GuestCall.Pipe PipeCall.ClosedIn)) entries (Reply.Ok fields)
         after
         → MakesPlain m line (Kind.PlainInput PlainInput.Closed) m.store entries fields after }
     ensures closed_out { (contexts : List WasiSocketsCtx) (m : Machine) (line ctx : ℕ)
         (fields : List Field) (entries : List Entry) (after : Machine)
-        → Answered contexts m line (Step.Call ctx GuestCall.ClosedOut) entries (Reply.Ok fields)
+        → Answered contexts m line (Step.Call ctx (GuestCall.Pipe PipeCall.ClosedOut)) entries (Reply.Ok fields)
         after
         → MakesPlain m line (Kind.PlainOutput PlainOutput.Closed) m.store entries fields after }
     ensures full { (contexts : List WasiSocketsCtx) (m : Machine) (line : ℕ) (s : Step)
@@ -333,19 +335,19 @@ pub fn pipes_are_made()
 pub fn contents_are_told()
     ensures told { (contexts : List WasiSocketsCtx) (m : Machine) (line ctx output : ℕ)
         (fields : List Field) (entries : List Entry) (after : Machine)
-        → Answered contexts m line (Step.Call ctx (GuestCall.PipeContents output)) entries
+        → Answered contexts m line (Step.Call ctx (GuestCall.Pipe (PipeCall.Contents output))) entries
         (Reply.Ok fields) after
         → OfOutputPipe m output (λ place pipe. fields ≡ bytes_fields pipe.held) }
     ensures exactly { (contexts : List WasiSocketsCtx) (m : Machine) (line ctx output : ℕ)
         (entries : List Entry) (reply : Reply) (after : Machine)
         → m.store.standing ≡ None
-        → Answered contexts m line (Step.Call ctx (GuestCall.PipeContents output)) entries reply
+        → Answered contexts m line (Step.Call ctx (GuestCall.Pipe (PipeCall.Contents output))) entries reply
         after
         → (reply ≡ Reply.Trap TrapKind.NoSuchHandle)
         ↔ (pipe_of m (plain_output_at m output) ≡ None) }
     ensures quiet { (contexts : List WasiSocketsCtx) (m : Machine) (line ctx output : ℕ)
         (entries : List Entry) (reply : Reply) (after : Machine)
-        → Answered contexts m line (Step.Call ctx (GuestCall.PipeContents output)) entries reply
+        → Answered contexts m line (Step.Call ctx (GuestCall.Pipe (PipeCall.Contents output))) entries reply
         after
         → (entries ≡ []) × (after ≡ m) }
 {}
@@ -356,7 +358,7 @@ pub fn skips_are_reads()
     ensures { (contexts : List WasiSocketsCtx) (m : Machine) (line ctx input len : ℕ)
         (entries : List Entry) (reply : Reply) (after : Machine)
         → m.store.standing ≡ None
-        → Answered contexts m line (Step.Call ctx (GuestCall.Skip input len)) entries reply after
+        → Answered contexts m line (Step.Call ctx (GuestCall.Stream (StreamCall.Skip input len))) entries reply after
         → Skips contexts m line ctx input len entries reply after }
 {}
 
@@ -365,9 +367,9 @@ pub fn zeros_are_written()
     ensures { (contexts : List WasiSocketsCtx) (m : Machine) (line ctx output len : ℕ)
         (entries : List Entry) (reply : Reply) (after : Machine)
         → m.store.standing ≡ None
-        → Answered contexts m line (Step.Call ctx (GuestCall.WriteZeroes output len)) entries reply
+        → Answered contexts m line (Step.Call ctx (GuestCall.Stream (StreamCall.WriteZeroes output len))) entries reply
         after
-        → Answered contexts m line (Step.Call ctx (GuestCall.Write output (zeros len))) entries
+        → Answered contexts m line (Step.Call ctx (GuestCall.Stream (StreamCall.Write output (zeros len)))) entries
         reply after }
 {}
 
@@ -378,7 +380,7 @@ pub fn splices_are_their_parts()
     ensures { (contexts : List WasiSocketsCtx) (m : Machine) (line ctx to from len : ℕ)
         (entries : List Entry) (reply : Reply) (after : Machine)
         → m.store.standing ≡ None
-        → Answered contexts m line (Step.Call ctx (GuestCall.Splice to from len)) entries reply
+        → Answered contexts m line (Step.Call ctx (GuestCall.Stream (StreamCall.Splice to from len))) entries reply
         after
         → Splices contexts m line ctx to from len entries reply after }
 {}

@@ -16,6 +16,7 @@ ghost use Rattle.wasi_steps.specs.declared.reply.CodeWord.{CodeWord};
 ghost use Rattle.wasi_steps.specs.declared.reply.Field.{Field};
 ghost use Rattle.wasi_steps.specs.declared.reply.Reply.{Reply};
 ghost use Rattle.wasi_steps.specs.declared.guest_call.GuestCall.{GuestCall};
+ghost use Rattle.wasi_steps.specs.declared.guest_call.TcpCall.{TcpCall};
 ghost use Rattle.wasi_steps.specs.declared.step.Step.{Step};
 ghost use Rattle.wasi_walks.specs.Answered.{Answered, ConnectsAt, FinishRefusal};
 ghost use Rattle.wasi_walks.specs.Answered.{HasNoBindInProgress, HasNoConnectInProgress};
@@ -30,7 +31,7 @@ ghost use Rattle.wasi_machine.specs.Machine.{context_at, run};
 ghost use Rattle.host_store.specs.Limits.{with_limit};
 ghost use Rattle.host_store.specs.Machine.{first_state, own_of, socket_at};
 ghost use Rattle.host_tcp.specs.Creates.{with_room};
-ghost use Rattle.wasi_records.specs.Shutdowns.{with_streams};
+ghost use Rattle.tcp_records.specs.Shutdowns.{with_streams};
 ghost use Rattle.host_store.specs.Kinds.{is_network, kind_at};
 ghost use Rattle.wasi_walks.specs.Waiting.{WatchesConnect};
 ghost use Rattle.host_store.specs.Store.{with_record};
@@ -46,23 +47,23 @@ ghost use Rattle.wasi_table.specs.Table.{is_full};
 pub fn finish_bind_refusals()
     ensures asks_nothing { (contexts : List WasiSocketsCtx) (m : Machine) (line ctx handle : ℕ)
         (entries : List Entry) (reply : Reply) (after : Machine)
-        → Answered contexts m line (Step.Call ctx (GuestCall.TcpFinishBind handle)) entries reply
+        → Answered contexts m line (Step.Call ctx (GuestCall.Tcp (TcpCall.FinishBind handle))) entries reply
         after
         → entries ≡ [] }
     ensures exactly { (contexts : List WasiSocketsCtx) (m : Machine) (line ctx handle : ℕ)
         (entries : List Entry) (reply : Reply) (after : Machine)
         → m.store.standing ≡ None
-        → Answered contexts m line (Step.Call ctx (GuestCall.TcpFinishBind handle)) entries reply
+        → Answered contexts m line (Step.Call ctx (GuestCall.Tcp (TcpCall.FinishBind handle))) entries reply
         after
         → (reply ≡ Reply.Err CodeWord.NotInProgress) ↔ HasNoBindInProgress (record_at m handle) }
     ensures no_other { (contexts : List WasiSocketsCtx) (m : Machine) (line ctx handle : ℕ)
         (entries : List Entry) (word : CodeWord) (after : Machine)
-        → Answered contexts m line (Step.Call ctx (GuestCall.TcpFinishBind handle)) entries
+        → Answered contexts m line (Step.Call ctx (GuestCall.Tcp (TcpCall.FinishBind handle))) entries
         (Reply.Err word) after
         → word ≡ CodeWord.NotInProgress }
     ensures stays { (contexts : List WasiSocketsCtx) (m : Machine) (line ctx handle : ℕ)
         (entries : List Entry) (word : CodeWord) (after : Machine)
-        → Answered contexts m line (Step.Call ctx (GuestCall.TcpFinishBind handle)) entries
+        → Answered contexts m line (Step.Call ctx (GuestCall.Tcp (TcpCall.FinishBind handle))) entries
         (Reply.Err word) after
         → after ≡ m }
 {}
@@ -75,12 +76,12 @@ pub fn finish_bind_refusals()
 pub fn create_refusals()
     ensures cause { (contexts : List WasiSocketsCtx) (m : Machine) (line ctx : ℕ)
         (family : SocketAddressFamily) (entries : List Entry) (word : CodeWord) (after : Machine)
-        → Answered contexts m line (Step.Call ctx (GuestCall.TcpCreate family)) entries
+        → Answered contexts m line (Step.Call ctx (GuestCall.Tcp (TcpCall.Create family))) entries
         (Reply.Err word) after
         → CreateRefusal (own_of line) (context_at contexts ctx) family entries word }
     ensures stays { (contexts : List WasiSocketsCtx) (m : Machine) (line ctx : ℕ)
         (family : SocketAddressFamily) (entries : List Entry) (word : CodeWord) (after : Machine)
-        → Answered contexts m line (Step.Call ctx (GuestCall.TcpCreate family)) entries
+        → Answered contexts m line (Step.Call ctx (GuestCall.Tcp (TcpCall.Create family))) entries
         (Reply.Err word) after
         → after ≡ with_room m (context_at contexts ctx) }
 {}
@@ -94,17 +95,17 @@ pub fn create_refusals()
 pub fn create_full()
     ensures full { (contexts : List WasiSocketsCtx) (m : Machine) (line ctx : ℕ)
         (family : SocketAddressFamily) (entries : List Entry) (after : Machine)
-        → Answered contexts m line (Step.Call ctx (GuestCall.TcpCreate family)) entries
+        → Answered contexts m line (Step.Call ctx (GuestCall.Tcp (TcpCall.Create family))) entries
         (Reply.Trap TrapKind.Full) after → is_full m.table ≡ true }
     ensures asked { (contexts : List WasiSocketsCtx) (m : Machine) (line ctx : ℕ)
         (family : SocketAddressFamily) (entries : List Entry) (after : Machine)
-        → Answered contexts m line (Step.Call ctx (GuestCall.TcpCreate family)) entries
+        → Answered contexts m line (Step.Call ctx (GuestCall.Tcp (TcpCall.Create family))) entries
         (Reply.Trap TrapKind.Full) after
         → entries ≡ entry (own_of line) (Call.TcpCreate (context_at contexts ctx).name family)
         Told.Done ∷ [] }
     ensures left { (contexts : List WasiSocketsCtx) (m : Machine) (line ctx : ℕ)
         (family : SocketAddressFamily) (entries : List Entry) (after : Machine)
-        → Answered contexts m line (Step.Call ctx (GuestCall.TcpCreate family)) entries
+        → Answered contexts m line (Step.Call ctx (GuestCall.Tcp (TcpCall.Create family))) entries
         (Reply.Trap TrapKind.Full) after
         → after ≡ record m {
           store = with_record (with_limit m.store (context_at contexts ctx))
@@ -124,18 +125,18 @@ pub fn bind_refusals()
     ensures exactly { (contexts : List WasiSocketsCtx) (m : Machine) (line ctx handle network : ℕ)
         (a : IpSocketAddress) (entries : List Entry) (reply : Reply) (after : Machine)
         → m.store.standing ≡ None → is_network (kind_at m.table network) ≡ true
-        → Answered contexts m line (Step.Call ctx (GuestCall.TcpStartBind handle network a)) entries
+        → Answered contexts m line (Step.Call ctx (GuestCall.Tcp (TcpCall.StartBind handle network a))) entries
         reply after
         → (reply ≡ Reply.Err CodeWord.ConcurrencyConflict)
         ↔ HasOperationInProgress (record_at m handle) }
     ensures cause { (contexts : List WasiSocketsCtx) (m : Machine) (line ctx handle network : ℕ)
         (a : IpSocketAddress) (entries : List Entry) (word : CodeWord) (after : Machine)
-        → Answered contexts m line (Step.Call ctx (GuestCall.TcpStartBind handle network a)) entries
+        → Answered contexts m line (Step.Call ctx (GuestCall.Tcp (TcpCall.StartBind handle network a))) entries
         (Reply.Err word) after
         → RefusedBind m (own_of line) handle a entries word after }
     ensures stays { (contexts : List WasiSocketsCtx) (m : Machine) (line ctx handle network : ℕ)
         (a : IpSocketAddress) (entries : List Entry) (word : CodeWord) (after : Machine)
-        → Answered contexts m line (Step.Call ctx (GuestCall.TcpStartBind handle network a)) entries
+        → Answered contexts m line (Step.Call ctx (GuestCall.Tcp (TcpCall.StartBind handle network a))) entries
         (Reply.Err word) after
         → (after ≡ m) ⊎ ((word ≡ CodeWord.InvalidState) × KnowsBound m handle after) }
 {}
@@ -151,18 +152,18 @@ pub fn start_connect_refusals()
     ensures exactly { (contexts : List WasiSocketsCtx) (m : Machine) (line ctx handle network : ℕ)
         (a : IpSocketAddress) (entries : List Entry) (reply : Reply) (after : Machine)
         → m.store.standing ≡ None → is_network (kind_at m.table network) ≡ true
-        → Answered contexts m line (Step.Call ctx (GuestCall.TcpStartConnect handle network a))
+        → Answered contexts m line (Step.Call ctx (GuestCall.Tcp (TcpCall.StartConnect handle network a)))
         entries reply after
         → (reply ≡ Reply.Err CodeWord.ConcurrencyConflict)
         ↔ HasOperationInProgress (record_at m handle) }
     ensures cause { (contexts : List WasiSocketsCtx) (m : Machine) (line ctx handle network : ℕ)
         (a : IpSocketAddress) (entries : List Entry) (word : CodeWord) (after : Machine)
-        → Answered contexts m line (Step.Call ctx (GuestCall.TcpStartConnect handle network a))
+        → Answered contexts m line (Step.Call ctx (GuestCall.Tcp (TcpCall.StartConnect handle network a)))
         entries (Reply.Err word) after
         → RefusedConnect m (own_of line) handle a entries word after }
     ensures stays { (contexts : List WasiSocketsCtx) (m : Machine) (line ctx handle network : ℕ)
         (a : IpSocketAddress) (entries : List Entry) (word : CodeWord) (after : Machine)
-        → Answered contexts m line (Step.Call ctx (GuestCall.TcpStartConnect handle network a))
+        → Answered contexts m line (Step.Call ctx (GuestCall.Tcp (TcpCall.StartConnect handle network a)))
         entries (Reply.Err word) after
         → (after ≡ m) ⊎ ((word ≡ CodeWord.InvalidArgument) × KnowsBound m handle after) }
 {}
@@ -183,24 +184,24 @@ pub fn finish_connect_refusals()
     ensures exactly { (contexts : List WasiSocketsCtx) (m : Machine) (line ctx handle : ℕ)
         (entries : List Entry) (reply : Reply) (after : Machine)
         → m.store.standing ≡ None
-        → Answered contexts m line (Step.Call ctx (GuestCall.TcpFinishConnect handle)) entries reply
+        → Answered contexts m line (Step.Call ctx (GuestCall.Tcp (TcpCall.FinishConnect handle))) entries reply
         after
         → (reply ≡ Reply.Err CodeWord.NotInProgress) ↔ HasNoConnectInProgress (record_at m handle) }
     ensures not_in_progress { (contexts : List WasiSocketsCtx) (m : Machine) (line ctx handle : ℕ)
         (entries : List Entry) (after : Machine)
-        → Answered contexts m line (Step.Call ctx (GuestCall.TcpFinishConnect handle)) entries
+        → Answered contexts m line (Step.Call ctx (GuestCall.Tcp (TcpCall.FinishConnect handle))) entries
         (Reply.Err CodeWord.NotInProgress) after → (entries ≡ []) × (after ≡ m) }
     ensures cause { (contexts : List WasiSocketsCtx) (m : Machine) (line ctx handle : ℕ)
         (entries : List Entry) (word : CodeWord) (after : Machine)
         → ConnectsAt m handle → FinishesAt m handle
-        → Answered contexts m line (Step.Call ctx (GuestCall.TcpFinishConnect handle)) entries
+        → Answered contexts m line (Step.Call ctx (GuestCall.Tcp (TcpCall.FinishConnect handle))) entries
         (Reply.Err word) after
         → RefusedOf m handle (FinishRefusal m) entries word after }
     ensures in_runs { (contexts : List WasiSocketsCtx) (steps : List Step) (log : List Entry)
         (replies : List Reply) (m : Machine) (line ctx handle : ℕ) (entries : List Entry)
         (word : CodeWord) (after : Machine)
         → Left (run contexts [] first_state 1 steps) log (Give (replies, m))
-        → Answered contexts m line (Step.Call ctx (GuestCall.TcpFinishConnect handle)) entries
+        → Answered contexts m line (Step.Call ctx (GuestCall.Tcp (TcpCall.FinishConnect handle))) entries
         (Reply.Err word) after
         → RefusedOf m handle (FinishRefusal m) entries word after }
 {}
@@ -230,12 +231,12 @@ pub fn runs_connect_by_connects()
 pub fn local_address_refusals()
     ensures cause { (contexts : List WasiSocketsCtx) (m : Machine) (line ctx handle : ℕ)
         (entries : List Entry) (word : CodeWord) (after : Machine)
-        → Answered contexts m line (Step.Call ctx (GuestCall.TcpLocalAddress handle)) entries
+        → Answered contexts m line (Step.Call ctx (GuestCall.Tcp (TcpCall.LocalAddress handle))) entries
         (Reply.Err word) after
         → RefusedOf m handle (LocalRefusal m (own_of line)) entries word after }
     ensures stays { (contexts : List WasiSocketsCtx) (m : Machine) (line ctx handle : ℕ)
         (entries : List Entry) (word : CodeWord) (after : Machine)
-        → Answered contexts m line (Step.Call ctx (GuestCall.TcpLocalAddress handle)) entries
+        → Answered contexts m line (Step.Call ctx (GuestCall.Tcp (TcpCall.LocalAddress handle))) entries
         (Reply.Err word) after
         → (after ≡ m) ⊎ KnowsBound m handle after }
 {}
@@ -248,12 +249,12 @@ pub fn local_address_refusals()
 pub fn remote_address_refusals()
     ensures cause { (contexts : List WasiSocketsCtx) (m : Machine) (line ctx handle : ℕ)
         (entries : List Entry) (word : CodeWord) (after : Machine)
-        → Answered contexts m line (Step.Call ctx (GuestCall.TcpRemoteAddress handle)) entries
+        → Answered contexts m line (Step.Call ctx (GuestCall.Tcp (TcpCall.RemoteAddress handle))) entries
         (Reply.Err word) after
         → RefusedOf m handle (RemoteRefusal m (own_of line)) entries word after }
     ensures stays { (contexts : List WasiSocketsCtx) (m : Machine) (line ctx handle : ℕ)
         (entries : List Entry) (word : CodeWord) (after : Machine)
-        → Answered contexts m line (Step.Call ctx (GuestCall.TcpRemoteAddress handle)) entries
+        → Answered contexts m line (Step.Call ctx (GuestCall.Tcp (TcpCall.RemoteAddress handle))) entries
         (Reply.Err word) after
         → after ≡ m }
 {}
@@ -284,28 +285,28 @@ pub fn shutdown_refusals()
     ensures exactly { (contexts : List WasiSocketsCtx) (m : Machine) (line ctx handle : ℕ)
         (how : ShutdownType) (entries : List Entry) (reply : Reply) (after : Machine)
         → m.store.standing ≡ None
-        → Answered contexts m line (Step.Call ctx (GuestCall.TcpShutdown handle how)) entries reply
+        → Answered contexts m line (Step.Call ctx (GuestCall.Tcp (TcpCall.Shutdown handle how))) entries reply
         after
         → (reply ≡ Reply.Err CodeWord.InvalidState) ↔ HasNoStreams (record_at m handle) }
     ensures no_other { (contexts : List WasiSocketsCtx) (m : Machine) (line ctx handle : ℕ)
         (how : ShutdownType) (entries : List Entry) (word : CodeWord) (after : Machine)
-        → Answered contexts m line (Step.Call ctx (GuestCall.TcpShutdown handle how)) entries
+        → Answered contexts m line (Step.Call ctx (GuestCall.Tcp (TcpCall.Shutdown handle how))) entries
         (Reply.Err word) after
         → word ≡ CodeWord.InvalidState }
     ensures stays { (contexts : List WasiSocketsCtx) (m : Machine) (line ctx handle : ℕ)
         (how : ShutdownType) (entries : List Entry) (word : CodeWord) (after : Machine)
-        → Answered contexts m line (Step.Call ctx (GuestCall.TcpShutdown handle how)) entries
+        → Answered contexts m line (Step.Call ctx (GuestCall.Tcp (TcpCall.Shutdown handle how))) entries
         (Reply.Err word) after
         → (entries ≡ []) × (after ≡ m) }
     ensures asked { (contexts : List WasiSocketsCtx) (m : Machine) (line ctx handle : ℕ)
         (how : ShutdownType) (fields : List Field) (entries : List Entry) (after : Machine)
-        → Answered contexts m line (Step.Call ctx (GuestCall.TcpShutdown handle how)) entries
+        → Answered contexts m line (Step.Call ctx (GuestCall.Tcp (TcpCall.Shutdown handle how))) entries
         (Reply.Ok fields) after
         → OfStreams m (socket_at m handle) (λ place r s. entries
         ≡ shutdown_entries (own_of line) how s) }
     ensures left { (contexts : List WasiSocketsCtx) (m : Machine) (line ctx handle : ℕ)
         (how : ShutdownType) (fields : List Field) (entries : List Entry) (after : Machine)
-        → Answered contexts m line (Step.Call ctx (GuestCall.TcpShutdown handle how)) entries
+        → Answered contexts m line (Step.Call ctx (GuestCall.Tcp (TcpCall.Shutdown handle how))) entries
         (Reply.Ok fields) after
         → OfStreams m (socket_at m handle) (λ place r s. after
         ≡ putting m place (with_streams r (shut_down how s))) }

@@ -10,7 +10,7 @@ ghost use Rattle.wasi_world.specs.declared.outcome.TrapKind.{TrapKind};
 ghost use Rattle.wasi_world.specs.declared.outcome.WasiSocketsCtx.{WasiSocketsCtx};
 ghost use Rattle.host_store.specs.declared.kind.Kind.{Kind};
 ghost use Rattle.host_store.specs.declared.machine.Machine.{Machine};
-ghost use Rattle.wasi_records.specs.declared.udp.UdpRecord.{UdpRecord};
+ghost use Rattle.udp_records.specs.declared.udp.UdpRecord.{UdpRecord};
 ghost use Rattle.host_store.specs.Beside.{beside_of};
 ghost use Rattle.host_store.specs.Kinds.{is_network, kind_at};
 ghost use Rattle.host_store.specs.Machine.{own_of};
@@ -23,6 +23,8 @@ ghost use Rattle.wasi_steps.specs.declared.reply.Reply.TheVariants as Reply;
 ghost use Rattle.wasi_steps.specs.declared.setting.UdpOption.{UdpOption};
 ghost use Rattle.wasi_steps.specs.declared.setting.UdpSetting.{UdpSetting};
 ghost use Rattle.wasi_steps.specs.declared.guest_call.GuestCall.TheVariants as GuestCall;
+ghost use Rattle.wasi_steps.specs.declared.guest_call.UdpCall.TheVariants as UdpCall;
+ghost use Rattle.wasi_steps.specs.declared.guest_call.PollableCall.TheVariants as PollableCall;
 ghost use Rattle.wasi_steps.specs.declared.step.Step.TheVariants as Step;
 ghost use Rattle.wasi_steps.specs.Reply.{family_fields, no_fields, truth_fields};
 ghost use Rattle.wasi_steps.specs.Settings.{udp_opt};
@@ -50,7 +52,7 @@ ghost use Rattle.wasi_causes.specs.Udp.{udp_left, GivesBy, MakesOneHandle};
 pub fn udp_create_refusals()
     ensures cause { (contexts : List WasiSocketsCtx) (m : Machine) (line ctx : ℕ)
         (family : SocketAddressFamily) (entries : List Entry) (word : CodeWord) (after : Machine)
-        → Answered contexts m line (Step.Call ctx (GuestCall.UdpCreate family)) entries
+        → Answered contexts m line (Step.Call ctx (GuestCall.Udp (UdpCall.Create family))) entries
         (Reply.Err word) after
         → UdpCreateRefusal m (own_of line) (context_at contexts ctx) family entries word after }
 {}
@@ -68,28 +70,28 @@ pub fn udp_creates_make_a_handle()
     ensures done { (contexts : List WasiSocketsCtx) (m : Machine) (line ctx : ℕ)
         (family : SocketAddressFamily) (fields : List Field) (entries : List Entry)
         (after : Machine)
-        → Answered contexts m line (Step.Call ctx (GuestCall.UdpCreate family)) entries
+        → Answered contexts m line (Step.Call ctx (GuestCall.Udp (UdpCall.Create family))) entries
         (Reply.Ok fields) after
         → CreatesUdp m (own_of line) (context_at contexts ctx) family entries fields after }
     ensures pending { (contexts : List WasiSocketsCtx) (m : Machine) (line ctx : ℕ)
         (family : SocketAddressFamily) (entries : List Entry) (number : ℕ) (after : Machine)
-        → Answered contexts m line (Step.Call ctx (GuestCall.UdpCreate family)) entries
+        → Answered contexts m line (Step.Call ctx (GuestCall.Udp (UdpCall.Create family))) entries
         (Reply.Pending number) after
         → CreateStands m line (own_of line) (context_at contexts ctx) family entries after }
     ensures full { (contexts : List WasiSocketsCtx) (m : Machine) (line ctx : ℕ)
         (family : SocketAddressFamily) (entries : List Entry) (after : Machine)
-        → Answered contexts m line (Step.Call ctx (GuestCall.UdpCreate family)) entries
+        → Answered contexts m line (Step.Call ctx (GuestCall.Udp (UdpCall.Create family))) entries
         (Reply.Trap TrapKind.Full) after
         → is_full m.table ≡ true }
     ensures asked { (contexts : List WasiSocketsCtx) (m : Machine) (line ctx : ℕ)
         (family : SocketAddressFamily) (entries : List Entry) (after : Machine)
-        → Answered contexts m line (Step.Call ctx (GuestCall.UdpCreate family)) entries
+        → Answered contexts m line (Step.Call ctx (GuestCall.Udp (UdpCall.Create family))) entries
         (Reply.Trap TrapKind.Full) after
         → entries ≡ udp_create_entry (own_of line) (context_at contexts ctx) family Told.Done
         ∷ writable_entry (own_of line) Told.Done ∷ [] }
     ensures left { (contexts : List WasiSocketsCtx) (m : Machine) (line ctx : ℕ)
         (family : SocketAddressFamily) (entries : List Entry) (after : Machine)
-        → Answered contexts m line (Step.Call ctx (GuestCall.UdpCreate family)) entries
+        → Answered contexts m line (Step.Call ctx (GuestCall.Udp (UdpCall.Create family))) entries
         (Reply.Trap TrapKind.Full) after
         → after ≡ with_udp_record m (new_udp (own_of line) (context_at contexts ctx) family) }
 {}
@@ -107,19 +109,19 @@ pub fn udp_bind_refusals()
     ensures exactly { (contexts : List WasiSocketsCtx) (m : Machine) (line ctx handle network : ℕ)
         (a : IpSocketAddress) (entries : List Entry) (reply : Reply) (after : Machine)
         → m.store.standing ≡ None → is_network (kind_at m.table network) ≡ true
-        → Answered contexts m line (Step.Call ctx (GuestCall.UdpStartBind handle network a)) entries
+        → Answered contexts m line (Step.Call ctx (GuestCall.Udp (UdpCall.StartBind handle network a))) entries
         reply after
         → (reply ≡ Reply.Err CodeWord.ConcurrencyConflict)
         ↔ HasUdpInProgress (open_udp_at m handle) }
     ensures cause { (contexts : List WasiSocketsCtx) (m : Machine) (line ctx handle network : ℕ)
         (a : IpSocketAddress) (entries : List Entry) (word : CodeWord) (after : Machine)
-        → Answered contexts m line (Step.Call ctx (GuestCall.UdpStartBind handle network a)) entries
+        → Answered contexts m line (Step.Call ctx (GuestCall.Udp (UdpCall.StartBind handle network a))) entries
         (Reply.Err word) after
         → RefusedOfUdp m handle (λ place o. UdpBindRefusal m (own_of line) place o a) entries word
         after }
     ensures stays { (contexts : List WasiSocketsCtx) (m : Machine) (line ctx handle network : ℕ)
         (a : IpSocketAddress) (entries : List Entry) (word : CodeWord) (after : Machine)
-        → Answered contexts m line (Step.Call ctx (GuestCall.UdpStartBind handle network a)) entries
+        → Answered contexts m line (Step.Call ctx (GuestCall.Udp (UdpCall.StartBind handle network a))) entries
         (Reply.Err word) after
         → (after ≡ m) ⊎ ((word ≡ CodeWord.InvalidState) × KnowsUdpBound m handle after) }
 {}
@@ -132,12 +134,12 @@ pub fn udp_bind_refusals()
 pub fn udp_binds_are_checked()
     ensures done { (contexts : List WasiSocketsCtx) (m : Machine) (line ctx handle network : ℕ)
         (a : IpSocketAddress) (fields : List Field) (entries : List Entry) (after : Machine)
-        → Answered contexts m line (Step.Call ctx (GuestCall.UdpStartBind handle network a)) entries
+        → Answered contexts m line (Step.Call ctx (GuestCall.Udp (UdpCall.StartBind handle network a))) entries
         (Reply.Ok fields) after
         → OfUdp m handle (λ place o. BindsUdp m (own_of line) place o a entries after) }
     ensures pending { (contexts : List WasiSocketsCtx) (m : Machine) (line ctx handle network : ℕ)
         (a : IpSocketAddress) (entries : List Entry) (number : ℕ) (after : Machine)
-        → Answered contexts m line (Step.Call ctx (GuestCall.UdpStartBind handle network a)) entries
+        → Answered contexts m line (Step.Call ctx (GuestCall.Udp (UdpCall.StartBind handle network a))) entries
         (Reply.Pending number) after
         → OfUdp m handle (λ place o. UdpBindStands m line (own_of line) place o a entries after) }
 {}
@@ -153,28 +155,28 @@ pub fn udp_binds_are_checked()
 pub fn udp_finish_bind_refusals()
     ensures asks_nothing { (contexts : List WasiSocketsCtx) (m : Machine) (line ctx handle : ℕ)
         (entries : List Entry) (reply : Reply) (after : Machine)
-        → Answered contexts m line (Step.Call ctx (GuestCall.UdpFinishBind handle)) entries reply
+        → Answered contexts m line (Step.Call ctx (GuestCall.Udp (UdpCall.FinishBind handle))) entries reply
         after
         → entries ≡ [] }
     ensures exactly { (contexts : List WasiSocketsCtx) (m : Machine) (line ctx handle : ℕ)
         (entries : List Entry) (reply : Reply) (after : Machine)
         → m.store.standing ≡ None
-        → Answered contexts m line (Step.Call ctx (GuestCall.UdpFinishBind handle)) entries reply
+        → Answered contexts m line (Step.Call ctx (GuestCall.Udp (UdpCall.FinishBind handle))) entries reply
         after
         → (reply ≡ Reply.Err CodeWord.NotInProgress) ↔ HasNoUdpBind (open_udp_at m handle) }
     ensures no_other { (contexts : List WasiSocketsCtx) (m : Machine) (line ctx handle : ℕ)
         (entries : List Entry) (word : CodeWord) (after : Machine)
-        → Answered contexts m line (Step.Call ctx (GuestCall.UdpFinishBind handle)) entries
+        → Answered contexts m line (Step.Call ctx (GuestCall.Udp (UdpCall.FinishBind handle))) entries
         (Reply.Err word) after
         → word ≡ CodeWord.NotInProgress }
     ensures stays { (contexts : List WasiSocketsCtx) (m : Machine) (line ctx handle : ℕ)
         (entries : List Entry) (word : CodeWord) (after : Machine)
-        → Answered contexts m line (Step.Call ctx (GuestCall.UdpFinishBind handle)) entries
+        → Answered contexts m line (Step.Call ctx (GuestCall.Udp (UdpCall.FinishBind handle))) entries
         (Reply.Err word) after
         → after ≡ m }
     ensures done { (contexts : List WasiSocketsCtx) (m : Machine) (line ctx handle : ℕ)
         (fields : List Field) (entries : List Entry) (after : Machine)
-        → Answered contexts m line (Step.Call ctx (GuestCall.UdpFinishBind handle)) entries
+        → Answered contexts m line (Step.Call ctx (GuestCall.Udp (UdpCall.FinishBind handle))) entries
         (Reply.Ok fields) after
         → OfUdp m handle (λ place o. FinishesUdpBind m place o after) }
 {}
@@ -190,17 +192,17 @@ pub fn udp_finish_bind_refusals()
 pub fn udp_local_address_refusals()
     ensures cause { (contexts : List WasiSocketsCtx) (m : Machine) (line ctx handle : ℕ)
         (entries : List Entry) (word : CodeWord) (after : Machine)
-        → Answered contexts m line (Step.Call ctx (GuestCall.UdpLocalAddress handle)) entries
+        → Answered contexts m line (Step.Call ctx (GuestCall.Udp (UdpCall.LocalAddress handle))) entries
         (Reply.Err word) after
         → RefusedOfUdp m handle (UdpLocalRefusal m (own_of line)) entries word after }
     ensures stays { (contexts : List WasiSocketsCtx) (m : Machine) (line ctx handle : ℕ)
         (entries : List Entry) (word : CodeWord) (after : Machine)
-        → Answered contexts m line (Step.Call ctx (GuestCall.UdpLocalAddress handle)) entries
+        → Answered contexts m line (Step.Call ctx (GuestCall.Udp (UdpCall.LocalAddress handle))) entries
         (Reply.Err word) after
         → (after ≡ m) ⊎ KnowsUdpBound m handle after }
     ensures told { (contexts : List WasiSocketsCtx) (m : Machine) (line ctx handle : ℕ)
         (fields : List Field) (entries : List Entry) (after : Machine)
-        → Answered contexts m line (Step.Call ctx (GuestCall.UdpLocalAddress handle)) entries
+        → Answered contexts m line (Step.Call ctx (GuestCall.Udp (UdpCall.LocalAddress handle))) entries
         (Reply.Ok fields) after
         → OfUdp m handle (λ place o. TellsUdpLocal m (own_of line) place o entries fields after) }
 {}
@@ -216,22 +218,22 @@ pub fn udp_remote_address_refusals()
     ensures exactly { (contexts : List WasiSocketsCtx) (m : Machine) (line ctx handle : ℕ)
         (entries : List Entry) (reply : Reply) (after : Machine)
         → m.store.standing ≡ None
-        → Answered contexts m line (Step.Call ctx (GuestCall.UdpRemoteAddress handle)) entries reply
+        → Answered contexts m line (Step.Call ctx (GuestCall.Udp (UdpCall.RemoteAddress handle))) entries reply
         after
         → (reply ≡ Reply.Err CodeWord.InvalidState) ↔ KeepsNoRemote (open_udp_at m handle) }
     ensures no_other { (contexts : List WasiSocketsCtx) (m : Machine) (line ctx handle : ℕ)
         (entries : List Entry) (word : CodeWord) (after : Machine)
-        → Answered contexts m line (Step.Call ctx (GuestCall.UdpRemoteAddress handle)) entries
+        → Answered contexts m line (Step.Call ctx (GuestCall.Udp (UdpCall.RemoteAddress handle))) entries
         (Reply.Err word) after
         → word ≡ CodeWord.InvalidState }
     ensures quiet { (contexts : List WasiSocketsCtx) (m : Machine) (line ctx handle : ℕ)
         (entries : List Entry) (reply : Reply) (after : Machine)
-        → Answered contexts m line (Step.Call ctx (GuestCall.UdpRemoteAddress handle)) entries reply
+        → Answered contexts m line (Step.Call ctx (GuestCall.Udp (UdpCall.RemoteAddress handle))) entries reply
         after
         → (entries ≡ []) × (after ≡ m) }
     ensures told { (contexts : List WasiSocketsCtx) (m : Machine) (line ctx handle : ℕ)
         (fields : List Field) (entries : List Entry) (after : Machine)
-        → Answered contexts m line (Step.Call ctx (GuestCall.UdpRemoteAddress handle)) entries
+        → Answered contexts m line (Step.Call ctx (GuestCall.Udp (UdpCall.RemoteAddress handle))) entries
         (Reply.Ok fields) after
         → OfUdp m handle (λ place o. TellsUdpRemote o fields) }
 {}
@@ -243,12 +245,12 @@ pub fn udp_remote_address_refusals()
 pub fn udp_family_is_told()
     ensures told { (contexts : List WasiSocketsCtx) (m : Machine) (line ctx handle : ℕ)
         (fields : List Field) (entries : List Entry) (after : Machine)
-        → Answered contexts m line (Step.Call ctx (GuestCall.UdpAddressFamily handle)) entries
+        → Answered contexts m line (Step.Call ctx (GuestCall.Udp (UdpCall.AddressFamily handle))) entries
         (Reply.Ok fields) after
         → OfUdp m handle (λ place o. fields ≡ family_fields o.inner.family) }
     ensures never { (contexts : List WasiSocketsCtx) (m : Machine) (line ctx handle : ℕ)
         (entries : List Entry) (word : CodeWord) (after : Machine)
-        → Answered contexts m line (Step.Call ctx (GuestCall.UdpAddressFamily handle)) entries
+        → Answered contexts m line (Step.Call ctx (GuestCall.Udp (UdpCall.AddressFamily handle))) entries
         (Reply.Err word) after
         → ⊥ }
 {}
@@ -264,21 +266,21 @@ pub fn udp_family_is_told()
 pub fn udp_option_refusals()
     ensures get { (contexts : List WasiSocketsCtx) (m : Machine) (line ctx handle : ℕ)
         (option : UdpOption) (entries : List Entry) (word : CodeWord) (after : Machine)
-        → Answered contexts m line (Step.Call ctx (GuestCall.UdpGet handle option)) entries
+        → Answered contexts m line (Step.Call ctx (GuestCall.Udp (UdpCall.Get handle option))) entries
         (Reply.Err word) after
         → OfUdp m handle (λ place o. UdpGetRefusal (own_of line) (udp_opt option) o entries word) }
     ensures get_stays { (contexts : List WasiSocketsCtx) (m : Machine) (line ctx handle : ℕ)
         (option : UdpOption) (entries : List Entry) (reply : Reply) (after : Machine)
-        → Answered contexts m line (Step.Call ctx (GuestCall.UdpGet handle option)) entries reply
+        → Answered contexts m line (Step.Call ctx (GuestCall.Udp (UdpCall.Get handle option))) entries reply
         after → after ≡ m }
     ensures set { (contexts : List WasiSocketsCtx) (m : Machine) (line ctx handle : ℕ)
         (setting : UdpSetting) (entries : List Entry) (word : CodeWord) (after : Machine)
-        → Answered contexts m line (Step.Call ctx (GuestCall.UdpSet handle setting)) entries
+        → Answered contexts m line (Step.Call ctx (GuestCall.Udp (UdpCall.Set handle setting))) entries
         (Reply.Err word) after
         → OfUdp m handle (λ place o. UdpSetRefusal (own_of line) setting o entries word) }
     ensures set_stays { (contexts : List WasiSocketsCtx) (m : Machine) (line ctx handle : ℕ)
         (setting : UdpSetting) (entries : List Entry) (reply : Reply) (after : Machine)
-        → Answered contexts m line (Step.Call ctx (GuestCall.UdpSet handle setting)) entries reply
+        → Answered contexts m line (Step.Call ctx (GuestCall.Udp (UdpCall.Set handle setting))) entries reply
         after
         → after ≡ m }
 {}
@@ -292,12 +294,12 @@ pub fn udp_option_refusals()
 pub fn udp_options_are_read_and_set()
     ensures read { (contexts : List WasiSocketsCtx) (m : Machine) (line ctx handle : ℕ)
         (option : UdpOption) (fields : List Field) (entries : List Entry) (after : Machine)
-        → Answered contexts m line (Step.Call ctx (GuestCall.UdpGet handle option)) entries
+        → Answered contexts m line (Step.Call ctx (GuestCall.Udp (UdpCall.Get handle option))) entries
         (Reply.Ok fields) after
         → OfUdp m handle (λ place o. GetsUdpOption (own_of line) (udp_opt option) o fields entries) }
     ensures written { (contexts : List WasiSocketsCtx) (m : Machine) (line ctx handle : ℕ)
         (setting : UdpSetting) (fields : List Field) (entries : List Entry) (after : Machine)
-        → Answered contexts m line (Step.Call ctx (GuestCall.UdpSet handle setting)) entries
+        → Answered contexts m line (Step.Call ctx (GuestCall.Udp (UdpCall.Set handle setting))) entries
         (Reply.Ok fields) after
         → OfUdp m handle (λ place o. SetsUdpOption (own_of line) setting o entries) }
 {}
@@ -314,18 +316,18 @@ pub fn udp_drops_close()
         (entries : List Entry) (reply : Reply) (after : Machine)
         → m.store.standing ≡ None → kind_at m.table handle ≡ Some (Kind.Udp2 place)
         → children_of m.table.live handle ≡ []
-        → Answered contexts m line (Step.Call ctx (GuestCall.Drop handle)) entries reply after
+        → Answered contexts m line (Step.Call ctx (GuestCall.Pollable (PollableCall.Drop handle))) entries reply after
         → reply ≡ Reply.Ok no_fields }
     ensures closed { (contexts : List WasiSocketsCtx) (m : Machine) (line ctx handle place : ℕ)
         (u : UdpRecord) (fields : List Field) (entries : List Entry) (after : Machine)
         → kind_at m.table handle ≡ Some (Kind.Udp2 place) → udp2_at m.store.records place ≡ Some u
-        → Answered contexts m line (Step.Call ctx (GuestCall.Drop handle)) entries (Reply.Ok fields)
+        → Answered contexts m line (Step.Call ctx (GuestCall.Pollable (PollableCall.Drop handle))) entries (Reply.Ok fields)
         after
         → entries ≡ udp_given_up (own_of line) u }
     ensures left { (contexts : List WasiSocketsCtx) (m : Machine) (line ctx handle place : ℕ)
         (u : UdpRecord) (fields : List Field) (entries : List Entry) (after : Machine)
         → kind_at m.table handle ≡ Some (Kind.Udp2 place) → udp2_at m.store.records place ≡ Some u
-        → Answered contexts m line (Step.Call ctx (GuestCall.Drop handle)) entries (Reply.Ok fields)
+        → Answered contexts m line (Step.Call ctx (GuestCall.Pollable (PollableCall.Drop handle))) entries (Reply.Ok fields)
         after
         → after ≡ udp_left (without m handle) place u }
 {}
@@ -362,6 +364,6 @@ pub fn udp_pollables_are_ready()
     ensures { (contexts : List WasiSocketsCtx) (m : Machine) (line ctx pollable : ℕ)
         (entries : List Entry) (reply : Reply) (after : Machine)
         → m.store.standing ≡ None → WatchesUdp m pollable
-        → Answered contexts m line (Step.Call ctx (GuestCall.Ready pollable)) entries reply after
+        → Answered contexts m line (Step.Call ctx (GuestCall.Pollable (PollableCall.Ready pollable))) entries reply after
         → (reply ≡ Reply.Ok (truth_fields true)) × (entries ≡ []) × (after ≡ m) }
 {}

@@ -15,12 +15,13 @@ ghost use Rattle.wasi_host.specs.declared.polling.Look.{Look};
 ghost use Rattle.host_store.specs.declared.store.StandingCall.{StandingCall};
 ghost use Rattle.host_store.specs.Machine.{first_state};
 ghost use Rattle.wasi_host.specs.Pollables.{ids_after_ready, ready_asks};
-ghost use Rattle.wasi_records.specs.Names.{names_after};
+ghost use Rattle.record_common.specs.Names.{names_after};
 ghost use Rattle.wasi_host.specs.Polling.{Found, are_pollables, begins_at, found_of, ready_places};
 ghost use Rattle.host_store.specs.Standing.{standing_as};
 ghost use Rattle.wasi_machine.specs.Machine.{first_ids, run};
 ghost use Rattle.wasi_steps.specs.declared.reply.Reply.{Reply};
 ghost use Rattle.wasi_steps.specs.declared.guest_call.GuestCall.{GuestCall};
+ghost use Rattle.wasi_steps.specs.declared.guest_call.PollableCall.{PollableCall};
 ghost use Rattle.wasi_steps.specs.declared.step.Step.{Step};
 ghost use Rattle.wasi_steps.specs.Reply.{no_fields, truth_fields};
 ghost use Rattle.wasi_walks.specs.Answered.{Answered};
@@ -44,33 +45,33 @@ pub fn waits_for_one_are_looks()
     ensures looks { (contexts : List WasiSocketsCtx) (m : Machine) (line ctx pollable : ℕ)
         (entries : List Entry) (reply : Reply) (after : Machine)
         → m.store.standing ≡ None
-        → Answered contexts m line (Step.Call ctx (GuestCall.Block pollable)) entries reply after
+        → Answered contexts m line (Step.Call ctx (GuestCall.Pollable (PollableCall.Block pollable))) entries reply after
         → BlocksOn contexts m ctx (first_ids line) pollable Look.First entries reply after }
     ensures ready { (contexts : List WasiSocketsCtx) (m : Machine) (line ctx pollable : ℕ)
         (entries : List Entry) (after : Machine)
         → m.store.standing ≡ None
-        → Answered contexts m line (Step.Call ctx (GuestCall.Ready pollable)) entries
+        → Answered contexts m line (Step.Call ctx (GuestCall.Pollable (PollableCall.Ready pollable))) entries
         (Reply.Ok (truth_fields true)) after
-        → Answered contexts m line (Step.Call ctx (GuestCall.Block pollable)) entries
+        → Answered contexts m line (Step.Call ctx (GuestCall.Pollable (PollableCall.Block pollable))) entries
         (Reply.Ok no_fields) after }
     ensures unready { (contexts : List WasiSocketsCtx) (m : Machine) (line ctx pollable : ℕ)
         (entries : List Entry) (after : Machine)
         → m.store.standing ≡ None
-        → Answered contexts m line (Step.Call ctx (GuestCall.Ready pollable)) entries
+        → Answered contexts m line (Step.Call ctx (GuestCall.Pollable (PollableCall.Ready pollable))) entries
         (Reply.Ok (truth_fields false)) after
-        → Answered contexts m line (Step.Call ctx (GuestCall.Block pollable)) entries
+        → Answered contexts m line (Step.Call ctx (GuestCall.Pollable (PollableCall.Block pollable))) entries
         (Reply.Pending line) (waiting after (first_ids line) (BlockingCall.Block pollable)) }
     ensures traps { (contexts : List WasiSocketsCtx) (m : Machine) (line ctx pollable : ℕ)
         (entries : List Entry) (kind : TrapKind) (after : Machine)
         → m.store.standing ≡ None
-        → Answered contexts m line (Step.Call ctx (GuestCall.Ready pollable)) entries
+        → Answered contexts m line (Step.Call ctx (GuestCall.Pollable (PollableCall.Ready pollable))) entries
         (Reply.Trap kind) after
-        → Answered contexts m line (Step.Call ctx (GuestCall.Block pollable)) entries
+        → Answered contexts m line (Step.Call ctx (GuestCall.Pollable (PollableCall.Block pollable))) entries
         (Reply.Trap kind) after }
     ensures handles { (contexts : List WasiSocketsCtx) (m : Machine) (line ctx pollable : ℕ)
         (entries : List Entry) (reply : Reply) (after : Machine)
         → m.store.standing ≡ None
-        → Answered contexts m line (Step.Call ctx (GuestCall.Block pollable)) entries reply after
+        → Answered contexts m line (Step.Call ctx (GuestCall.Pollable (PollableCall.Block pollable))) entries reply after
         → after.table ≡ m.table }
 {}
 
@@ -89,37 +90,37 @@ pub fn waits_for_several_look_at_each()
     ensures none { (contexts : List WasiSocketsCtx) (m : Machine) (line ctx : ℕ)
         (entries : List Entry) (reply : Reply) (after : Machine)
         → m.store.standing ≡ None
-        → Answered contexts m line (Step.Call ctx (GuestCall.PollList [])) entries reply after
+        → Answered contexts m line (Step.Call ctx (GuestCall.Pollable (PollableCall.PollList []))) entries reply after
         → (reply ≡ Reply.Trap TrapKind.EmptyList) × (entries ≡ []) × (after ≡ m) }
     ensures no_pollable { (contexts : List WasiSocketsCtx) (m : Machine) (line ctx : ℕ)
         (pollables : List ℕ) (entries : List Entry) (reply : Reply) (after : Machine)
         → m.store.standing ≡ None → pollables ≢ [] → are_pollables m pollables ≡ false
-        → Answered contexts m line (Step.Call ctx (GuestCall.PollList pollables)) entries reply
+        → Answered contexts m line (Step.Call ctx (GuestCall.Pollable (PollableCall.PollList pollables))) entries reply
         after
         → (reply ≡ Reply.Trap TrapKind.NoSuchHandle) × (entries ≡ []) × (after ≡ m) }
     ensures looks { (contexts : List WasiSocketsCtx) (m : Machine) (line ctx : ℕ)
         (pollables : List ℕ) (entries : List Entry) (reply : Reply) (after : Machine)
         → m.store.standing ≡ None
-        → Answered contexts m line (Step.Call ctx (GuestCall.PollList pollables)) entries reply
+        → Answered contexts m line (Step.Call ctx (GuestCall.Pollable (PollableCall.PollList pollables))) entries reply
         after
         → BeginsToWait m line pollables entries reply after }
     ensures as_ready { (contexts : List WasiSocketsCtx) (m : Machine) (line ctx pollable : ℕ)
         (entries : List Entry) (ready : Bool) (after : Machine)
         → m.store.standing ≡ None
         → Finds m (first_ids line) pollable Look.First entries ready after
-        ↔ Answered contexts m line (Step.Call ctx (GuestCall.Ready pollable)) entries
+        ↔ Answered contexts m line (Step.Call ctx (GuestCall.Pollable (PollableCall.Ready pollable))) entries
         (Reply.Ok (truth_fields ready)) after }
     ensures handles { (contexts : List WasiSocketsCtx) (m : Machine) (line ctx : ℕ)
         (pollables : List ℕ) (entries : List Entry) (reply : Reply) (after : Machine)
         → m.store.standing ≡ None
-        → Answered contexts m line (Step.Call ctx (GuestCall.PollList pollables)) entries reply
+        → Answered contexts m line (Step.Call ctx (GuestCall.Pollable (PollableCall.PollList pollables))) entries reply
         after
         → after.table ≡ m.table }
     ensures in_runs { (contexts : List WasiSocketsCtx) (steps : List Step) (log : List Entry)
         (replies : List Reply) (m : Machine) (line ctx : ℕ) (pollables : List ℕ)
         (entries : List Entry) (kind : TrapKind) (after : Machine)
         → Left (run contexts [] first_state 1 steps) log (Give (replies, m))
-        → Answered contexts m line (Step.Call ctx (GuestCall.PollList pollables)) entries
+        → Answered contexts m line (Step.Call ctx (GuestCall.Pollable (PollableCall.PollList pollables))) entries
         (Reply.Trap kind) after
         → ((pollables ≡ []) ⊎ (are_pollables m pollables ≡ false)) × (entries ≡ []) × (after ≡ m) }
 {}
@@ -221,14 +222,14 @@ pub fn pending_waits_are_for_their_pollables()
     ensures one { (contexts : List WasiSocketsCtx) (m : Machine) (line ctx pollable number : ℕ)
         (entries : List Entry) (after : Machine)
         → m.store.standing ≡ None
-        → Answered contexts m line (Step.Call ctx (GuestCall.Block pollable)) entries
+        → Answered contexts m line (Step.Call ctx (GuestCall.Pollable (PollableCall.Block pollable))) entries
         (Reply.Pending number) after
         → (number ≡ line) × (after.store.standing ≡ Some
         (standing_as (first_ids line) (StandingCall.Blocking (BlockingCall.Block pollable)))) }
     ensures several { (contexts : List WasiSocketsCtx) (m : Machine) (line ctx number : ℕ)
         (pollables : List ℕ) (entries : List Entry) (after : Machine)
         → m.store.standing ≡ None
-        → Answered contexts m line (Step.Call ctx (GuestCall.PollList pollables)) entries
+        → Answered contexts m line (Step.Call ctx (GuestCall.Pollable (PollableCall.PollList pollables))) entries
         (Reply.Pending number) after
         → (number ≡ line) × (after.store.standing ≡ Some
         (standing_as (first_ids line) (StandingCall.Blocking (BlockingCall.Poll pollables)))) }

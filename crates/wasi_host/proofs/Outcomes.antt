@@ -5,7 +5,7 @@ use Rattle.wasi_world.specs.declared.outcome.Answer.{Answer}
 use Rattle.wasi_world.specs.Seen.{Seen}
 use Rattle.wasi_world.specs.Asks.{Asks, Give, bind, AsksFor}
 use Rattle.wasi_world.proofs.Walks.{reaches_in, asks_end, asks_err}
-use Rattle.wasi_records.specs.Stops.{Stop, Trap}
+use Rattle.record_common.specs.Stops.{Stop, Trap}
 use Rattle.host_store.specs.declared.kind.Interface.{Interface}
 use Rattle.host_store.specs.declared.machine.Machine.{Machine}
 use Rattle.host_store.specs.BaseStops.{BaseStop}

@@ -14,11 +14,11 @@ use Rattle.host_store.specs.declared.machine.Machine.{Machine}
 use Rattle.host_store.specs.declared.store.StandingCall.TheVariants.{Blocking}
 use Rattle.host_store.specs.Standing.{standing_as}
 use Rattle.wasi_host.specs.declared.polling.Look.{Look}
-use Rattle.wasi_records.specs.Stops.{Stop, fault_outcome}
+use Rattle.record_common.specs.Stops.{Stop, fault_outcome}
 use Rattle.wasi_host.specs.Polling.{Found, found_of, look_at_pollable, ids_after_look, look_each, looked_at, ready_places, places_given, polled_each}
 use Rattle.host_store.specs.Views.{SameView}
 use Rattle.host_store.specs.declared.view.WasiSocketsCtxView.{WasiSocketsCtxView}
-use Rattle.wasi_records.proofs.Hosts.{fault_passed}
+use Rattle.record_common.proofs.Hosts.{fault_passed}
 
 -- what is asked after the first of the asks were made
 asks_after : {A T : Type 0} {first mid : Asks A} {o p q : Seen} {view : T → A} {r : Result T AllocError} → Reaches first mid o p → AsksFor mid p q view r → AsksFor first o q view r

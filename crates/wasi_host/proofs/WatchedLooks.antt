@@ -7,7 +7,7 @@ use Rattle.host_store.specs.declared.kind.Watched.TheVariants as watched
 use Rattle.host_store.specs.declared.machine.Machine.{Machine}
 use Rattle.wasi_host.specs.Pollables.{ready_on}
 use Rattle.host_store.specs.Machine.{with_store}
-use Rattle.wasi_records.specs.Names.{own_of}
+use Rattle.record_common.specs.Names.{own_of}
 use Rattle.host_store.specs.Readiness.{ready_at}
 use Rattle.wasi_records.specs.Records.{tcp2_at}
 

@@ -5,14 +5,14 @@ use Rattle.wasi_world.specs.declared.ids.Ids.{Ids}
 use Rattle.wasi_world.specs.declared.outcome.Answer.{Answer}
 use Rattle.wasi_world.specs.declared.outcome.Answer.TheVariants.{Ready}
 use Rattle.wasi_world.specs.Asks.{Asks, Give, bind}
-use Rattle.wasi_records.specs.Holding.{drop_listener_asks, drop_socket_asks}
+use Rattle.tcp_records.specs.Holding.{drop_listener_asks, drop_socket_asks}
 use Rattle.wasi_records.specs.Records.{tcp2_at, udp2_at, open_at, lookup_at}
 use Rattle.host_store.specs.declared.kind.Kind.{Kind}
 use Rattle.host_store.specs.declared.kind.Kind.TheVariants.{Tcp2, Udp2, Output, PlainInput, PlainOutput, Incoming, Outgoing, Lookup, Tcp3, Udp3, Listen3, Receive3, Send3, Result3}
 use Rattle.host_store.specs.declared.machine.Machine.{Machine}
-use Rattle.wasi_records.specs.Stops.{Stop}
+use Rattle.record_common.specs.Stops.{Stop}
 use Rattle.host_store.specs.Kinds.{HandleTable, kind_at, taken_out}
-pub use Rattle.wasi_records.specs.Names.{own_of}
+pub use Rattle.record_common.specs.Names.{own_of}
 use Rattle.host_udp.specs.SocketDatagrams.{drop_udp}
 use Rattle.host_store.specs.Store.{Records}
 use Rattle.host_tcp.specs.ConnectionEnds.{drop_end, drop_slot}

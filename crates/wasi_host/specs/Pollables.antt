@@ -8,9 +8,9 @@ use Rattle.host_store.specs.declared.kind.Kind.TheVariants.{Incoming, Outgoing, 
 use Rattle.host_store.specs.declared.kind.Watched.{Watched}
 use Rattle.host_store.specs.declared.kind.Watched.TheVariants as watched
 use Rattle.host_store.specs.declared.machine.Machine.{Machine}
-use Rattle.wasi_records.specs.Stops.{Stop}
+use Rattle.record_common.specs.Stops.{Stop}
 use Rattle.host_store.specs.Kinds.{kind_at, watched_by, watch_of, place_in, make_asks}
-pub use Rattle.wasi_records.specs.Names.{own_of}
+pub use Rattle.record_common.specs.Names.{own_of}
 use Rattle.host_store.specs.Store.{Records}
 use Rattle.host_store.specs.Readiness.{ready_at, ready_ids_at}
 use Rattle.host_udp.specs.DatagramCalls.{incoming_names, outgoing_ready, ready_incoming_at}

@@ -1,7 +1,7 @@
 -- A turn of the machine: each job is polled once.
 use Rattle.wasi_world.specs.Asks.{Asks, Give, bind}
 use Rattle.host_store.specs.declared.machine.Machine.{Machine}
-pub use Rattle.wasi_records.specs.Names.{own_of}
+pub use Rattle.record_common.specs.Names.{own_of}
 use Rattle.host_store.specs.Jobs.{turn_store_asks}
 use Rattle.host_store.specs.Machine.{with_store}
 

@@ -2,7 +2,7 @@
 
 ghost use Rattle.std.specs.Prelude.{◌≡◌, is_some, false, Ok, OnErr};
 ghost use Rattle.wasi_world.specs.Asks.{AsksFor};
-ghost use Rattle.wasi_records.specs.Stops.{fault_outcome};
+ghost use Rattle.record_common.specs.Stops.{fault_outcome};
 ghost use Rattle.host_store.specs.Kinds.{without_handle};
 ghost use Rattle.wasi_host.specs.HandleDrops.{drop_asks, drop_kind};
 ghost use Rattle.host_store.specs.Views.{state_of, HostKept};

@@ -3,19 +3,24 @@
 ghost use Rattle.std.specs.Prelude.{◌≡◌, [], false, IfOk};
 ghost use Rattle.wasi_world.specs.Asks.{AsksFor};
 ghost use Rattle.wasi_records.specs.Records.{tcp2_at, open_at, lookup_at};
-ghost use Rattle.wasi_records.specs.NameLookup.{looks_on, turn_lookup_at};
+ghost use Rattle.lookup_records.specs.NameLookup.{looks_on};
+ghost use Rattle.wasi_records.specs.Records.{turn_lookup_at};
 ghost use Rattle.wasi_jobs.specs.declared.job.HostJob.{HostJob};
 ghost use Rattle.host_store.specs.Jobs.{turn_at, turn_datagram_at, turn_receive_at, sends_on, receives_on, turn_job, turn_jobs, turn_store_asks, is_going};
-ghost use Rattle.wasi_records.specs.Halves.{has_job};
+ghost use Rattle.tcp_records.specs.Halves.{has_job};
 ghost use Rattle.wasi_host.specs.Turns.{turn_machine_asks};
 ghost use Rattle.host_store.specs.KnownSides.{KnowsSides};
-ghost use Rattle.wasi_records.specs.Sides.{MakesNone, held_in};
+ghost use Rattle.record_common.specs.Sides.{MakesNone};
+ghost use Rattle.wasi_records.specs.Sides.{held_in};
 ghost use Rattle.host_store.specs.Views.{SameView, state_of};
 
 use host_store::{Store, WasiSocketsCtxView};
+use lookup_records::Lookup;
 use std::alloc::AllocError;
+use tcp_records::TcpRecord;
+use udp_records::OpenUdp;
 use wasi_jobs::{HostJob, JobList, Listed};
-use wasi_records::{Lookup, OpenUdp, RecordId, RecordList, SlotKey, TcpRecord, find_mut_in};
+use wasi_records::{RecordId, RecordList, SlotKey, find_mut_in};
 use wasi_world::World;
 
 /// Polls the write of the TCP socket with this record number once, if one is in progress. Returns

@@ -2,7 +2,7 @@
 
 ghost use Rattle.std.specs.Prelude.{◌≡◌, None, OnErr, Ok, false};
 ghost use Rattle.wasi_world.specs.Asks.{AsksFor};
-ghost use Rattle.wasi_records.specs.Stops.{host_outcome};
+ghost use Rattle.record_common.specs.Stops.{host_outcome};
 ghost use Rattle.wasi_host.specs.Pending.{outcome_of, handle_outcome, pair_outcome, places_outcome, stop_told, blocked_told, nothing_given, unblock_asks, go_on, resume_asks, resume_beside, datagram_outcome, refused_as, answered_told, resolved_told};
 ghost use Rattle.host_udp.specs.SocketDatagrams.{is_datagram_in};
 ghost use Rattle.host_store.specs.BaseStops.{ends_as};
@@ -25,9 +25,10 @@ use host_tcp::{drop_output, reconnect_tcp, relisten, relisten_tcp, tcp_rebind};
 use host_udp::{
     create_on, drop_outgoing, rebind_udp, reconnect_udp, remake_streams, rereceive, resend,
 };
+use record_common::SocketError;
 use std::alloc::Global;
 use wasi_addr::{ErrorCode, lookup, p2, p3};
-use wasi_records::{RecordId, SocketError};
+use wasi_records::RecordId;
 use wasi_world::{Answer, Handle, Ids, IncomingDatagram, IpList, NumberList, Octets, World};
 
 /// What a pending call gives once it is polled: its value, or the error of a call of a stream.

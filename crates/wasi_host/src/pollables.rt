@@ -3,19 +3,21 @@
 ghost use Rattle.std.specs.Prelude.{◌≡◌, ◌+◌, ◌<◌, ◌^◌, false, IfOk};
 ghost use Rattle.wasi_world.specs.Asks.{AsksFor};
 ghost use Rattle.wasi_records.specs.Records.{tcp2_at};
-ghost use Rattle.wasi_records.specs.Listening.{TakesOne};
-ghost use Rattle.wasi_records.specs.Stops.{fault_outcome};
+ghost use Rattle.tcp_records.specs.Listening.{TakesOne};
+ghost use Rattle.record_common.specs.Stops.{fault_outcome};
 ghost use Rattle.host_store.specs.Machine.{own_of};
 ghost use Rattle.wasi_host.specs.Pollables.{subscribe_asks, ready_asks, ids_after_ready, watches_incoming, watched_side};
 ghost use Rattle.host_store.specs.Readiness.{ready_at, ready_ids_at, ready_record, ready_ids};
-ghost use Rattle.wasi_records.specs.Sides.{Balances, no_socket};
+ghost use Rattle.tcp_records.specs.Sides.{Balances};
+ghost use Rattle.record_common.specs.Sides.{no_socket};
 ghost use Rattle.host_store.specs.KnownSides.{KnowsSides};
 ghost use Rattle.host_store.specs.Views.{SameView, state_of, HostKept};
 
 use host_lookups::lookup_ready;
 use host_store::{Kind, Store, WasiSocketsCtxView, Watched, handles};
 use host_udp::{incoming_ready, outgoing_ready, udp_side};
-use wasi_records::{TcpRecord, find_mut};
+use tcp_records::TcpRecord;
+use wasi_records::find_mut;
 use wasi_streams::{Fault, TrapKind};
 use wasi_world::{Handle, Ids, Sock, World};
 

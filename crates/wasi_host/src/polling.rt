@@ -4,8 +4,8 @@
 ghost use Rattle.std.specs.Prelude.{◌≡◌, ◌+◌, ◌<◌, ◌^◌, false, true, length, IfOk, OnOk, OnErr, [], ◌∷◌, ◌++◌, ◌≤◌};
 ghost use Rattle.wasi_world.specs.Asks.{AsksFor};
 ghost use Rattle.wasi_world.specs.Seen.{Seen};
-ghost use Rattle.wasi_records.specs.Stops.{fault_outcome};
-ghost use Rattle.wasi_records.specs.Listening.{TakesOne};
+ghost use Rattle.record_common.specs.Stops.{fault_outcome};
+ghost use Rattle.tcp_records.specs.Listening.{TakesOne};
 ghost use Rattle.wasi_host.specs.Polling.{begins_on, look_at_pollable, ids_after_look, found_of, is_ready, look_each, ready_places, poll_by, pollables_in, poll_asks, block_by, blocked_answer, blocked_store};
 ghost use Rattle.host_store.specs.KnownSides.{KnowsSides};
 ghost use Rattle.host_store.specs.Views.{SameView, state_of};
@@ -15,7 +15,9 @@ use host_store::{BlockingCall, Kind, Store, WasiSocketsCtxView, Watched, handles
 use std::alloc::{AllocError, Global};
 use std::collections::BTreeMap;
 use std::marker::Model;
-use wasi_records::{OpenUdp, TcpRecord, find};
+use tcp_records::TcpRecord;
+use udp_records::OpenUdp;
+use wasi_records::find;
 use wasi_streams::{Fault, TrapKind};
 use wasi_table::Table;
 use wasi_world::{Answer, Handle, Ids, NumberList, World};

@@ -7,11 +7,13 @@ use Rattle.wasi_world.specs.Asks.{Asks, Left}
 use Rattle.wasi_streams.specs.Streams.{zeros}
 use Rattle.host_store.specs.declared.machine.Machine.{Machine}
 use Rattle.host_store.specs.declared.store.Standing.{Standing}
-use Rattle.wasi_records.specs.Names.{own_of}
+use Rattle.record_common.specs.Names.{own_of}
 use Rattle.host_store.specs.Standing.{call_of}
 use Rattle.wasi_steps.specs.declared.reply.Reply.{Reply}
 use Rattle.wasi_steps.specs.declared.step.Step.{Step}
 use Rattle.wasi_steps.specs.declared.guest_call.GuestCall.TheVariants as guest
+use Rattle.wasi_steps.specs.declared.guest_call.StreamCall.TheVariants as stream_call
+use Rattle.wasi_steps.specs.declared.guest_call.P3TcpCall.TheVariants as p3_tcp_call
 use Rattle.wasi_steps.specs.declared.step.Step.TheVariants as step
 use Rattle.wasi_machine.specs.Machine.{is_held_up, machine_asks}
 use Rattle.wasi_walks.specs.Answered.{Answered}
@@ -21,13 +23,13 @@ use Rattle.wasi_laws.specs.Writes.{let_write, let_splice, let_blocking_write, le
 -- along what its line asks, by the entries so far: a write begins at once, whatever the line is told; one of a splice, or of a call
 -- that blocks, once what is asked before it is answered; and one of 0.3, which is one ask, by its answer
 abbrev pub permitted_when : Machine → OpId → ℕ → Step → List Entry → List ℕ
-permitted_when m side line (step.Call ctx (guest.Write output bytes)) entries = let_write side m output bytes
-permitted_when m side line (step.Call ctx (guest.WriteZeroes output len)) entries = let_write side m output (zeros len)
-permitted_when m side line (step.Call ctx (guest.Splice to from len)) entries = let_splice side m (own_of line) to from len entries
-permitted_when m side line (step.Call ctx (guest.BlockingWrite output bytes)) entries = let_blocking_write side m (own_of line) output bytes (nat_lt 4096 (length bytes)) entries
-permitted_when m side line (step.Call ctx (guest.BlockingZeroes output len)) entries = let_blocking_write side m (own_of line) output (zeros len) (nat_lt 4096 len) entries
-permitted_when m side line (step.Call ctx (guest.BlockingSplice to from len)) entries = let_blocking_splice side m (own_of line) to from len entries
-permitted_when m side line (step.Call ctx (guest.P3Write end bytes)) entries = let_end side m end bytes entries
+permitted_when m side line (step.Call ctx (guest.Stream (stream_call.Write output bytes))) entries = let_write side m output bytes
+permitted_when m side line (step.Call ctx (guest.Stream (stream_call.WriteZeroes output len))) entries = let_write side m output (zeros len)
+permitted_when m side line (step.Call ctx (guest.Stream (stream_call.Splice to from len))) entries = let_splice side m (own_of line) to from len entries
+permitted_when m side line (step.Call ctx (guest.Stream (stream_call.BlockingWrite output bytes))) entries = let_blocking_write side m (own_of line) output bytes (nat_lt 4096 (length bytes)) entries
+permitted_when m side line (step.Call ctx (guest.Stream (stream_call.BlockingZeroes output len))) entries = let_blocking_write side m (own_of line) output (zeros len) (nat_lt 4096 len) entries
+permitted_when m side line (step.Call ctx (guest.Stream (stream_call.BlockingSplice to from len))) entries = let_blocking_splice side m (own_of line) to from len entries
+permitted_when m side line (step.Call ctx (guest.P3Tcp (p3_tcp_call.Write end bytes))) entries = let_end side m end bytes entries
 permitted_when m side line (step.Poll n) entries = let_resumed side m (call_of m.store.standing n) entries
 permitted_when m side line s entries = []
 

@@ -11,8 +11,8 @@ use Rattle.wasi_tcp.specs.Writer.{writer_side}
 use Rattle.host_store.specs.declared.store.BlockingCall.{BlockingCall}
 use Rattle.host_store.specs.declared.store.BlockingCall.TheVariants.{Write, Splice}
 use Rattle.host_store.specs.declared.machine.Machine.{Machine}
-use Rattle.wasi_records.specs.declared.socket.Streams.{Streams}
-use Rattle.wasi_records.specs.declared.socket.TcpRecord.{TcpRecord}
+use Rattle.tcp_records.specs.declared.socket.Streams.{Streams}
+use Rattle.tcp_records.specs.declared.socket.TcpRecord.{TcpRecord}
 use Rattle.host_store.specs.declared.store.Standing.{Standing}
 use Rattle.host_store.specs.declared.store.StandingCall.{StandingCall}
 use Rattle.host_store.specs.declared.store.StandingCall.TheVariants.{Blocking}
@@ -21,11 +21,11 @@ use Rattle.host_store.specs.CallStops.{CallStop}
 use Rattle.host_store.specs.Kinds.{kind_at, is_readable, is_writable}
 use Rattle.host_store.specs.Machine.{output_at, send3_at}
 use Rattle.host_store.specs.declared.kind.ConnectionEnd.{ConnectionEnd}
-use Rattle.wasi_records.specs.Ends.{half_of, send_half}
+use Rattle.tcp_records.specs.Ends.{half_of, send_half}
 use Rattle.wasi_records.specs.Records.{tcp2_at}
 use Rattle.wasi_tcp.specs.Taken.{took}
 use Rattle.wasi_tcp.specs.declared.halves.TcpSendStream.{TcpSendStream}
-use Rattle.wasi_records.specs.Names.{own_of}
+use Rattle.record_common.specs.Names.{own_of}
 use Rattle.host_store.specs.Standing.{unstood}
 use Rattle.host_streams.specs.StreamCalls.{read_asks, check_asks, write_asks}
 use Rattle.wasi_walks.specs.Answered.{record_in}

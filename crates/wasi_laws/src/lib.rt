@@ -21,6 +21,7 @@ ghost use Rattle.wasi_steps.specs.declared.reply.Reply.{Reply};
 ghost use Rattle.wasi_steps.specs.declared.step.Step.{Step};
 ghost use Rattle.wasi_steps.specs.declared.reply.Reply.TheVariants as Reply;
 ghost use Rattle.wasi_steps.specs.declared.guest_call.GuestCall.TheVariants as GuestCall;
+ghost use Rattle.wasi_steps.specs.declared.guest_call.StreamCall.TheVariants as StreamCall;
 ghost use Rattle.wasi_steps.specs.declared.step.Step.TheVariants as Step;
 ghost use Rattle.wasi_walks.specs.Answered.{Answered};
 ghost use Rattle.wasi_walks.specs.Licence.{Has, entry};
@@ -70,7 +71,7 @@ pub fn permit_means_all_is_taken()
         (ctx output n : ℕ) (entries : List Entry) (next : Machine)
         → Did contexts side first_state 1 steps log permitted after
         → WritesTo after output side
-        → Answered contexts after (1 + length steps) (Step.Call ctx (GuestCall.CheckWrite output))
+        → Answered contexts after (1 + length steps) (Step.Call ctx (GuestCall.Stream (StreamCall.CheckWrite output)))
         entries (Reply.Ok (number_fields n)) next
         → 0 < n
         → taken_in side (log ++ entries) ≡ permitted }

@@ -11,6 +11,7 @@ ghost use Rattle.host_store.specs.declared.machine.Machine.{Machine};
 ghost use Rattle.host_store.specs.Machine.{first_state};
 ghost use Rattle.wasi_machine.specs.Machine.{run};
 ghost use Rattle.wasi_steps.specs.declared.guest_call.GuestCall.{GuestCall};
+ghost use Rattle.wasi_steps.specs.declared.guest_call.StreamCall.{StreamCall};
 ghost use Rattle.wasi_steps.specs.declared.reply.Field.{Field};
 ghost use Rattle.wasi_steps.specs.declared.reply.Reply.{Reply};
 ghost use Rattle.wasi_steps.specs.declared.step.Step.{Step};
@@ -31,18 +32,18 @@ pub fn writes_that_are_done_are_let_whole()
         (entries : List Entry) (fields : List Field) (after : Machine)
         → Left (run contexts [] first_state 1 steps) log (Give (replies, m))
         → IsSide log output side
-        → Answered contexts m line (Step.Call ctx (GuestCall.Write output bytes)) entries
+        → Answered contexts m line (Step.Call ctx (GuestCall.Stream (StreamCall.Write output bytes))) entries
         (Reply.Ok fields) after
-        → permitted_by m side line (Step.Call ctx (GuestCall.Write output bytes)) entries ≡ bytes }
+        → permitted_by m side line (Step.Call ctx (GuestCall.Stream (StreamCall.Write output bytes))) entries ≡ bytes }
     ensures others { (contexts : List WasiSocketsCtx) (steps : List Step) (log : List Entry)
         (replies : List Reply) (m : Machine) (line ctx output : ℕ) (bytes : List ℕ) (side : OpId)
         (entries : List Entry)
         → Left (run contexts [] first_state 1 steps) log (Give (replies, m))
         → (IsSide log output side → ⊥)
-        → permitted_by m side line (Step.Call ctx (GuestCall.Write output bytes)) entries ≡ [] }
+        → permitted_by m side line (Step.Call ctx (GuestCall.Stream (StreamCall.Write output bytes))) entries ≡ [] }
     ensures front { (m : Machine) (line ctx output : ℕ) (bytes : List ℕ) (side : OpId)
         (entries : List Entry)
-        → IsFrontOf (permitted_by m side line (Step.Call ctx (GuestCall.Write output bytes))
+        → IsFrontOf (permitted_by m side line (Step.Call ctx (GuestCall.Stream (StreamCall.Write output bytes)))
         entries) bytes }
 {}
 
@@ -55,7 +56,7 @@ pub fn permits_of_marked_outputs_mean_all_is_taken()
         → Did contexts side first_state 1 steps log permitted m
         → Left (run contexts [] first_state 1 steps) log (Give (replies, m))
         → IsSide log output side
-        → Answered contexts m (1 + length steps) (Step.Call ctx (GuestCall.CheckWrite output))
+        → Answered contexts m (1 + length steps) (Step.Call ctx (GuestCall.Stream (StreamCall.CheckWrite output)))
         entries (Reply.Ok (number_fields n)) after
         → 0 < n → taken_in side (log ++ entries) ≡ permitted }
 {}

@@ -6,7 +6,7 @@ use Rattle.wasi_world.specs.Asks.{Give}
 unfoldable use Rattle.wasi_world.specs.Asks.{bind}
 use Rattle.wasi_world.specs.Typed.{ask_made}
 use Rattle.wasi_table.specs.Table.{Live, is_full, value_at, without}
-use Rattle.wasi_records.specs.Stops.{Stop, Trap}
+use Rattle.record_common.specs.Stops.{Stop, Trap}
 use Rattle.host_store.specs.declared.kind.Kind.{Kind}
 use Rattle.host_store.specs.declared.machine.Machine.{Machine}
 use Rattle.host_store.specs.Kinds.{HandleTable, make_asks, name_of, with_handle}

@@ -2,7 +2,7 @@
 use Rattle.std.proofs.Common.{◌≡◌, refl, ap, ℕ, zero, suc, List, [], ◌∷◌, ◌++◌, length, Option, Some, None, slice_get, slice_set}
 use Rattle.wasi_records.specs.declared.records.Record.{Record}
 use Rattle.wasi_records.specs.declared.records.Record.TheVariants.{Tcp}
-use Rattle.wasi_records.specs.declared.socket.TcpRecord.{TcpRecord}
+use Rattle.tcp_records.specs.declared.socket.TcpRecord.{TcpRecord}
 use Rattle.wasi_records.specs.Records.{tcp2_at, tcp2_of}
 use Rattle.wasi_limits.proofs.Like.{SameSocket, LikeRecord, SameRecord, LikeTcp, LikeRecords, NoRecords, MoreRecords, LikeFound, NoneFound, BothFound}
 

@@ -9,6 +9,7 @@ use Rattle.host_store.specs.Machine.{first_state}
 use Rattle.wasi_steps.specs.declared.reply.Reply.{Reply}
 use Rattle.wasi_steps.specs.declared.reply.Reply.TheVariants as reply
 use Rattle.wasi_steps.specs.declared.guest_call.GuestCall.TheVariants as guest
+use Rattle.wasi_steps.specs.declared.guest_call.StreamCall.TheVariants as stream_call
 use Rattle.wasi_steps.specs.declared.step.Step.{Step}
 use Rattle.wasi_steps.specs.declared.step.Step.TheVariants as step
 use Rattle.wasi_steps.specs.Reply.{is_trap}
@@ -17,7 +18,7 @@ use Rattle.wasi_machine.specs.Machine.{asks_while, context_at, context_for, cont
 use Rattle.wasi_limits.specs.Alike.{Alike, BothGive, OneStops, OtherStops, StopsAt, Stopped}
 use Rattle.wasi_limits.specs.Contexts.{LikeContext, LikeContexts, MoreContexts, NoContexts, OtherLimit}
 use Rattle.wasi_limits.proofs.Like.{LikeMachine, Machines, LikeStore, Stores, NoRecords, NoLimits, LikeFound, NoneFound, BothFound, SameSocket, OtherPermit}
-use Rattle.wasi_records.specs.declared.socket.TcpRecord.{TcpRecord}
+use Rattle.tcp_records.specs.declared.socket.TcpRecord.{TcpRecord}
 use Rattle.host_store.specs.Kinds.{HandleTable, kind_at, output_of}
 use Rattle.host_store.specs.Store.{Records}
 use Rattle.wasi_limits.proofs.Stores.{found_like}
@@ -87,7 +88,7 @@ module _ {c : ℕ} where
   same_writer l t (Some place) = same_maker (found_like l place)
 
   same_left_out : {m now : Machine} → LikeMachine c m now → (s : Step) → checks_writer_of c m s ≡ checks_writer_of c now s
-  same_left_out (Machines t store other all l) (step.Call n (guest.CheckWrite output)) = same_writer l t (output_of (kind_at t output))
+  same_left_out (Machines t store other all l) (step.Call n (guest.Stream (stream_call.CheckWrite output))) = same_writer l t (output_of (kind_at t output))
   same_left_out l _ = refl
 
   -- == the lines after one another

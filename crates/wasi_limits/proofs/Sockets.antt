@@ -19,19 +19,20 @@ use Rattle.wasi_tcp.specs.Halves.{take_receive, take_send}
 use Rattle.wasi_tcp.specs.declared.halves.TcpReceiveStream.{TcpReceiveStream}
 use Rattle.wasi_tcp.specs.declared.halves.TcpSendStream.{TcpSendStream}
 use Rattle.wasi_tcp.specs.declared.writer.WriteState.TheVariants as writing
-use Rattle.wasi_records.specs.declared.tcp_binding.InProgress.{InProgress}
-use Rattle.wasi_records.specs.declared.tcp_binding.InProgress.TheVariants.{Binding, Started}
-use Rattle.wasi_records.specs.declared.tcp_binding.AsyncOperation.TheVariants.{Connect, Listen}
-use Rattle.wasi_records.specs.declared.tcp_listening.Listening.{Listening}
-use Rattle.wasi_records.specs.declared.tcp_listening.Listening.TheVariants.{Not, Begins, Accepts}
-use Rattle.wasi_records.specs.declared.socket.Streams.{Streams}
-use Rattle.wasi_records.specs.declared.socket.TcpRecord.{TcpRecord}
-use Rattle.wasi_records.specs.Binding.{begin_bind_asks, poll_bind_asks, poll_binding, bind_begun, bind_answer, bind_progress}
-use Rattle.wasi_records.specs.Halves.{with_writer}
-use Rattle.wasi_records.specs.InProgress.{is_connect, is_nothing}
-use Rattle.wasi_records.specs.Listening.{begin_listen_asks, listen_bound, listen_once, listen_begun, poll_listen_asks, closed_listening, poll_listening, listen_polled, accept_record_asks, accept_listening, with_listening}
-use Rattle.wasi_records.specs.Looks.{ready_socket, ready_socket_by, ready_idle, ready_listening}
-use Rattle.wasi_records.specs.Sockets.{begin_connect_asks, connect_begun, poll_connect_asks, connect_polled, opened_receive, opened_send, idle, with_inner, with_progress, tell_local_asks, tell_remote_asks}
+use Rattle.tcp_records.specs.declared.tcp_binding.InProgress.{InProgress}
+use Rattle.tcp_records.specs.declared.tcp_binding.InProgress.TheVariants.{Binding, Started}
+use Rattle.tcp_records.specs.declared.tcp_binding.AsyncOperation.TheVariants.{Connect, Listen}
+use Rattle.tcp_records.specs.declared.tcp_listening.Listening.{Listening}
+use Rattle.tcp_records.specs.declared.tcp_listening.Listening.TheVariants.{Not, Begins, Accepts}
+use Rattle.tcp_records.specs.declared.socket.Streams.{Streams}
+use Rattle.tcp_records.specs.declared.socket.TcpRecord.{TcpRecord}
+use Rattle.tcp_records.specs.Binding.{begin_bind_asks, poll_bind_asks, poll_binding, bind_begun, bind_progress}
+use Rattle.record_common.specs.Binding.{bind_answer}
+use Rattle.tcp_records.specs.Halves.{with_writer}
+use Rattle.tcp_records.specs.InProgress.{is_connect, is_nothing}
+use Rattle.tcp_records.specs.Listening.{begin_listen_asks, listen_bound, listen_once, listen_begun, poll_listen_asks, closed_listening, poll_listening, listen_polled, accept_record_asks, accept_listening, with_listening}
+use Rattle.tcp_records.specs.Looks.{ready_socket, ready_socket_by, ready_idle, ready_listening}
+use Rattle.tcp_records.specs.Sockets.{begin_connect_asks, connect_begun, poll_connect_asks, connect_polled, opened_receive, opened_send, idle, with_inner, with_progress, tell_local_asks, tell_remote_asks}
 use Rattle.wasi_limits.specs.Alike.{BothGive, Same}
 use Rattle.wasi_limits.proofs.Like.{LikeSocket, SameSocket, OtherPermit, With, Also}
 use Rattle.wasi_limits.proofs.Together.{itself, after_both, both_give}

@@ -16,15 +16,15 @@ use Rattle.wasi_tcp.specs.Shape.{Socket}
 use Rattle.wasi_tcp.specs.Socket.{new_asks, side_of}
 use Rattle.wasi_tcp.specs.Reader.{read_state_asks}
 use Rattle.wasi_tcp.specs.Writer.{write_state_asks}
-use Rattle.wasi_records.specs.declared.tcp_binding.InProgress.{InProgress}
+use Rattle.tcp_records.specs.declared.tcp_binding.InProgress.{InProgress}
 use Rattle.wasi_records.specs.declared.records.Record.TheVariants as a_record
-use Rattle.wasi_records.specs.declared.socket.TcpRecord.{TcpRecord}
-use Rattle.wasi_records.specs.Halves.{flush_asks, reader_asks, writer_asks}
-use Rattle.wasi_records.specs.InProgress.{is_bind, is_listen}
-use Rattle.wasi_records.specs.Names.{first_ids, own_of}
+use Rattle.tcp_records.specs.declared.socket.TcpRecord.{TcpRecord}
+use Rattle.tcp_records.specs.Halves.{flush_asks, reader_asks, writer_asks}
+use Rattle.tcp_records.specs.InProgress.{is_bind, is_listen}
+use Rattle.record_common.specs.Names.{first_ids, own_of}
 use Rattle.wasi_records.specs.Records.{tcp2_at}
-use Rattle.wasi_records.specs.Sockets.{new_record}
-use Rattle.wasi_records.specs.Stops.{Stop, Trap}
+use Rattle.tcp_records.specs.Sockets.{new_record}
+use Rattle.record_common.specs.Stops.{Stop, Trap}
 use Rattle.host_store.specs.BaseStops.{BaseStop}
 use Rattle.host_store.specs.CallStops.{CallStop, Closed, Failed, Traps as CallTraps}
 use Rattle.host_store.specs.Kinds.{HandleTable, has_no_child, is_network, kind_at, make_asks, plain_input_of, plain_output_of, taken_out, watch_of, watched_by, without_handle, input_of, output_of}
@@ -37,7 +37,7 @@ use Rattle.wasi_addr.specs.declared.p2.ErrorCode.{ErrorCode as P2Code}
 use Rattle.host_store.specs.Block.{Does, Read, after_call, give, last, or_trap, ◌>>=◌, ◌>>◌}
 use Rattle.host_store.specs.Lines.{finish_connect_of, in_store, makes, on_tcp, same_stop, storing, tabling, tcp_in, told_of}
 use Rattle.host_store.specs.declared.kind.Interface.TheVariants.{P2, P3}
-use Rattle.wasi_records.specs.Sockets.{tell_local_asks, tell_remote_asks}
+use Rattle.tcp_records.specs.Sockets.{tell_local_asks, tell_remote_asks}
 use Rattle.wasi_tcp.specs.Addresses.{is_listening as listens}
 use Rattle.wasi_host.specs.Pending.{answered_on, go_on, gone_on, outcome_of, resume_asks, resume_call, resumed}
 use Rattle.host_store.specs.Standing.{allowed_answer, call_of, unstood}
@@ -58,6 +58,10 @@ use Rattle.wasi_steps.specs.declared.reply.Field.{Field}
 use Rattle.wasi_steps.specs.declared.reply.Reply.{Reply}
 use Rattle.wasi_steps.specs.declared.reply.Reply.TheVariants as reply
 use Rattle.wasi_steps.specs.declared.guest_call.GuestCall.TheVariants as guest
+use Rattle.wasi_steps.specs.declared.guest_call.TcpCall.TheVariants as tcp_call
+use Rattle.wasi_steps.specs.declared.guest_call.NameCall.TheVariants as name_call
+use Rattle.wasi_steps.specs.declared.guest_call.StreamCall.TheVariants as stream_call
+use Rattle.wasi_steps.specs.declared.guest_call.PollableCall.TheVariants as pollable_call
 use Rattle.wasi_steps.specs.declared.step.Step.{Step}
 use Rattle.wasi_steps.specs.declared.step.Step.TheVariants as step
 use Rattle.wasi_steps.specs.Reply.{family_fields, is_trap, no_fields, no_values, number_fields, truth_fields}
@@ -415,27 +419,27 @@ module _ {c : ℕ} where
   finished_like f h = BothGive _ _ (replied f _ _ h)
 
   pub call_like : {m now : Machine} {ctx its : WasiSocketsCtx} → LikeMachine c m now → LikeContext c ctx its → (line : ℕ) (s : Step) → IsTcpStep s → Alike IsTrapped (Replied c (checks_writer_of c m s)) (asks_in ctx m line s) (asks_in its now line s)
-  call_like l k line (step.Call n guest.Network) tcp = reply_like _ (network_like l (own_of line))
-  call_like l k line (step.Call n (guest.TcpCreate family)) tcp = reply_like _ (create_like l k (own_of line) family)
-  call_like l k line (step.Call n (guest.TcpStartBind s network a)) tcp = reply_like _ (bind_like l (first_ids line) s network a)
-  call_like (Machines t store other all l) k line (step.Call n (guest.TcpFinishBind s)) tcp = finished_like (reply_of no_values) (finish_on_like is_bind (Machines t store other all l) (socket_at (record { table = t; store = store }) s))
-  call_like l k line (step.Call n (guest.TcpStartConnect s network a)) tcp = reply_like _ (connect_like l (own_of line) s network a)
-  call_like (Machines t store other all l) k line (step.Call n (guest.TcpFinishConnect s)) tcp = reply_like _ (finish_connect_on_like (Machines t store other all l) (own_of line) s (socket_at (record { table = t; store = store }) s))
-  call_like (Machines t store other all l) k line (step.Call n (guest.TcpStartListen s)) tcp = reply_like _ (listen_on_like (Machines t store other all l) (first_ids line) (socket_at (record { table = t; store = store }) s))
-  call_like (Machines t store other all l) k line (step.Call n (guest.TcpFinishListen s)) tcp = finished_like (reply_of no_values) (finish_on_like is_listen (Machines t store other all l) (socket_at (record { table = t; store = store }) s))
-  call_like (Machines t store other all l) k line (step.Call n (guest.TcpAccept s)) tcp = reply_like _ (accept_on_like (Machines t store other all l) (first_ids line) s (socket_at (record { table = t; store = store }) s))
-  call_like (Machines t store other all l) k line (step.Call n (guest.TcpLocalAddress s)) tcp = reply_like _ (address_like (Machines t store other all l) (tell_local_asks (own_of line)) (tell_local_keeps (own_of line)) (socket_at (record { table = t; store = store }) s))
-  call_like (Machines t store other all l) k line (step.Call n (guest.TcpRemoteAddress s)) tcp = reply_like _ (address_like (Machines t store other all l) (tell_remote_asks (own_of line)) (tell_remote_keeps (own_of line)) (socket_at (record { table = t; store = store }) s))
-  call_like (Machines t store other all l) k line (step.Call n (guest.TcpIsListening s)) tcp = give_like _ _ (ap (reply_of truth_fields) (tells_same (λ (socket : Socket). listens socket.state) (Machines t store other all l) (socket_at (record { table = t; store = store }) s))) (Machines t store other all l)
-  call_like (Machines t store other all l) k line (step.Call n (guest.TcpAddressFamily s)) tcp = give_like _ _ (ap (reply_of family_fields) (tells_same (λ (socket : Socket). socket.family) (Machines t store other all l) (socket_at (record { table = t; store = store }) s))) (Machines t store other all l)
-  call_like (Machines t store other all l) k line (step.Call n (guest.TcpShutdown s how)) tcp = reply_like _ (shutdown_on_like (Machines t store other all l) (own_of line) how (socket_at (record { table = t; store = store }) s))
-  call_like l k line (step.Call n (guest.Read input len)) tcp = stream_reply_like _ (read_like l (own_of line) input len)
-  call_like l k line (step.Call n (guest.CheckWrite output)) tcp = alike_then (check_like l (own_of line) output) (stream_stops number_fields) (stream_stops number_fields) (λ a b g. BothGive _ _ (count_replied _ a b g))
-  call_like l k line (step.Call n (guest.Write output bytes)) tcp = stream_reply_like _ (write_like l (own_of line) output bytes)
-  call_like l k line (step.Call n (guest.Flush output)) tcp = stream_reply_like _ (flush_like l (own_of line) output)
-  call_like l k line (step.Call n (guest.Subscribe h)) tcp = reply_like _ (subscribe_like l (own_of line) h)
-  call_like l k line (step.Call n (guest.Ready p)) tcp = reply_like _ (ready_call_like l (first_ids line) p)
-  call_like l k line (step.Call n (guest.Drop h)) tcp = reply_like _ (drop_like l (first_ids line) h)
+  call_like l k line (step.Call n (guest.Names name_call.Network)) tcp = reply_like _ (network_like l (own_of line))
+  call_like l k line (step.Call n (guest.Tcp (tcp_call.Create family))) tcp = reply_like _ (create_like l k (own_of line) family)
+  call_like l k line (step.Call n (guest.Tcp (tcp_call.StartBind s network a))) tcp = reply_like _ (bind_like l (first_ids line) s network a)
+  call_like (Machines t store other all l) k line (step.Call n (guest.Tcp (tcp_call.FinishBind s))) tcp = finished_like (reply_of no_values) (finish_on_like is_bind (Machines t store other all l) (socket_at (record { table = t; store = store }) s))
+  call_like l k line (step.Call n (guest.Tcp (tcp_call.StartConnect s network a))) tcp = reply_like _ (connect_like l (own_of line) s network a)
+  call_like (Machines t store other all l) k line (step.Call n (guest.Tcp (tcp_call.FinishConnect s))) tcp = reply_like _ (finish_connect_on_like (Machines t store other all l) (own_of line) s (socket_at (record { table = t; store = store }) s))
+  call_like (Machines t store other all l) k line (step.Call n (guest.Tcp (tcp_call.StartListen s))) tcp = reply_like _ (listen_on_like (Machines t store other all l) (first_ids line) (socket_at (record { table = t; store = store }) s))
+  call_like (Machines t store other all l) k line (step.Call n (guest.Tcp (tcp_call.FinishListen s))) tcp = finished_like (reply_of no_values) (finish_on_like is_listen (Machines t store other all l) (socket_at (record { table = t; store = store }) s))
+  call_like (Machines t store other all l) k line (step.Call n (guest.Tcp (tcp_call.Accept s))) tcp = reply_like _ (accept_on_like (Machines t store other all l) (first_ids line) s (socket_at (record { table = t; store = store }) s))
+  call_like (Machines t store other all l) k line (step.Call n (guest.Tcp (tcp_call.LocalAddress s))) tcp = reply_like _ (address_like (Machines t store other all l) (tell_local_asks (own_of line)) (tell_local_keeps (own_of line)) (socket_at (record { table = t; store = store }) s))
+  call_like (Machines t store other all l) k line (step.Call n (guest.Tcp (tcp_call.RemoteAddress s))) tcp = reply_like _ (address_like (Machines t store other all l) (tell_remote_asks (own_of line)) (tell_remote_keeps (own_of line)) (socket_at (record { table = t; store = store }) s))
+  call_like (Machines t store other all l) k line (step.Call n (guest.Tcp (tcp_call.IsListening s))) tcp = give_like _ _ (ap (reply_of truth_fields) (tells_same (λ (socket : Socket). listens socket.state) (Machines t store other all l) (socket_at (record { table = t; store = store }) s))) (Machines t store other all l)
+  call_like (Machines t store other all l) k line (step.Call n (guest.Tcp (tcp_call.AddressFamily s))) tcp = give_like _ _ (ap (reply_of family_fields) (tells_same (λ (socket : Socket). socket.family) (Machines t store other all l) (socket_at (record { table = t; store = store }) s))) (Machines t store other all l)
+  call_like (Machines t store other all l) k line (step.Call n (guest.Tcp (tcp_call.Shutdown s how))) tcp = reply_like _ (shutdown_on_like (Machines t store other all l) (own_of line) how (socket_at (record { table = t; store = store }) s))
+  call_like l k line (step.Call n (guest.Stream (stream_call.Read input len))) tcp = stream_reply_like _ (read_like l (own_of line) input len)
+  call_like l k line (step.Call n (guest.Stream (stream_call.CheckWrite output))) tcp = alike_then (check_like l (own_of line) output) (stream_stops number_fields) (stream_stops number_fields) (λ a b g. BothGive _ _ (count_replied _ a b g))
+  call_like l k line (step.Call n (guest.Stream (stream_call.Write output bytes))) tcp = stream_reply_like _ (write_like l (own_of line) output bytes)
+  call_like l k line (step.Call n (guest.Stream (stream_call.Flush output))) tcp = stream_reply_like _ (flush_like l (own_of line) output)
+  call_like l k line (step.Call n (guest.Pollable (pollable_call.Subscribe h))) tcp = reply_like _ (subscribe_like l (own_of line) h)
+  call_like l k line (step.Call n (guest.Pollable (pollable_call.Ready p))) tcp = reply_like _ (ready_call_like l (first_ids line) p)
+  call_like l k line (step.Call n (guest.Pollable (pollable_call.Drop h))) tcp = reply_like _ (drop_like l (first_ids line) h)
   call_like l k line step.Turn tcp = reply_like (λ (a : Unit {0}). reply.Ok no_fields) (turn_machine_like l)
   call_like l k line (step.Poll n) tcp = reply_like _ (resume_like l n)
   call_like l k line _ tcp = absurd tcp

@@ -12,22 +12,25 @@ unfoldable use Rattle.wasi_world.specs.Asks.{bind}
 use Rattle.wasi_tcp.specs.Shape.{Socket}
 use Rattle.wasi_jobs.specs.declared.job.HostJob.{HostJob}
 use Rattle.wasi_jobs.specs.declared.job.HostJob.TheVariants.{Write, Datagram, Receive, Lookup}
-use Rattle.wasi_records.specs.declared.tcp_binding.InProgress.{InProgress}
-use Rattle.wasi_records.specs.declared.tcp_binding.InProgress.TheVariants as doing
+use Rattle.tcp_records.specs.declared.tcp_binding.InProgress.{InProgress}
+use Rattle.tcp_records.specs.declared.tcp_binding.InProgress.TheVariants as doing
 use Rattle.wasi_records.specs.declared.records.Record.{Record}
 use Rattle.wasi_records.specs.declared.records.Record.TheVariants.{Tcp, Gone}
-use Rattle.wasi_records.specs.declared.socket.TcpRecord.{TcpRecord}
-use Rattle.wasi_records.specs.declared.udp.OpenUdp.{OpenUdp}
-use Rattle.wasi_records.specs.declared.name_lookup.Lookup.{Lookup as NameLookup}
-use Rattle.wasi_records.specs.Datagrams.{turn_outgoing}
-use Rattle.wasi_records.specs.InProgress.{is_connect, is_nothing}
-use Rattle.wasi_records.specs.Listening.{accepted_record, kept_accepted, with_accepted_in}
-use Rattle.wasi_records.specs.Names.{own_of}
-use Rattle.wasi_records.specs.NameLookup.{looks_on, turn_lookup, turn_lookup_at}
-use Rattle.wasi_records.specs.Receiving.{turn_incoming}
-use Rattle.wasi_records.specs.Records.{tcp2_at, tcp2_put, tcp2_pushed, open_at, open_of, udp2_of, lookup_at, lookup_of}
-use Rattle.wasi_records.specs.Sockets.{with_progress}
-use Rattle.wasi_records.specs.Stops.{Code, Stop, code_stop}
+use Rattle.tcp_records.specs.declared.socket.TcpRecord.{TcpRecord}
+use Rattle.udp_records.specs.declared.udp.OpenUdp.{OpenUdp}
+use Rattle.lookup_records.specs.declared.name_lookup.Lookup.{Lookup as NameLookup}
+use Rattle.udp_records.specs.Datagrams.{turn_outgoing}
+use Rattle.tcp_records.specs.InProgress.{is_connect, is_nothing}
+use Rattle.tcp_records.specs.Listening.{accepted_record}
+use Rattle.wasi_records.specs.Accepted.{kept_accepted, with_accepted_in}
+use Rattle.record_common.specs.Names.{own_of}
+use Rattle.lookup_records.specs.NameLookup.{looks_on, turn_lookup}
+use Rattle.wasi_records.specs.Records.{turn_lookup_at}
+use Rattle.udp_records.specs.Receiving.{turn_incoming}
+use Rattle.wasi_records.specs.Records.{tcp2_at, tcp2_put, tcp2_pushed, open_at, udp2_of, lookup_at, lookup_of}
+use Rattle.udp_records.specs.Udp.{open_of}
+use Rattle.tcp_records.specs.Sockets.{with_progress}
+use Rattle.record_common.specs.Stops.{Code, Stop, code_stop}
 use Rattle.host_store.specs.declared.store.StandingCall.{StandingCall}
 use Rattle.host_store.specs.declared.store.StandingCall.TheVariants as standing
 use Rattle.host_tcp.specs.Dropping.{drop_output_at, drop_waits, release_at, released, wait_at}
@@ -40,7 +43,7 @@ use Rattle.host_store.specs.Block.{Call, after_call, give, last, need, or_trap, 
 use Rattle.host_store.specs.Lines.{asked_of, done_by, finish_connect_of, on_tcp, same_stop, told_of}
 use Rattle.host_store.specs.declared.kind.Interface.TheVariants.{P2}
 use Rattle.wasi_addr.specs.declared.p2.ErrorCode.TheVariants.{NotInProgress}
-use Rattle.wasi_records.specs.Sockets.{poll_connect_asks}
+use Rattle.tcp_records.specs.Sockets.{poll_connect_asks}
 use Rattle.host_store.specs.Readiness.{ready_at, ready_record}
 use Rattle.host_store.specs.Standing.{call_answered, stood, standing_as, allowed_answer, call_place}
 use Rattle.host_store.specs.Store.{Records, put_back, with_record_put, with_socket}

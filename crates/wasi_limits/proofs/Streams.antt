@@ -10,9 +10,9 @@ use Rattle.wasi_streams.specs.StreamStop as stream
 use Rattle.wasi_tcp.specs.Writer.{check_write_asks}
 use Rattle.wasi_jobs.specs.declared.job.HostJob.{HostJob}
 use Rattle.wasi_jobs.specs.declared.job.HostJob.TheVariants.{Write}
-use Rattle.wasi_records.specs.declared.socket.TcpRecord.{TcpRecord}
-use Rattle.wasi_records.specs.Halves.{begins_job, writer_asks}
-use Rattle.wasi_records.specs.Stops.{Stop}
+use Rattle.tcp_records.specs.declared.socket.TcpRecord.{TcpRecord}
+use Rattle.tcp_records.specs.Halves.{begins_job, writer_asks}
+use Rattle.record_common.specs.Stops.{Stop}
 use Rattle.host_store.specs.declared.kind.Kind.TheVariants.{ErrorValue}
 use Rattle.host_store.specs.declared.machine.Machine.{Machine}
 use Rattle.host_store.specs.CallStops.{CallStop, Closed, Traps as CallTraps, Failed}

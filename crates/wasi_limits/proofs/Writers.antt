@@ -18,12 +18,12 @@ use Rattle.wasi_tcp.specs.declared.writer.WriteState.TheVariants.{Ready}
 use Rattle.wasi_tcp.specs.Job.{new_job}
 use Rattle.wasi_tcp.specs.Reader.{reader_ready_asks, reader_shutdown_asks}
 use Rattle.wasi_tcp.specs.Writer.{look_asks, check_write_asks, permitted, write_state_asks, write_on_asks}
-use Rattle.wasi_records.specs.declared.socket.Streams.{Streams}
-use Rattle.wasi_records.specs.declared.socket.TcpRecord.{TcpRecord}
-use Rattle.wasi_records.specs.Halves.{with_writer, reader_asks, writer_asks, writer_of, flush_asks, has_job, turn_record}
-use Rattle.wasi_records.specs.Looks.{ready_reader, ready_writer, wait_writer, is_over}
-use Rattle.wasi_records.specs.Releasing.{release_asks}
-use Rattle.wasi_records.specs.Shutdowns.{shut_record, shut_streams, shut_receive, shut_send, with_streams}
+use Rattle.tcp_records.specs.declared.socket.Streams.{Streams}
+use Rattle.tcp_records.specs.declared.socket.TcpRecord.{TcpRecord}
+use Rattle.tcp_records.specs.Halves.{with_writer, reader_asks, writer_asks, writer_of, flush_asks, has_job, turn_record}
+use Rattle.tcp_records.specs.Looks.{ready_reader, ready_writer, wait_writer, is_over}
+use Rattle.tcp_records.specs.Releasing.{release_asks}
+use Rattle.tcp_records.specs.Shutdowns.{shut_record, shut_streams, shut_receive, shut_send, with_streams}
 use Rattle.wasi_limits.specs.Alike.{Alike, BothGive, OneStops, OtherStops, Same, StopsAt, Stopped}
 use Rattle.wasi_limits.proofs.Like.{LikeSocket, SameSocket, OtherPermit, LikeFound, NoneFound, BothFound, With, Also, Gives, GiveOk, GiveErr, Any, Traps}
 use Rattle.wasi_limits.proofs.Together.{itself, alike_then, same_then, both_give, same_give}

@@ -4,7 +4,7 @@ use Rattle.wasi_world.specs.declared.outcome.WasiSocketsCtx.{WasiSocketsCtx}
 use Rattle.wasi_world.specs.Asks.{Asks, Give, bind, Left}
 use Rattle.wasi_world.specs.declared.call.Entry.{Entry}
 use Rattle.wasi_limits.specs.Alike.{Alike}
-use Rattle.wasi_records.specs.declared.socket.TcpRecord.{TcpRecord}
+use Rattle.tcp_records.specs.declared.socket.TcpRecord.{TcpRecord}
 use Rattle.wasi_records.specs.Records.{tcp2_at}
 use Rattle.host_store.specs.declared.machine.Machine.{Machine}
 use Rattle.host_store.specs.Machine.{output_at}
@@ -12,6 +12,10 @@ use Rattle.wasi_steps.specs.declared.reply.Field.{Field}
 use Rattle.wasi_steps.specs.declared.reply.Reply.{Reply}
 use Rattle.wasi_steps.specs.declared.reply.Reply.TheVariants as reply
 use Rattle.wasi_steps.specs.declared.guest_call.GuestCall.TheVariants as guest
+use Rattle.wasi_steps.specs.declared.guest_call.TcpCall.TheVariants as tcp_call
+use Rattle.wasi_steps.specs.declared.guest_call.NameCall.TheVariants as name_call
+use Rattle.wasi_steps.specs.declared.guest_call.StreamCall.TheVariants as stream_call
+use Rattle.wasi_steps.specs.declared.guest_call.PollableCall.TheVariants as pollable_call
 use Rattle.wasi_steps.specs.declared.step.Step.{Step}
 use Rattle.wasi_steps.specs.declared.step.Step.TheVariants as step
 use Rattle.wasi_steps.specs.Reply.{is_trap, no_fields}
@@ -19,27 +23,27 @@ use Rattle.wasi_machine.specs.Machine.{machine_asks}
 
 -- the steps of a 0.2 TCP script
 abbrev pub IsTcpStep : Step → Type 0
-IsTcpStep (step.Call c guest.Network) = Unit {0}
-IsTcpStep (step.Call c (guest.TcpCreate family)) = Unit {0}
-IsTcpStep (step.Call c (guest.TcpStartBind s n a)) = Unit {0}
-IsTcpStep (step.Call c (guest.TcpFinishBind s)) = Unit {0}
-IsTcpStep (step.Call c (guest.TcpStartConnect s n a)) = Unit {0}
-IsTcpStep (step.Call c (guest.TcpFinishConnect s)) = Unit {0}
-IsTcpStep (step.Call c (guest.TcpStartListen s)) = Unit {0}
-IsTcpStep (step.Call c (guest.TcpFinishListen s)) = Unit {0}
-IsTcpStep (step.Call c (guest.TcpAccept s)) = Unit {0}
-IsTcpStep (step.Call c (guest.TcpLocalAddress s)) = Unit {0}
-IsTcpStep (step.Call c (guest.TcpRemoteAddress s)) = Unit {0}
-IsTcpStep (step.Call c (guest.TcpIsListening s)) = Unit {0}
-IsTcpStep (step.Call c (guest.TcpAddressFamily s)) = Unit {0}
-IsTcpStep (step.Call c (guest.TcpShutdown s how)) = Unit {0}
-IsTcpStep (step.Call c (guest.Read input len)) = Unit {0}
-IsTcpStep (step.Call c (guest.CheckWrite output)) = Unit {0}
-IsTcpStep (step.Call c (guest.Write output bytes)) = Unit {0}
-IsTcpStep (step.Call c (guest.Flush output)) = Unit {0}
-IsTcpStep (step.Call c (guest.Subscribe h)) = Unit {0}
-IsTcpStep (step.Call c (guest.Ready p)) = Unit {0}
-IsTcpStep (step.Call c (guest.Drop h)) = Unit {0}
+IsTcpStep (step.Call c (guest.Names name_call.Network)) = Unit {0}
+IsTcpStep (step.Call c (guest.Tcp (tcp_call.Create family))) = Unit {0}
+IsTcpStep (step.Call c (guest.Tcp (tcp_call.StartBind s n a))) = Unit {0}
+IsTcpStep (step.Call c (guest.Tcp (tcp_call.FinishBind s))) = Unit {0}
+IsTcpStep (step.Call c (guest.Tcp (tcp_call.StartConnect s n a))) = Unit {0}
+IsTcpStep (step.Call c (guest.Tcp (tcp_call.FinishConnect s))) = Unit {0}
+IsTcpStep (step.Call c (guest.Tcp (tcp_call.StartListen s))) = Unit {0}
+IsTcpStep (step.Call c (guest.Tcp (tcp_call.FinishListen s))) = Unit {0}
+IsTcpStep (step.Call c (guest.Tcp (tcp_call.Accept s))) = Unit {0}
+IsTcpStep (step.Call c (guest.Tcp (tcp_call.LocalAddress s))) = Unit {0}
+IsTcpStep (step.Call c (guest.Tcp (tcp_call.RemoteAddress s))) = Unit {0}
+IsTcpStep (step.Call c (guest.Tcp (tcp_call.IsListening s))) = Unit {0}
+IsTcpStep (step.Call c (guest.Tcp (tcp_call.AddressFamily s))) = Unit {0}
+IsTcpStep (step.Call c (guest.Tcp (tcp_call.Shutdown s how))) = Unit {0}
+IsTcpStep (step.Call c (guest.Stream (stream_call.Read input len))) = Unit {0}
+IsTcpStep (step.Call c (guest.Stream (stream_call.CheckWrite output))) = Unit {0}
+IsTcpStep (step.Call c (guest.Stream (stream_call.Write output bytes))) = Unit {0}
+IsTcpStep (step.Call c (guest.Stream (stream_call.Flush output))) = Unit {0}
+IsTcpStep (step.Call c (guest.Pollable (pollable_call.Subscribe h))) = Unit {0}
+IsTcpStep (step.Call c (guest.Pollable (pollable_call.Ready p))) = Unit {0}
+IsTcpStep (step.Call c (guest.Pollable (pollable_call.Drop h))) = Unit {0}
 IsTcpStep step.Turn = Unit {0}
 IsTcpStep (step.Poll n) = Unit {0}
 IsTcpStep _ = ⊥
@@ -59,7 +63,7 @@ is_writer_of c m (Some place) = is_made_by c (tcp2_at m.store.records place)
 
 -- the line is a check-write on a writer whose maker is this context
 abbrev pub checks_writer_of : ℕ → Machine → Step → Bool
-checks_writer_of c m (step.Call ctx (guest.CheckWrite output)) = is_writer_of c m (output_at m output)
+checks_writer_of c m (step.Call ctx (guest.Stream (stream_call.CheckWrite output))) = is_writer_of c m (output_at m output)
 checks_writer_of c m _ = false
 
 -- what is left of a reply whose number is left out

@@ -17,9 +17,9 @@ use Rattle.wasi_host.specs.declared.pending.Outcome.{Outcome}
 use Rattle.wasi_host.specs.declared.pending.Outcome.TheVariants.{Nothing, One, Two, Count, Bytes, Places}
 use Rattle.wasi_host.specs.declared.pending.Outcome.TheVariants as outcome
 use Rattle.host_store.specs.declared.store.Standing.{Standing}
-use Rattle.wasi_records.specs.Stops.{Stop, StopOf, Code, Trap}
-use Rattle.wasi_records.specs.declared.slot.StreamResult.{StreamResult}
-use Rattle.wasi_records.specs.declared.slot.StreamResult.TheVariants.{Completed, Dropped, Cancelled}
+use Rattle.record_common.specs.Stops.{Stop, StopOf, Code, Trap}
+use Rattle.tcp_records.specs.declared.slot.StreamResult.{StreamResult}
+use Rattle.tcp_records.specs.declared.slot.StreamResult.TheVariants.{Completed, Dropped, Cancelled}
 use Rattle.host_store.specs.CallStops.{CallStop, Failed, Closed, Traps}
 use Rattle.host_store.specs.Machine.{first_state, own_of, socket_at, udp_socket_at, incoming_at, outgoing_at, lookup_number}
 use Rattle.host_tcp.specs.Creates.{create_asks}
@@ -33,8 +33,8 @@ use Rattle.host_streams.specs.PlainStreams.{input_pipe_asks, output_pipe_asks, p
 use Rattle.host_streams.specs.StreamCalls.{read_asks, skip_asks, check_asks, write_asks, write_zeroes_asks, flushed_asks, splice_asks}
 use Rattle.host_streams.specs.Blocking.{blocking_read_asks, blocking_skip_asks, blocking_write_asks, blocking_zeroes_asks, blocking_flush_asks, blocking_splice_asks}
 use Rattle.wasi_host.specs.Cancel.{cancel_asks}
-pub use Rattle.wasi_records.specs.Names.{first_ids}
-use Rattle.wasi_records.specs.InProgress.{is_bind, is_listen}
+pub use Rattle.record_common.specs.Names.{first_ids}
+use Rattle.tcp_records.specs.InProgress.{is_bind, is_listen}
 use Rattle.wasi_host.specs.Pending.{resume_asks}
 use Rattle.wasi_host.specs.Polling.{block_by, poll_asks}
 use Rattle.host_store.specs.Standing.{stands_as}
@@ -62,6 +62,15 @@ use Rattle.wasi_steps.specs.declared.reply.Reply.TheVariants as reply
 use Rattle.wasi_steps.specs.declared.guest_call.GuestCall.{GuestCall}
 use Rattle.wasi_steps.specs.declared.step.Step.{Step}
 use Rattle.wasi_steps.specs.declared.guest_call.GuestCall.TheVariants as guest
+use Rattle.wasi_steps.specs.declared.guest_call.TcpCall.TheVariants as tcp_call
+use Rattle.wasi_steps.specs.declared.guest_call.UdpCall.TheVariants as udp_call
+use Rattle.wasi_steps.specs.declared.guest_call.NameCall.TheVariants as name_call
+use Rattle.wasi_steps.specs.declared.guest_call.StreamCall.TheVariants as stream_call
+use Rattle.wasi_steps.specs.declared.guest_call.PipeCall.TheVariants as pipe_call
+use Rattle.wasi_steps.specs.declared.guest_call.PollableCall.TheVariants as pollable_call
+use Rattle.wasi_steps.specs.declared.guest_call.P3TcpCall.TheVariants as p3_tcp_call
+use Rattle.wasi_steps.specs.declared.guest_call.P3UdpCall.TheVariants as p3_udp_call
+use Rattle.wasi_steps.specs.declared.guest_call.P3NameCall.TheVariants as p3_name_call
 use Rattle.wasi_steps.specs.declared.step.Step.TheVariants as step
 use Rattle.wasi_steps.specs.Reply.{word_of_p2, word_of_p3, word_of_lookup, is_trap, no_fields, no_values, number_fields, numbers_fields, handed_fields, pair_fields, pair_values, datagram_values, received_values, triple_values, bytes_fields, truth_fields, family_fields, address_values, found_values, ips_values, absent_values}
 use Rattle.wasi_steps.specs.Settings.{Chosen, AnOption, TheBacklog, chosen, udp_opt, udp_chosen}
@@ -225,89 +234,89 @@ abbrev pub context_at : List WasiSocketsCtx → ℕ → WasiSocketsCtx
 context_at contexts n = context_in (slice_get contexts n)
 
 abbrev pub call_asks : WasiSocketsCtx → Machine → ℕ → GuestCall → Asks (Reply × Machine)
-call_asks ctx m line guest.Network = bind (network_asks m (own_of line)) (λ done. Give (reply_of number_fields done.0, done.1))
-call_asks ctx m line (guest.TcpCreate family) = bind (create_asks m (own_of line) ctx family) (λ done. Give (reply_of number_fields done.0, done.1))
-call_asks ctx m line (guest.TcpStartBind s n a) = bind (start_bind_asks m (first_ids line) s n a) (λ done. Give (answer_reply_of no_values line done.0, done.1))
-call_asks ctx m line (guest.TcpFinishBind s) = let done = finish_on is_bind m (socket_at m s) in Give (reply_of no_values done.0, done.1)
-call_asks ctx m line (guest.TcpStartConnect s n a) = bind (start_connect_asks m (own_of line) s n a) (λ done. Give (reply_of no_values done.0, done.1))
-call_asks ctx m line (guest.TcpFinishConnect s) = bind (finish_connect (own_of line) s m) (λ done. Give (reply_of pair_values done.0, done.1))
-call_asks ctx m line (guest.TcpStartListen s) = bind (start_listen_on m (first_ids line) (socket_at m s)) (λ done. Give (answer_reply_of no_values line done.0, done.1))
-call_asks ctx m line (guest.TcpFinishListen s) = let done = finish_on is_listen m (socket_at m s) in Give (reply_of no_values done.0, done.1)
-call_asks ctx m line (guest.TcpAccept s) = bind (accept_asks m (first_ids line) s) (λ done. Give (reply_of triple_values done.0, done.1))
-call_asks ctx m line (guest.TcpLocalAddress s) = bind (local_address (own_of line) s m) (λ done. Give (reply_of address_values done.0, done.1))
-call_asks ctx m line (guest.TcpRemoteAddress s) = bind (remote_address (own_of line) s m) (λ done. Give (reply_of address_values done.0, done.1))
-call_asks ctx m line (guest.TcpIsListening s) = Give (reply_of truth_fields (is_listening m s), m)
-call_asks ctx m line (guest.TcpAddressFamily s) = Give (reply_of family_fields (address_family m s), m)
-call_asks ctx m line (guest.TcpGet s option) = bind (get_option_on m (own_of line) option (socket_at m s)) (λ done. Give (reply_of number_fields done.0, done.1))
-call_asks ctx m line (guest.TcpSet s setting) = bind (set_chosen m (own_of line) (socket_at m s) (chosen setting)) (λ done. Give (reply_of no_values done.0, done.1))
-call_asks ctx m line (guest.UdpCreate family) = bind (create_udp_asks m (first_ids line) ctx family) (λ done. Give (answer_reply_of number_fields line done.0, done.1))
-call_asks ctx m line (guest.UdpStartBind s n a) = bind (start_udp_bind_asks m (first_ids line) s n a) (λ done. Give (answer_reply_of no_values line done.0, done.1))
-call_asks ctx m line (guest.UdpFinishBind s) = let done = finish_udp_bind_on m (udp_socket_at m s) in Give (reply_of no_values done.0, done.1)
-call_asks ctx m line (guest.UdpLocalAddress s) = bind (udp_local_on m (own_of line) (udp_socket_at m s)) (λ done. Give (reply_of address_values done.0, done.1))
-call_asks ctx m line (guest.UdpRemoteAddress s) = Give (reply_of address_values (udp_remote_on m (udp_socket_at m s)), m)
-call_asks ctx m line (guest.UdpAddressFamily s) = Give (reply_of family_fields (udp_family_on m (udp_socket_at m s)), m)
-call_asks ctx m line (guest.UdpGet s option) = bind (get_udp_option_on m (own_of line) (udp_opt option) (udp_socket_at m s)) (λ done. Give (reply_of number_fields done.0, done.1))
-call_asks ctx m line (guest.UdpSet s setting) = bind (set_udp_option_on m (own_of line) (udp_chosen setting).0 (udp_chosen setting).1 (udp_socket_at m s)) (λ done. Give (reply_of no_values done.0, done.1))
-call_asks ctx m line (guest.UdpStream s remote) = bind (udp_stream_asks m (first_ids line) s remote) (λ done. Give (answer_reply_of pair_values line done.0, done.1))
-call_asks ctx m line (guest.UdpReceive incoming most) = bind (receive_datagrams_on m (first_ids line) most (incoming_at m incoming)) (λ done. Give (reply_of datagram_values done.0, done.1))
-call_asks ctx m line (guest.UdpCheckSend outgoing) = let done = check_send_on m (outgoing_at m outgoing) in Give (reply_of number_fields done.0, done.1)
-call_asks ctx m line (guest.UdpSend outgoing datagrams) = bind (send_datagrams_on m (first_ids line) datagrams (outgoing_at m outgoing)) (λ done. Give (reply_of number_fields done.0, done.1))
-call_asks ctx m line (guest.Resolve n name) = bind (resolve_asks m (own_of line) ctx n name) (λ done. Give (reply_of number_fields done.0, done.1))
-call_asks ctx m line (guest.ResolveNext lookup) = let done = next_address_on m (lookup_number m lookup) in Give (reply_of found_values done.0, done.1)
-call_asks ctx m line (guest.NetworkErrorCode e) = Give (reply_of absent_values (without_code (error_code_on m e)), m)
-call_asks ctx m line (guest.Read input len) = bind (read_asks m (own_of line) input len) (λ done. Give (stream_reply_of bytes_fields done.0, done.1))
-call_asks ctx m line (guest.CheckWrite output) = bind (check_asks m (own_of line) output) (λ done. Give (stream_reply_of number_fields done.0, done.1))
-call_asks ctx m line (guest.Write output bytes) = bind (write_asks m (own_of line) output bytes) (λ done. Give (stream_reply_of no_values done.0, done.1))
-call_asks ctx m line (guest.Flush output) = bind (flushed_asks m (own_of line) output) (λ done. Give (stream_reply_of no_values done.0, done.1))
-call_asks ctx m line (guest.Subscribe h) = bind (subscribe_asks m (own_of line) h) (λ done. Give (reply_of number_fields done.0, done.1))
-call_asks ctx m line (guest.Ready p) = bind (ready_asks m (first_ids line) p) (λ done. Give (reply_of truth_fields done.0, done.1))
-call_asks ctx m line (guest.Block p) = bind (block_by First m (first_ids line) p) (λ done. Give (answer_reply_of no_values line done.0, done.1))
-call_asks ctx m line (guest.PollList ps) = bind (poll_asks m (first_ids line) ps) (λ done. Give (answer_reply_of numbers_fields line done.0, done.1))
-call_asks ctx m line (guest.Drop h) = bind (drop_asks m (first_ids line) h) (λ done. Give (answer_reply_of no_values line done.0, done.1))
-call_asks ctx m line (guest.TcpShutdown s how) = bind (shutdown_on m (own_of line) how (socket_at m s)) (λ done. Give (reply_of no_values done.0, done.1))
-call_asks ctx m line (guest.PipeIn bytes) = bind (input_pipe_asks m (own_of line) bytes) (λ done. Give (reply_of number_fields done.0, done.1))
-call_asks ctx m line (guest.PipeOut capacity) = bind (output_pipe_asks m (own_of line) capacity) (λ done. Give (reply_of number_fields done.0, done.1))
-call_asks ctx m line (guest.PipeContents output) = Give (reply_of bytes_fields (contents_asks m output), m)
-call_asks ctx m line guest.Sink = bind (plain_asks m (own_of line) (PlainOutput plain_output.Sink)) (λ done. Give (reply_of number_fields done.0, done.1))
-call_asks ctx m line guest.ClosedIn = bind (plain_asks m (own_of line) (PlainInput plain_input.Closed)) (λ done. Give (reply_of number_fields done.0, done.1))
-call_asks ctx m line guest.ClosedOut = bind (plain_asks m (own_of line) (PlainOutput plain_output.Closed)) (λ done. Give (reply_of number_fields done.0, done.1))
-call_asks ctx m line (guest.Skip input len) = bind (skip_asks m (own_of line) input len) (λ done. Give (stream_reply_of number_fields done.0, done.1))
-call_asks ctx m line (guest.WriteZeroes output len) = bind (write_zeroes_asks m (own_of line) output len) (λ done. Give (stream_reply_of no_values done.0, done.1))
-call_asks ctx m line (guest.Splice output input len) = bind (splice_asks m (own_of line) output input len) (λ done. Give (stream_reply_of number_fields done.0, done.1))
-call_asks ctx m line (guest.BlockingRead input len) = bind (blocking_read_asks m (first_ids line) input len) (λ done. Give (blocked_reply_of bytes_fields line done.0, done.1))
-call_asks ctx m line (guest.BlockingSkip input len) = bind (blocking_skip_asks m (first_ids line) input len) (λ done. Give (blocked_reply_of number_fields line done.0, done.1))
-call_asks ctx m line (guest.BlockingWrite output bytes) = bind (blocking_write_asks m (first_ids line) output bytes) (λ done. Give (blocked_reply_of no_values line done.0, done.1))
-call_asks ctx m line (guest.BlockingZeroes output len) = bind (blocking_zeroes_asks m (first_ids line) output len) (λ done. Give (blocked_reply_of no_values line done.0, done.1))
-call_asks ctx m line (guest.BlockingFlush output) = bind (blocking_flush_asks m (first_ids line) output) (λ done. Give (blocked_reply_of no_values line done.0, done.1))
-call_asks ctx m line (guest.BlockingSplice output input len) = bind (blocking_splice_asks m (first_ids line) output input len) (λ done. Give (blocked_reply_of number_fields line done.0, done.1))
-call_asks ctx m line (guest.P3TcpCreate family) = bind (p3.create (own_of line) ctx family m) (λ done. Give (p3_reply number_fields done.0, done.1))
-call_asks ctx m line (guest.P3TcpBind s a) = bind (p3.bind_to (first_ids line) s a m) (λ done. Give (p3_answer_reply no_values line done.0, done.1))
-call_asks ctx m line (guest.P3TcpConnect s a) = bind (p3.connect_to line s a m) (λ done. Give (p3_answer_reply no_values line done.0, done.1))
-call_asks ctx m line (guest.P3TcpListen s) = bind (listening3.listen_to (first_ids line) s m) (λ done. Give (p3_answer_reply number_fields line done.0, done.1))
-call_asks ctx m line (guest.P3Accept listener remaining) = bind (listening3.accept (first_ids line) true remaining listener m) (λ done. Give (stream_result_reply handed_fields done.0, done.1))
-call_asks ctx m line (guest.P3TcpLocalAddress s) = bind (p3.local_address (own_of line) s m) (λ done. Give (p3_reply address_values done.0, done.1))
-call_asks ctx m line (guest.P3TcpRemoteAddress s) = bind (p3.remote_address (own_of line) s m) (λ done. Give (p3_reply address_values done.0, done.1))
-call_asks ctx m line (guest.P3TcpIsListening s) = Give (p3_reply truth_fields (p3.is_listening m s), m)
-call_asks ctx m line (guest.P3TcpAddressFamily s) = Give (p3_reply family_fields (p3.address_family m s), m)
-call_asks ctx m line (guest.P3TcpGet s option) = bind (p3.get_option (own_of line) s option m) (λ done. Give (p3_reply number_fields done.0, done.1))
-call_asks ctx m line (guest.P3TcpSet s setting) = bind (set_p3 (own_of line) s (chosen setting) m) (λ done. Give (p3_reply no_values done.0, done.1))
-call_asks ctx m line (guest.P3TcpSend s) = bind (streams3.send (own_of line) s m) (λ done. Give (p3_reply pair_values done.0, done.1))
-call_asks ctx m line (guest.P3Write end bytes) = bind (streams3.write (own_of line) true bytes end m) (λ done. Give (stream_result_reply number_fields done.0, done.1))
-call_asks ctx m line (guest.P3TcpReceive s) = bind (streams3.receive (own_of line) s m) (λ done. Give (p3_reply pair_values done.0, done.1))
-call_asks ctx m line (guest.P3Read end len) = bind (streams3.read (own_of line) true len end m) (λ done. Give (stream_result_reply bytes_fields done.0, done.1))
-call_asks ctx m line (guest.P3Result slot) = let done = streams3.take_result m slot in Give (slot_reply done.0, done.1)
-call_asks ctx m line (guest.P3UdpCreate family) = bind (udp3.create (first_ids line) ctx family m) (λ done. Give (p3_answer_reply number_fields line done.0, done.1))
-call_asks ctx m line (guest.P3UdpBind s a) = bind (udp3.bind_to (first_ids line) s a m) (λ done. Give (p3_answer_reply no_values line done.0, done.1))
-call_asks ctx m line (guest.P3UdpConnect s a) = bind (udp3.connect_to (first_ids line) s a m) (λ done. Give (p3_answer_reply no_values line done.0, done.1))
-call_asks ctx m line (guest.P3UdpDisconnect s) = bind (udp3.disconnect (own_of line) s m) (λ done. Give (p3_reply no_values done.0, done.1))
-call_asks ctx m line (guest.P3UdpSend s d) = bind (udp3.send line s d m) (λ done. Give (p3_answer_reply no_values line done.0, done.1))
-call_asks ctx m line (guest.P3UdpReceive s) = bind (udp3.receive line s m) (λ done. Give (p3_answer_reply received_values line done.0, done.1))
-call_asks ctx m line (guest.P3UdpLocalAddress s) = bind (udp3.local_address (own_of line) s m) (λ done. Give (p3_reply address_values done.0, done.1))
-call_asks ctx m line (guest.P3UdpRemoteAddress s) = Give (p3_reply address_values (udp3.remote_address m s), m)
-call_asks ctx m line (guest.P3UdpAddressFamily s) = Give (p3_reply family_fields (udp3.address_family m s), m)
-call_asks ctx m line (guest.P3UdpGet s option) = bind (udp3.get_option (own_of line) s (udp_opt option) m) (λ done. Give (p3_reply number_fields done.0, done.1))
-call_asks ctx m line (guest.P3UdpSet s setting) = bind (udp3.set_option (own_of line) s (udp_chosen setting).0 (udp_chosen setting).1 m) (λ done. Give (p3_reply no_values done.0, done.1))
-call_asks ctx m line (guest.P3Resolve name) = bind (lookup3.resolve line ctx name m) (λ done. Give (lookup_reply line done.0, done.1))
+call_asks ctx m line (guest.Names name_call.Network) = bind (network_asks m (own_of line)) (λ done. Give (reply_of number_fields done.0, done.1))
+call_asks ctx m line (guest.Tcp (tcp_call.Create family)) = bind (create_asks m (own_of line) ctx family) (λ done. Give (reply_of number_fields done.0, done.1))
+call_asks ctx m line (guest.Tcp (tcp_call.StartBind s n a)) = bind (start_bind_asks m (first_ids line) s n a) (λ done. Give (answer_reply_of no_values line done.0, done.1))
+call_asks ctx m line (guest.Tcp (tcp_call.FinishBind s)) = let done = finish_on is_bind m (socket_at m s) in Give (reply_of no_values done.0, done.1)
+call_asks ctx m line (guest.Tcp (tcp_call.StartConnect s n a)) = bind (start_connect_asks m (own_of line) s n a) (λ done. Give (reply_of no_values done.0, done.1))
+call_asks ctx m line (guest.Tcp (tcp_call.FinishConnect s)) = bind (finish_connect (own_of line) s m) (λ done. Give (reply_of pair_values done.0, done.1))
+call_asks ctx m line (guest.Tcp (tcp_call.StartListen s)) = bind (start_listen_on m (first_ids line) (socket_at m s)) (λ done. Give (answer_reply_of no_values line done.0, done.1))
+call_asks ctx m line (guest.Tcp (tcp_call.FinishListen s)) = let done = finish_on is_listen m (socket_at m s) in Give (reply_of no_values done.0, done.1)
+call_asks ctx m line (guest.Tcp (tcp_call.Accept s)) = bind (accept_asks m (first_ids line) s) (λ done. Give (reply_of triple_values done.0, done.1))
+call_asks ctx m line (guest.Tcp (tcp_call.LocalAddress s)) = bind (local_address (own_of line) s m) (λ done. Give (reply_of address_values done.0, done.1))
+call_asks ctx m line (guest.Tcp (tcp_call.RemoteAddress s)) = bind (remote_address (own_of line) s m) (λ done. Give (reply_of address_values done.0, done.1))
+call_asks ctx m line (guest.Tcp (tcp_call.IsListening s)) = Give (reply_of truth_fields (is_listening m s), m)
+call_asks ctx m line (guest.Tcp (tcp_call.AddressFamily s)) = Give (reply_of family_fields (address_family m s), m)
+call_asks ctx m line (guest.Tcp (tcp_call.Get s option)) = bind (get_option_on m (own_of line) option (socket_at m s)) (λ done. Give (reply_of number_fields done.0, done.1))
+call_asks ctx m line (guest.Tcp (tcp_call.Set s setting)) = bind (set_chosen m (own_of line) (socket_at m s) (chosen setting)) (λ done. Give (reply_of no_values done.0, done.1))
+call_asks ctx m line (guest.Udp (udp_call.Create family)) = bind (create_udp_asks m (first_ids line) ctx family) (λ done. Give (answer_reply_of number_fields line done.0, done.1))
+call_asks ctx m line (guest.Udp (udp_call.StartBind s n a)) = bind (start_udp_bind_asks m (first_ids line) s n a) (λ done. Give (answer_reply_of no_values line done.0, done.1))
+call_asks ctx m line (guest.Udp (udp_call.FinishBind s)) = let done = finish_udp_bind_on m (udp_socket_at m s) in Give (reply_of no_values done.0, done.1)
+call_asks ctx m line (guest.Udp (udp_call.LocalAddress s)) = bind (udp_local_on m (own_of line) (udp_socket_at m s)) (λ done. Give (reply_of address_values done.0, done.1))
+call_asks ctx m line (guest.Udp (udp_call.RemoteAddress s)) = Give (reply_of address_values (udp_remote_on m (udp_socket_at m s)), m)
+call_asks ctx m line (guest.Udp (udp_call.AddressFamily s)) = Give (reply_of family_fields (udp_family_on m (udp_socket_at m s)), m)
+call_asks ctx m line (guest.Udp (udp_call.Get s option)) = bind (get_udp_option_on m (own_of line) (udp_opt option) (udp_socket_at m s)) (λ done. Give (reply_of number_fields done.0, done.1))
+call_asks ctx m line (guest.Udp (udp_call.Set s setting)) = bind (set_udp_option_on m (own_of line) (udp_chosen setting).0 (udp_chosen setting).1 (udp_socket_at m s)) (λ done. Give (reply_of no_values done.0, done.1))
+call_asks ctx m line (guest.Udp (udp_call.Stream s remote)) = bind (udp_stream_asks m (first_ids line) s remote) (λ done. Give (answer_reply_of pair_values line done.0, done.1))
+call_asks ctx m line (guest.Udp (udp_call.Receive incoming most)) = bind (receive_datagrams_on m (first_ids line) most (incoming_at m incoming)) (λ done. Give (reply_of datagram_values done.0, done.1))
+call_asks ctx m line (guest.Udp (udp_call.CheckSend outgoing)) = let done = check_send_on m (outgoing_at m outgoing) in Give (reply_of number_fields done.0, done.1)
+call_asks ctx m line (guest.Udp (udp_call.Send outgoing datagrams)) = bind (send_datagrams_on m (first_ids line) datagrams (outgoing_at m outgoing)) (λ done. Give (reply_of number_fields done.0, done.1))
+call_asks ctx m line (guest.Names (name_call.Resolve n name)) = bind (resolve_asks m (own_of line) ctx n name) (λ done. Give (reply_of number_fields done.0, done.1))
+call_asks ctx m line (guest.Names (name_call.ResolveNext lookup)) = let done = next_address_on m (lookup_number m lookup) in Give (reply_of found_values done.0, done.1)
+call_asks ctx m line (guest.Names (name_call.NetworkErrorCode e)) = Give (reply_of absent_values (without_code (error_code_on m e)), m)
+call_asks ctx m line (guest.Stream (stream_call.Read input len)) = bind (read_asks m (own_of line) input len) (λ done. Give (stream_reply_of bytes_fields done.0, done.1))
+call_asks ctx m line (guest.Stream (stream_call.CheckWrite output)) = bind (check_asks m (own_of line) output) (λ done. Give (stream_reply_of number_fields done.0, done.1))
+call_asks ctx m line (guest.Stream (stream_call.Write output bytes)) = bind (write_asks m (own_of line) output bytes) (λ done. Give (stream_reply_of no_values done.0, done.1))
+call_asks ctx m line (guest.Stream (stream_call.Flush output)) = bind (flushed_asks m (own_of line) output) (λ done. Give (stream_reply_of no_values done.0, done.1))
+call_asks ctx m line (guest.Pollable (pollable_call.Subscribe h)) = bind (subscribe_asks m (own_of line) h) (λ done. Give (reply_of number_fields done.0, done.1))
+call_asks ctx m line (guest.Pollable (pollable_call.Ready p)) = bind (ready_asks m (first_ids line) p) (λ done. Give (reply_of truth_fields done.0, done.1))
+call_asks ctx m line (guest.Pollable (pollable_call.Block p)) = bind (block_by First m (first_ids line) p) (λ done. Give (answer_reply_of no_values line done.0, done.1))
+call_asks ctx m line (guest.Pollable (pollable_call.PollList ps)) = bind (poll_asks m (first_ids line) ps) (λ done. Give (answer_reply_of numbers_fields line done.0, done.1))
+call_asks ctx m line (guest.Pollable (pollable_call.Drop h)) = bind (drop_asks m (first_ids line) h) (λ done. Give (answer_reply_of no_values line done.0, done.1))
+call_asks ctx m line (guest.Tcp (tcp_call.Shutdown s how)) = bind (shutdown_on m (own_of line) how (socket_at m s)) (λ done. Give (reply_of no_values done.0, done.1))
+call_asks ctx m line (guest.Pipe (pipe_call.In bytes)) = bind (input_pipe_asks m (own_of line) bytes) (λ done. Give (reply_of number_fields done.0, done.1))
+call_asks ctx m line (guest.Pipe (pipe_call.Out capacity)) = bind (output_pipe_asks m (own_of line) capacity) (λ done. Give (reply_of number_fields done.0, done.1))
+call_asks ctx m line (guest.Pipe (pipe_call.Contents output)) = Give (reply_of bytes_fields (contents_asks m output), m)
+call_asks ctx m line (guest.Pipe pipe_call.Sink) = bind (plain_asks m (own_of line) (PlainOutput plain_output.Sink)) (λ done. Give (reply_of number_fields done.0, done.1))
+call_asks ctx m line (guest.Pipe pipe_call.ClosedIn) = bind (plain_asks m (own_of line) (PlainInput plain_input.Closed)) (λ done. Give (reply_of number_fields done.0, done.1))
+call_asks ctx m line (guest.Pipe pipe_call.ClosedOut) = bind (plain_asks m (own_of line) (PlainOutput plain_output.Closed)) (λ done. Give (reply_of number_fields done.0, done.1))
+call_asks ctx m line (guest.Stream (stream_call.Skip input len)) = bind (skip_asks m (own_of line) input len) (λ done. Give (stream_reply_of number_fields done.0, done.1))
+call_asks ctx m line (guest.Stream (stream_call.WriteZeroes output len)) = bind (write_zeroes_asks m (own_of line) output len) (λ done. Give (stream_reply_of no_values done.0, done.1))
+call_asks ctx m line (guest.Stream (stream_call.Splice output input len)) = bind (splice_asks m (own_of line) output input len) (λ done. Give (stream_reply_of number_fields done.0, done.1))
+call_asks ctx m line (guest.Stream (stream_call.BlockingRead input len)) = bind (blocking_read_asks m (first_ids line) input len) (λ done. Give (blocked_reply_of bytes_fields line done.0, done.1))
+call_asks ctx m line (guest.Stream (stream_call.BlockingSkip input len)) = bind (blocking_skip_asks m (first_ids line) input len) (λ done. Give (blocked_reply_of number_fields line done.0, done.1))
+call_asks ctx m line (guest.Stream (stream_call.BlockingWrite output bytes)) = bind (blocking_write_asks m (first_ids line) output bytes) (λ done. Give (blocked_reply_of no_values line done.0, done.1))
+call_asks ctx m line (guest.Stream (stream_call.BlockingZeroes output len)) = bind (blocking_zeroes_asks m (first_ids line) output len) (λ done. Give (blocked_reply_of no_values line done.0, done.1))
+call_asks ctx m line (guest.Stream (stream_call.BlockingFlush output)) = bind (blocking_flush_asks m (first_ids line) output) (λ done. Give (blocked_reply_of no_values line done.0, done.1))
+call_asks ctx m line (guest.Stream (stream_call.BlockingSplice output input len)) = bind (blocking_splice_asks m (first_ids line) output input len) (λ done. Give (blocked_reply_of number_fields line done.0, done.1))
+call_asks ctx m line (guest.P3Tcp (p3_tcp_call.Create family)) = bind (p3.create (own_of line) ctx family m) (λ done. Give (p3_reply number_fields done.0, done.1))
+call_asks ctx m line (guest.P3Tcp (p3_tcp_call.Bind s a)) = bind (p3.bind_to (first_ids line) s a m) (λ done. Give (p3_answer_reply no_values line done.0, done.1))
+call_asks ctx m line (guest.P3Tcp (p3_tcp_call.Connect s a)) = bind (p3.connect_to line s a m) (λ done. Give (p3_answer_reply no_values line done.0, done.1))
+call_asks ctx m line (guest.P3Tcp (p3_tcp_call.Listen s)) = bind (listening3.listen_to (first_ids line) s m) (λ done. Give (p3_answer_reply number_fields line done.0, done.1))
+call_asks ctx m line (guest.P3Tcp (p3_tcp_call.Accept listener remaining)) = bind (listening3.accept (first_ids line) true remaining listener m) (λ done. Give (stream_result_reply handed_fields done.0, done.1))
+call_asks ctx m line (guest.P3Tcp (p3_tcp_call.LocalAddress s)) = bind (p3.local_address (own_of line) s m) (λ done. Give (p3_reply address_values done.0, done.1))
+call_asks ctx m line (guest.P3Tcp (p3_tcp_call.RemoteAddress s)) = bind (p3.remote_address (own_of line) s m) (λ done. Give (p3_reply address_values done.0, done.1))
+call_asks ctx m line (guest.P3Tcp (p3_tcp_call.IsListening s)) = Give (p3_reply truth_fields (p3.is_listening m s), m)
+call_asks ctx m line (guest.P3Tcp (p3_tcp_call.AddressFamily s)) = Give (p3_reply family_fields (p3.address_family m s), m)
+call_asks ctx m line (guest.P3Tcp (p3_tcp_call.Get s option)) = bind (p3.get_option (own_of line) s option m) (λ done. Give (p3_reply number_fields done.0, done.1))
+call_asks ctx m line (guest.P3Tcp (p3_tcp_call.Set s setting)) = bind (set_p3 (own_of line) s (chosen setting) m) (λ done. Give (p3_reply no_values done.0, done.1))
+call_asks ctx m line (guest.P3Tcp (p3_tcp_call.Send s)) = bind (streams3.send (own_of line) s m) (λ done. Give (p3_reply pair_values done.0, done.1))
+call_asks ctx m line (guest.P3Tcp (p3_tcp_call.Write end bytes)) = bind (streams3.write (own_of line) true bytes end m) (λ done. Give (stream_result_reply number_fields done.0, done.1))
+call_asks ctx m line (guest.P3Tcp (p3_tcp_call.Receive s)) = bind (streams3.receive (own_of line) s m) (λ done. Give (p3_reply pair_values done.0, done.1))
+call_asks ctx m line (guest.P3Tcp (p3_tcp_call.Read end len)) = bind (streams3.read (own_of line) true len end m) (λ done. Give (stream_result_reply bytes_fields done.0, done.1))
+call_asks ctx m line (guest.P3Tcp (p3_tcp_call.Result slot)) = let done = streams3.take_result m slot in Give (slot_reply done.0, done.1)
+call_asks ctx m line (guest.P3Udp (p3_udp_call.Create family)) = bind (udp3.create (first_ids line) ctx family m) (λ done. Give (p3_answer_reply number_fields line done.0, done.1))
+call_asks ctx m line (guest.P3Udp (p3_udp_call.Bind s a)) = bind (udp3.bind_to (first_ids line) s a m) (λ done. Give (p3_answer_reply no_values line done.0, done.1))
+call_asks ctx m line (guest.P3Udp (p3_udp_call.Connect s a)) = bind (udp3.connect_to (first_ids line) s a m) (λ done. Give (p3_answer_reply no_values line done.0, done.1))
+call_asks ctx m line (guest.P3Udp (p3_udp_call.Disconnect s)) = bind (udp3.disconnect (own_of line) s m) (λ done. Give (p3_reply no_values done.0, done.1))
+call_asks ctx m line (guest.P3Udp (p3_udp_call.Send s d)) = bind (udp3.send line s d m) (λ done. Give (p3_answer_reply no_values line done.0, done.1))
+call_asks ctx m line (guest.P3Udp (p3_udp_call.Receive s)) = bind (udp3.receive line s m) (λ done. Give (p3_answer_reply received_values line done.0, done.1))
+call_asks ctx m line (guest.P3Udp (p3_udp_call.LocalAddress s)) = bind (udp3.local_address (own_of line) s m) (λ done. Give (p3_reply address_values done.0, done.1))
+call_asks ctx m line (guest.P3Udp (p3_udp_call.RemoteAddress s)) = Give (p3_reply address_values (udp3.remote_address m s), m)
+call_asks ctx m line (guest.P3Udp (p3_udp_call.AddressFamily s)) = Give (p3_reply family_fields (udp3.address_family m s), m)
+call_asks ctx m line (guest.P3Udp (p3_udp_call.Get s option)) = bind (udp3.get_option (own_of line) s (udp_opt option) m) (λ done. Give (p3_reply number_fields done.0, done.1))
+call_asks ctx m line (guest.P3Udp (p3_udp_call.Set s setting)) = bind (udp3.set_option (own_of line) s (udp_chosen setting).0 (udp_chosen setting).1 m) (λ done. Give (p3_reply no_values done.0, done.1))
+call_asks ctx m line (guest.P3Names (p3_name_call.Resolve name)) = bind (lookup3.resolve line ctx name m) (λ done. Give (lookup_reply line done.0, done.1))
 
 -- what a step asks, its reply, and the machine afterwards, where this is the context of its guest
 abbrev pub asks_in : WasiSocketsCtx → Machine → ℕ → Step → Asks (Reply × Machine)

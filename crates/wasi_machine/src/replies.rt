@@ -2,7 +2,7 @@
 
 ghost use Rattle.std.specs.Prelude.{◌≡◌, IfOk, IsOkAnd};
 ghost use Rattle.host_store.specs.CallStops.{Failed, call_outcome, IsCallStop};
-ghost use Rattle.wasi_records.specs.Stops.{host_outcome, IsStop};
+ghost use Rattle.record_common.specs.Stops.{host_outcome, IsStop};
 ghost use Rattle.wasi_machine.specs.Machine.{reply_of, stream_reply_of, answer_reply_of};
 ghost use Rattle.wasi_machine.specs.Machine.{blocked_reply_of, cancelled_reply, stop_reply};
 ghost use Rattle.wasi_machine.specs.Machine.{call_stop_reply, outcome_reply, resumed_reply};
@@ -12,10 +12,11 @@ ghost use Rattle.wasi_p3.specs.Stops.{ends_as, IsStopOf};
 ghost use Rattle.wasi_steps.specs.Reply.{word_of_p3, word_of_lookup};
 
 use host_store::{CallError, LookupError};
+use record_common::SocketError;
 use std::alloc::{AllocError, Global};
+use tcp_records::StreamResult;
 use wasi_addr::{ErrorCode, p2, p3};
 use wasi_host::Outcome;
-use wasi_records::{SocketError, StreamResult};
 use wasi_steps::{CodeWord, IntoFields, Reply};
 use wasi_world::{Answer, Handle, IpList};
 

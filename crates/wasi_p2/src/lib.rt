@@ -4,7 +4,7 @@
 
 ghost use Rattle.std.specs.Prelude.{◌≡◌, IfErr, IfOk, Ok, false};
 ghost use Rattle.wasi_world.specs.Asks.{AsksFor};
-ghost use Rattle.wasi_records.specs.Stops.{host_outcome};
+ghost use Rattle.record_common.specs.Stops.{host_outcome};
 ghost use Rattle.host_store.specs.Machine.{own_of};
 ghost use Rattle.host_store.specs.Views.{state_of, HostKept};
 ghost use Rattle.wasi_streams.specs.HostError.{of_fault};
@@ -17,8 +17,8 @@ pub mod tcp;
 pub mod udp;
 
 use host_store::{Kind, WasiSocketsCtxView, handles};
+pub use record_common::SocketError;
 use wasi_addr::p2;
-pub use wasi_records::SocketError;
 use wasi_streams::{Fault, HostError};
 use wasi_world::{Handle, Ids, World};
 

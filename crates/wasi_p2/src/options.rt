@@ -5,7 +5,7 @@
 ghost use Rattle.std.specs.Prelude.{◌≡◌, ◌≤◌, IfOk, false};
 ghost use Rattle.wasi_world.specs.Asks.{AsksFor};
 ghost use Rattle.socket_common.specs.Options.{largest_value, option_of, number_of};
-ghost use Rattle.wasi_records.specs.Stops.{host_outcome};
+ghost use Rattle.record_common.specs.Stops.{host_outcome};
 ghost use Rattle.host_store.specs.Machine.{own_of, socket_at};
 ghost use Rattle.host_store.specs.Views.{state_of, HostKept};
 ghost use Rattle.wasi_p2.specs.Options.{get_option_on, set_option_on, set_backlog_on};

@@ -4,10 +4,10 @@
 ghost use Rattle.std.specs.Prelude.{◌≡◌, ◌+◌, ◌<◌, ◌^◌, IfOk, IsSome, Ok, false};
 ghost use Rattle.wasi_world.specs.Asks.{AsksFor};
 ghost use Rattle.wasi_world.specs.Seen.{Seen};
-ghost use Rattle.wasi_records.specs.Stops.{host_outcome};
-ghost use Rattle.wasi_records.specs.InProgress.{is_bind, is_listen};
+ghost use Rattle.record_common.specs.Stops.{host_outcome};
+ghost use Rattle.tcp_records.specs.InProgress.{is_bind, is_listen};
 ghost use Rattle.host_store.specs.Kinds.{kind_at};
-ghost use Rattle.wasi_records.specs.Listening.{TakesOne};
+ghost use Rattle.tcp_records.specs.Listening.{TakesOne};
 ghost use Rattle.host_store.specs.Machine.{own_of, socket_at};
 ghost use Rattle.host_tcp.specs.Creates.{create_asks};
 ghost use Rattle.host_store.specs.KnownSides.{KnowsSides};
@@ -21,8 +21,8 @@ ghost use Rattle.wasi_p2.specs.Tcp.{ids_after_accept};
 use crate::SocketError;
 pub use crate::options::{get_option, set_listen_backlog_size, set_option};
 use host_store::{Kind, WasiSocketsCtxView, handles};
+use tcp_records::AsyncOperation;
 use wasi_addr::{IpSocketAddress, ShutdownType, SocketAddressFamily};
-use wasi_records::AsyncOperation;
 use wasi_world::{Answer, Handle, Ids, Sock, World};
 
 /// Creates a TCP socket of this family (`create-tcp-socket`). A context that may not use TCP:

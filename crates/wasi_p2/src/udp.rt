@@ -6,8 +6,8 @@ ghost use Rattle.std.specs.Prelude.{◌≡◌, ◌+◌, ◌<◌, ◌≤◌, ◌^
 ghost use Rattle.wasi_world.specs.Asks.{AsksFor};
 ghost use Rattle.wasi_world.specs.Seen.{Seen};
 ghost use Rattle.socket_common.specs.Options.{largest_value, option_of, number_of};
-ghost use Rattle.wasi_records.specs.Names.{RoseUpTo};
-ghost use Rattle.wasi_records.specs.Stops.{host_outcome};
+ghost use Rattle.record_common.specs.Names.{RoseUpTo};
+ghost use Rattle.record_common.specs.Stops.{host_outcome};
 ghost use Rattle.host_store.specs.Machine.{own_of, udp_socket_at, incoming_at, outgoing_at};
 ghost use Rattle.host_store.specs.KnownSides.{KnowsSides};
 ghost use Rattle.host_udp.specs.UdpCreates.{create_udp_asks};

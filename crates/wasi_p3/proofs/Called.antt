@@ -17,10 +17,10 @@ use Rattle.wasi_world.specs.declared.outcome.WasiSocketsCtx.{WasiSocketsCtx}
 use Rattle.wasi_world.specs.Seen.{Seen}
 use Rattle.wasi_world.specs.Asks.{Asks, bind, AsksFor, outcome}
 use Rattle.wasi_world.proofs.Walks.{asks_end, asks_err, asks_given, reaches_in, reaches_on, asks_ok}
-use Rattle.wasi_records.specs.declared.socket.TcpRecord.{TcpRecord}
-use Rattle.wasi_records.specs.declared.udp.OpenUdp.{OpenUdp}
+use Rattle.tcp_records.specs.declared.socket.TcpRecord.{TcpRecord}
+use Rattle.udp_records.specs.declared.udp.OpenUdp.{OpenUdp}
 use Rattle.wasi_records.specs.Records.{open_at, tcp2_at}
-use Rattle.wasi_records.specs.Stops.{Stop, Trap, fault_outcome}
+use Rattle.record_common.specs.Stops.{Stop, Trap, fault_outcome}
 use Rattle.host_store.specs.declared.kind.Kind.TheVariants.{Tcp3}
 use Rattle.host_store.specs.declared.machine.Machine.{Machine}
 use Rattle.host_store.specs.Block.{give, or_stop}

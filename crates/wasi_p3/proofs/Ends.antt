@@ -10,7 +10,7 @@ use Rattle.wasi_streams.specs.declared.fault.HostError.TheVariants as error
 use Rattle.wasi_world.specs.Seen.{Seen}
 use Rattle.wasi_world.specs.Asks.{Asks, Give, bind, AsksFor}
 use Rattle.wasi_world.proofs.Walks.{asks_at, asks_end, asks_err, asks_given, asks_then, reaches_all, reaches_in}
-use Rattle.wasi_records.specs.Stops.{Code, Trap}
+use Rattle.record_common.specs.Stops.{Code, Trap}
 use Rattle.host_store.specs.declared.machine.Machine.{Machine}
 use Rattle.host_store.specs.BaseStops.{BaseStop, ends_as, named_as, renamed}
 use Rattle.host_store.specs.Block.{Does, after_call}

@@ -9,7 +9,7 @@ use Rattle.wasi_streams.specs.declared.fault.HostError.TheVariants as error
 use Rattle.wasi_world.specs.Seen.{Seen}
 use Rattle.wasi_world.specs.Asks.{Asks, bind, AsksFor}
 use Rattle.wasi_world.proofs.Walks.{asks_end, asks_err, reaches_in}
-use Rattle.wasi_records.specs.Stops.{StopOf, Code, Trap}
+use Rattle.record_common.specs.Stops.{StopOf, Code, Trap}
 use Rattle.host_store.specs.declared.machine.Machine.{Machine}
 use Rattle.host_store.specs.BaseStops.{BaseStop, ends_as, named_as, renamed}
 use Rattle.host_store.specs.Block.{Does, after_call, give}

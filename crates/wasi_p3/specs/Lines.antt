@@ -6,11 +6,11 @@ use Rattle.wasi_addr.specs.Code.{p3_of_code}
 use Rattle.wasi_world.specs.declared.outcome.TrapKind.TheVariants.{NoSuchHandle}
 use Rattle.wasi_world.specs.Asks.{Asks, Give, bind}
 use Rattle.wasi_tcp.specs.Shape.{Socket}
-use Rattle.wasi_records.specs.declared.socket.TcpRecord.{TcpRecord}
-use Rattle.wasi_records.specs.declared.udp.OpenUdp.{OpenUdp}
+use Rattle.tcp_records.specs.declared.socket.TcpRecord.{TcpRecord}
+use Rattle.udp_records.specs.declared.udp.OpenUdp.{OpenUdp}
 use Rattle.wasi_records.specs.Records.{open_at}
-use Rattle.wasi_records.specs.Sockets.{inner_answered}
-use Rattle.wasi_records.specs.Stops.{Trap}
+use Rattle.tcp_records.specs.Sockets.{inner_answered}
+use Rattle.record_common.specs.Stops.{Trap}
 use Rattle.host_store.specs.declared.machine.Machine.{Machine}
 use Rattle.host_store.specs.Block.{Does, Line, Look, Call, last, ◌>>=◌}
 use Rattle.host_store.specs.BaseStops.{renamed}

@@ -8,7 +8,7 @@ use Rattle.wasi_world.specs.declared.outcome.Refusal.{Refusal}
 use Rattle.wasi_world.specs.declared.outcome.Refusal.TheVariants as refusal
 use Rattle.wasi_streams.specs.declared.fault.HostError.{HostError}
 use Rattle.wasi_streams.specs.declared.fault.HostError.TheVariants as error
-use Rattle.wasi_records.specs.Stops.{StopOf, Code, Trap}
+use Rattle.record_common.specs.Stops.{StopOf, Code, Trap}
 pub use Rattle.host_store.specs.BaseStops.{ends_as, trap_of}
 
 -- that of a call of a socket

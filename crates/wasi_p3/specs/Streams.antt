@@ -6,13 +6,14 @@ use Rattle.wasi_world.specs.declared.ids.OpId.{OpId}
 use Rattle.wasi_world.specs.declared.outcome.Answer.{Answer}
 use Rattle.wasi_world.specs.declared.outcome.TrapKind.TheVariants.{NoSuchHandle}
 use Rattle.wasi_world.specs.Asks.{Give}
-use Rattle.wasi_records.specs.declared.slot.Slot.{Slot}
-use Rattle.wasi_records.specs.declared.slot.StreamResult.{StreamResult}
-use Rattle.wasi_records.specs.declared.socket.TcpRecord.{TcpRecord}
-use Rattle.wasi_records.specs.Ends.{take_receive_end, take_send_end}
+use Rattle.tcp_records.specs.declared.slot.Slot.{Slot}
+use Rattle.tcp_records.specs.declared.slot.StreamResult.{StreamResult}
+use Rattle.tcp_records.specs.declared.socket.TcpRecord.{TcpRecord}
+use Rattle.tcp_records.specs.Ends.{take_receive_end, take_send_end}
 use Rattle.wasi_records.specs.Records.{tcp2_at}
-use Rattle.wasi_records.specs.Slots.{StreamEnd, slot_at, result_of}
-use Rattle.wasi_records.specs.Stops.{Stop, Trap}
+use Rattle.tcp_records.specs.Slots.{StreamEnd, result_of}
+use Rattle.wasi_records.specs.Records.{slot_at}
+use Rattle.record_common.specs.Stops.{Stop, Trap}
 use Rattle.host_store.specs.declared.kind.ConnectionEnd.{ConnectionEnd}
 use Rattle.host_store.specs.declared.kind.Kind.{Kind}
 use Rattle.host_store.specs.declared.kind.Kind.TheVariants.{Receive3, Send3, Result3}

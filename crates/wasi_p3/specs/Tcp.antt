@@ -12,8 +12,8 @@ use Rattle.wasi_world.specs.declared.outcome.WasiSocketsCtx.{WasiSocketsCtx}
 use Rattle.wasi_world.specs.Asks.{Asks}
 use Rattle.wasi_tcp.specs.Addresses.{is_listening as listens}
 use Rattle.wasi_tcp.specs.Options.{get_option_asks, set_option_asks, set_backlog_asks}
-use Rattle.wasi_records.specs.Stops.{Stop}
-use Rattle.wasi_records.specs.Sockets.{tell_local_asks, tell_remote_asks}
+use Rattle.record_common.specs.Stops.{Stop}
+use Rattle.tcp_records.specs.Sockets.{tell_local_asks, tell_remote_asks}
 use Rattle.host_store.specs.declared.kind.Kind.TheVariants.{Tcp3}
 use Rattle.host_store.specs.declared.machine.Machine.{Machine}
 use Rattle.host_tcp.specs.Creates.{create_to}

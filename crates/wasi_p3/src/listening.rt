@@ -2,7 +2,7 @@
 
 ghost use Rattle.std.specs.Prelude.{◌≡◌, ◌+◌, ◌<◌, ◌^◌, false, IfOk};
 ghost use Rattle.wasi_world.specs.Asks.{AsksFor};
-ghost use Rattle.wasi_records.specs.Listening.{TakesOne};
+ghost use Rattle.tcp_records.specs.Listening.{TakesOne};
 ghost use Rattle.host_store.specs.KnownSides.{KnowsSides};
 ghost use Rattle.host_store.specs.Machine.{own_of};
 ghost use Rattle.host_store.specs.Views.{state_of, HostKept, SameView};
@@ -12,7 +12,7 @@ ghost use Rattle.wasi_p3.specs.Stops.{ends_as};
 use crate::error::{SocketError, named};
 use host_store::{Kind, WasiSocketsCtxView, handles};
 use host_tcp::not_yet;
-use wasi_records::StreamResult;
+use tcp_records::StreamResult;
 use wasi_world::{Answer, Handle, Ids, World};
 
 /// Makes a socket listen (`tcp-socket.listen`), and makes its listener, which outlives the handle of

@@ -12,7 +12,7 @@ ghost use Rattle.wasi_p3.specs.Tcp.{get_option, set_option, set_backlog};
 
 use crate::error::{SocketError, answered};
 use host_store::{WasiSocketsCtxView, handles};
-use wasi_records::TcpRecord;
+use tcp_records::TcpRecord;
 use wasi_tcp::Setting;
 use wasi_world::{Handle, Ids, Opt, TrapKind, World};
 

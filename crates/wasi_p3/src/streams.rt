@@ -13,8 +13,9 @@ ghost use Rattle.wasi_world.specs.Seen.{Seen};
 use crate::error::{SocketError, named};
 use host_store::{Kind, WasiSocketsCtxView, handles};
 use std::alloc::Global;
+use tcp_records::{Slot, StreamResult};
 use wasi_addr::{ErrorCode, p3};
-use wasi_records::{RecordId, Slot, StreamResult};
+use wasi_records::RecordId;
 use wasi_world::{Answer, Handle, Ids, Octets, Sock, TrapKind, World};
 
 /// The write end of a connection, by its handle (`SendStreamConsumer` of the crate wasmtime-wasi).

@@ -12,8 +12,8 @@ ghost use Rattle.wasi_p3.specs.Tcp.{remote_address, is_listening, address_family
 use crate::error::{SocketError, answered, named};
 pub use crate::options::{get_option, set_listen_backlog_size, set_option};
 use host_store::{Kind, WasiSocketsCtxView, handles};
+use tcp_records::TcpRecord;
 use wasi_addr::{IpSocketAddress, SocketAddressFamily};
-use wasi_records::TcpRecord;
 use wasi_world::{Answer, Handle, Ids, TrapKind, World};
 
 /// Creates a TCP socket of this family (`tcp-socket.create`). A context that may not use TCP:

@@ -14,8 +14,8 @@ ghost use Rattle.wasi_p3.specs.Udp.{address_family, disconnect, get_option, set_
 use crate::error::{SocketError, answered, named, told};
 use host_store::{Interface, WasiSocketsCtxView, handles};
 use socket_common::Setting;
+use udp_records::OpenUdp;
 use wasi_addr::{IpSocketAddress, SocketAddressFamily};
-use wasi_records::OpenUdp;
 use wasi_world::{Answer, Handle, Ids, IncomingDatagram, Opt, OutgoingDatagram, TrapKind, World};
 
 /// Creates a UDP socket of this family (`udp-socket.create`). A context that may not use UDP:

@@ -8,13 +8,14 @@ use Rattle.wasi_world.specs.Seen.{Seen}
 use Rattle.wasi_tcp.specs.Socket.{side_of}
 use Rattle.wasi_records.specs.declared.records.Record.{Record}
 use Rattle.wasi_records.specs.declared.records.Record.TheVariants.{Tcp, Udp, Lookup, InputPipe, OutputPipe, Slot as SlotRecord, Gone}
-use Rattle.wasi_records.specs.declared.udp.UdpRecord.{UdpRecord}
-use Rattle.wasi_records.specs.declared.udp.UdpRecord.TheVariants.{Creating, Open, Closed}
-use Rattle.wasi_records.specs.Sides.{Weight, Tally, each, only, no_socket, one_socket, tally, tally_all, made_in, closed_in, held_by, held_in, ClosesAll}
+use Rattle.udp_records.specs.declared.udp.UdpRecord.{UdpRecord}
+use Rattle.udp_records.specs.declared.udp.UdpRecord.TheVariants.{Creating, Open, Closed}
+use Rattle.record_common.specs.Sides.{Weight, Tally, each, only, no_socket, one_socket, tally, tally_all, made_in, closed_in}
+use Rattle.wasi_records.specs.Sides.{held_by, held_in, ClosesAll}
 use Rattle.wasi_records.specs.Closing.{AsksNothing, NamesThese, ClosesMore, ClosesSides, HasClosedEach}
-use Rattle.wasi_records.specs.Listening.{side_in}
-use Rattle.wasi_records.specs.Udp.{udp_holds}
-use Rattle.wasi_records.proofs.SideCounts.{same_tally}
+use Rattle.tcp_records.specs.Listening.{side_in}
+use Rattle.udp_records.specs.Udp.{udp_holds}
+use Rattle.record_common.proofs.SideCounts.{same_tally}
 
 pub quiet_again : {old mid new : Seen} → AsksNothing old mid → AsksNothing mid new → AsksNothing old new
 quiet_again h k = record { log = k.log ∙ h.log; faults = k.faults ∙ h.faults; plan = k.plan ∙ h.plan }

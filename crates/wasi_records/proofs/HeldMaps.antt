@@ -14,11 +14,12 @@ use Rattle.slab.specs.Slab.{Slab}
 use Rattle.wasi_records.specs.declared.records.Record.{Record}
 use Rattle.wasi_records.specs.declared.records.Record.TheVariants.{Gone}
 use Rattle.wasi_records.specs.declared.record_list.NumberedRecord.{NumberedRecord}
-use Rattle.wasi_records.specs.Sides.{Weight, held_by, held_in}
+use Rattle.record_common.specs.Sides.{Weight}
+use Rattle.wasi_records.specs.Sides.{held_by, held_in}
 use Rattle.wasi_records.specs.RecordMap.{record_under, record_in, records_of, numbered, IsSound}
 use Rattle.wasi_records.proofs.Numbers.{at_itself, at_another}
 use Rattle.wasi_records.proofs.PipeCounts.{more_in}
-use Rattle.wasi_records.proofs.SideCounts.{same_tally}
+use Rattle.record_common.proofs.SideCounts.{same_tally}
 use Rattle.wasi_records.proofs.RecordMaps.{length_numbered, read_numbered, numbered_same, set_numbered, none_led, none_given}
 
 pub length_records_of : (s : Slab NumberedRecord) (es : List (ℕ × ℕ)) → length (records_of s es) ≡ length es

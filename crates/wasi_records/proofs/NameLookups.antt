@@ -1,42 +1,14 @@
--- Lookups of names: what is asked of one, which are in the store, and the network sockets of the records where one is replaced.
+-- Lookups of names among the records, and the network sockets of the records where one is replaced.
 use Rattle.std.specs.Borrow.{Bor, MutBor}
-use Rattle.std.proofs.Common.{◌≡◌, ℕ, zero, suc, ◌+◌, ◌<◌, List, [], ◌∷◌, Some, None, sym, ap, refl, map, length, slice_set, get_or, arith}
-use Rattle.wasi_records.specs.declared.name_lookup.Lookup.{Lookup as NameLookup}
+use Rattle.std.proofs.Common.{◌≡◌, ℕ, zero, suc, ◌+◌, List, [], ◌∷◌, Some, None, sym, ap, refl, length}
+use Rattle.lookup_records.specs.declared.name_lookup.Lookup.{Lookup as NameLookup}
 use Rattle.wasi_records.specs.declared.records.Record.{Record}
 use Rattle.wasi_records.specs.declared.records.Record.TheVariants.{Tcp, Udp, Lookup, InputPipe, OutputPipe, Slot as SlotRecord, Gone}
 use Rattle.wasi_records.specs.Numbered.{item_at}
 use Rattle.wasi_records.specs.Records.{lookup_at, lookup_put, lookup_pushed}
-use Rattle.wasi_records.specs.Sides.{Weight, no_socket, held_by, held_in}
-use Rattle.wasi_addr.specs.Address.{canonical}
-use Rattle.wasi_addr.specs.declared.address.IpAddress.{IpAddress}
-use Rattle.wasi_world.specs.declared.ids.OpId.{OpId}
-use Rattle.wasi_world.specs.Typed.{ask_lookup}
-use Rattle.wasi_records.proofs.SideCounts.{Calm, Any, same_tally}
-
--- no network socket is made or closed
-pub calm_lookup : (op : OpId) (host : List ℕ) → Calm Any (ask_lookup op host)
-calm_lookup op host = ((λ t. refl, refl), λ t. tt)
-
--- == addresses that were found
--- the first so many in their canonical form, and the others as they are
-abbrev pub converted : ℕ → List IpAddress → List IpAddress
-converted zero xs = xs
-converted (suc n) [] = []
-converted (suc n) (x ∷ xs) = canonical x ∷ converted n xs
-
-pub converted_all : (xs : List IpAddress) → converted (length xs) xs ≡ map canonical xs
-converted_all [] = refl
-converted_all (x ∷ xs) = ap (λ (l : List IpAddress). canonical x ∷ l) (converted_all xs)
-
-pub length_converted : (n : ℕ) (xs : List IpAddress) → length (converted n xs) ≡ length xs
-length_converted zero xs = refl
-length_converted (suc n) [] = refl
-length_converted (suc n) (x ∷ xs) = ap suc (length_converted n xs)
-
-pub converted_next : (n : ℕ) (xs : List IpAddress) (d : IpAddress) → n < length xs → slice_set (converted n xs) n (canonical (get_or (converted n xs) n d)) ≡ converted (suc n) xs
-converted_next n [] d l = absurd (omega (arith, l))
-converted_next zero (x ∷ xs) d l = refl
-converted_next (suc n) (x ∷ xs) d l = ap (λ (l : List IpAddress). canonical x ∷ l) (converted_next n xs d (omega (arith, l)))
+use Rattle.record_common.specs.Sides.{Weight, no_socket}
+use Rattle.wasi_records.specs.Sides.{held_by, held_in}
+use Rattle.record_common.proofs.SideCounts.{same_tally}
 
 -- == what is lent, by its number
 pub lookup_found : (xs : List Record) (i : ℕ) (x : MutBor NameLookup) → Some x.now ≡ lookup_at xs i → lookup_at xs i ≡ Some x.now

@@ -4,8 +4,9 @@ use Rattle.memory_streams.specs.Plain.{Contents}
 use Rattle.wasi_records.specs.declared.records.Record.{Record}
 use Rattle.wasi_records.specs.declared.records.Record.TheVariants.{Tcp, Udp, Lookup, InputPipe, OutputPipe, Slot as SlotRecord, Gone}
 use Rattle.wasi_records.specs.Records.{input_pipe_at, input_pipe_put, output_pipe_at, output_pipe_put}
-use Rattle.wasi_records.specs.Sides.{Weight, no_socket, held_by, held_in}
-use Rattle.wasi_records.proofs.SideCounts.{same_tally}
+use Rattle.record_common.specs.Sides.{Weight, no_socket}
+use Rattle.wasi_records.specs.Sides.{held_by, held_in}
+use Rattle.record_common.proofs.SideCounts.{same_tally}
 
 module _ (w : Weight) where
   input_in : (rs : List Record) (i : ℕ) (old now : List ℕ) → input_pipe_at rs i ≡ Some old → held_in (input_pipe_put rs i now) w ≡ held_in rs w

@@ -2,10 +2,11 @@
 use Rattle.std.proofs.Common.{◌≡◌, ℕ, zero, suc, ◌+◌, List, [], ◌∷◌, Some, refl, ap}
 use Rattle.wasi_records.specs.declared.records.Record.{Record}
 use Rattle.wasi_records.specs.declared.records.Record.TheVariants.{Tcp, Udp, Lookup, InputPipe, OutputPipe, Slot as SlotRecord, Gone}
-use Rattle.wasi_records.specs.declared.slot.Slot.{Slot}
-use Rattle.wasi_records.specs.Sides.{Weight, held_by, held_in}
-use Rattle.wasi_records.specs.Slots.{slot_at, slot_put, slot_pushed}
-use Rattle.wasi_records.proofs.SideCounts.{same_tally}
+use Rattle.tcp_records.specs.declared.slot.Slot.{Slot}
+use Rattle.record_common.specs.Sides.{Weight}
+use Rattle.wasi_records.specs.Sides.{held_by, held_in}
+use Rattle.wasi_records.specs.Records.{slot_at, slot_put, slot_pushed}
+use Rattle.record_common.proofs.SideCounts.{same_tally}
 
 slot_in : (w : Weight) (rs : List Record) (i : ℕ) (old now : Slot) → slot_at rs i ≡ Some old → held_in (slot_put rs i now) w ≡ held_in rs w
 slot_in w [] i old now h = refl

@@ -3,13 +3,15 @@ use Rattle.std.specs.Borrow.{Bor, MutBor}
 use Rattle.std.proofs.Common.{◌≡◌, ℕ, zero, suc, ◌+◌, List, [], ◌∷◌, Option, Some, None, refl, sym, ap, arith}
 use Rattle.wasi_records.specs.declared.records.Record.{Record}
 use Rattle.wasi_records.specs.declared.records.Record.TheVariants.{Tcp, Udp, Lookup, InputPipe, OutputPipe, Slot as SlotRecord, Gone}
-use Rattle.wasi_records.specs.declared.udp.OpenUdp.{OpenUdp}
-use Rattle.wasi_records.specs.declared.udp.UdpRecord.{UdpRecord}
-use Rattle.wasi_records.specs.declared.udp.UdpRecord.TheVariants.{Creating, Open, Closed}
-use Rattle.wasi_records.specs.Records.{udp2_at, udp2_put, udp2_pushed, open_of, open_at, open_put}
-use Rattle.wasi_records.specs.Sides.{Weight, held_in}
-use Rattle.wasi_records.specs.Udp.{udp_holds}
-use Rattle.wasi_records.proofs.SideCounts.{same_tally}
+use Rattle.udp_records.specs.declared.udp.OpenUdp.{OpenUdp}
+use Rattle.udp_records.specs.declared.udp.UdpRecord.{UdpRecord}
+use Rattle.udp_records.specs.declared.udp.UdpRecord.TheVariants.{Creating, Open, Closed}
+use Rattle.wasi_records.specs.Records.{udp2_at, udp2_put, udp2_pushed, open_at, open_put}
+use Rattle.udp_records.specs.Udp.{open_of}
+use Rattle.record_common.specs.Sides.{Weight}
+use Rattle.wasi_records.specs.Sides.{held_in}
+use Rattle.udp_records.specs.Udp.{udp_holds}
+use Rattle.record_common.proofs.SideCounts.{same_tally}
 
 -- == what is lent, by its number
 pub udp_at : (xs : List Record) (i : ℕ) (x : MutBor UdpRecord) → Some x.now ≡ udp2_at xs i → udp2_at xs i ≡ Some x.now

@@ -2,7 +2,7 @@
 use Rattle.std.specs.Prelude.{◌≡◌, ℕ, ◌+◌, ◌<◌, ◌^◌, List, [], ◌++◌, true, Option, Some, None, IfSome}
 use Rattle.wasi_world.specs.declared.ids.OpId.{OpId}
 use Rattle.wasi_world.specs.Seen.{Seen}
-use Rattle.wasi_records.specs.Sides.{Tally, Weight, each, only, made_in, closed_in, tally_all}
+use Rattle.record_common.specs.Sides.{Tally, Weight, each, only, made_in, closed_in, tally_all}
 
 -- From old on nothing was asked: the end mark and closings are no entries.
 pub record AsksNothing (old new : Seen) : Type 0 where

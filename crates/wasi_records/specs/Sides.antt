@@ -1,81 +1,11 @@
--- The network sockets that a log made and closed, and those that the records hold.
-use Rattle.std.specs.Prelude.{◌≡◌, ℕ, ◌+◌, Bool, true, false, if◌then◌else◌, List, [], ◌∷◌, ◌++◌, Option, Some, None, option_map, IfSome, Result, Ok}
-use Rattle.wasi_world.specs.declared.call.Call.{Call}
-use Rattle.wasi_world.specs.declared.call.Call.TheVariants.{TcpCreate, UdpCreate, Hand, Close}
-use Rattle.wasi_world.specs.declared.call.Told.{Told}
-use Rattle.wasi_world.specs.declared.call.Entry.{Entry}
-use Rattle.wasi_world.specs.declared.ids.OpId.{OpId}
-use Rattle.wasi_world.specs.declared.outcome.Answer.{Answer}
-use Rattle.wasi_world.specs.declared.outcome.Answer.TheVariants.{Ready}
-use Rattle.wasi_world.specs.declared.outcome.Refusal.{Refusal}
-use Rattle.wasi_world.specs.Seen.{Seen, Passes}
-use Rattle.wasi_world.specs.Sides.{is_done, is_same}
-use Rattle.wasi_tcp.specs.Shape.{Socket}
-use Rattle.wasi_tcp.specs.Socket.{side_of}
+-- The network sockets that the records hold.
+use Rattle.std.specs.Prelude.{◌≡◌, ◌+◌, List, [], ◌∷◌, IfSome}
+use Rattle.wasi_world.specs.Seen.{Seen}
 use Rattle.wasi_records.specs.declared.records.Record.{Record}
 use Rattle.wasi_records.specs.declared.records.Record.TheVariants.{Tcp, Udp, Lookup, InputPipe, OutputPipe, Slot, Gone}
-use Rattle.wasi_records.specs.declared.socket.TcpRecord.{TcpRecord}
-use Rattle.wasi_records.specs.Listening.{side_in}
-use Rattle.wasi_records.specs.Udp.{udp_holds}
-
--- what each network socket counts for
-abbrev pub Weight : Type 0
-Weight = OpId → ℕ
-
--- network sockets, each as often as it comes: what they count for together, whatever each counts for
-abbrev pub Tally : Type 0
-Tally = Weight → ℕ
-
--- each counts for one, so that they are counted
-abbrev pub each : Weight
-each sock = 1
-
--- one network socket counts, and no other, so that it is told how often it comes
-abbrev pub only : OpId → Weight
-only sock other = if is_same sock other then 1 else 0
-
--- == network sockets
-abbrev pub no_socket : Tally
-no_socket w = 0
-
-abbrev pub one_socket : OpId → Tally
-one_socket sock w = w sock
-
-abbrev pub tally : Option OpId → Tally
-tally (Some sock) = one_socket sock
-tally None = no_socket
-
-abbrev pub tally_all : List OpId → Tally
-tally_all [] w = 0
-tally_all (sock ∷ socks) w = w sock + tally_all socks w
-
--- == those of a log
--- whether a call made one: a create or a hand that was answered done makes that of its operation's name
-abbrev pub makes : Call → Told → Bool
-makes (TcpCreate ctx family) told = is_done told
-makes (UdpCreate ctx family) told = is_done told
-makes (Hand sock peer) told = is_done told
-makes _ told = false
-
-abbrev pub made_by : OpId → Call → Told → Tally
-made_by op c told w = if makes c told then w op else 0
-
-abbrev pub closed_by : Call → Option OpId
-closed_by (Close sock) = Some sock
-closed_by _ = None
-
-abbrev pub made_in : List Entry → Tally
-made_in [] w = 0
-made_in (e ∷ es) w = made_by e.op e.call e.answer w + made_in es w
-
-abbrev pub closed_in : List Entry → Tally
-closed_in [] w = 0
-closed_in (e ∷ es) w = tally (closed_by e.call) w + closed_in es w
-
--- == those of records
--- what the record of a socket holds: the socket's, and that of a listen in progress, or of a connection that isn't taken
-abbrev pub holds : TcpRecord → Tally
-holds r w = tally (side_of r.inner) w + tally (side_in r.listening) w
+use Rattle.udp_records.specs.Udp.{udp_holds}
+use Rattle.record_common.specs.Sides.{Tally, each, no_socket, made_in, closed_in}
+use Rattle.tcp_records.specs.Sides.{holds}
 
 abbrev pub held_by : Record → Tally
 held_by (Tcp r) = holds r
@@ -89,32 +19,6 @@ held_by Gone = no_socket
 abbrev pub held_in : List Record → Tally
 held_in [] w = 0
 held_in (x ∷ rs) w = held_by x w + held_in rs w
-
--- the network socket that the answer of an accept gives away
-abbrev pub given_by : Result (Answer Socket) Refusal → Tally
-given_by (Ok (Ready socket)) = tally (side_of socket)
-given_by _ = no_socket
-
--- The record holds the network sockets that it held, with those that were made and without those that were closed or that it
--- gave away.
-pub record Balances (before after : Seen) (given : Tally) (old now : TcpRecord) : Type 0 where
-  pub entries : List Entry
-  pub passed : Passes before entries after
-  pub balance : (w : Weight) → closed_in entries w + (holds now w + given w) ≡ made_in entries w + holds old w
-
--- What was asked closed the network sockets that are no longer held, and made none.
-pub record HoldsFewer (before after : Seen) (old now : Tally) : Type 0 where
-  pub entries : List Entry
-  pub passed : Passes before entries after
-  pub made : (w : Weight) → made_in entries w ≡ 0
-  pub balance : (w : Weight) → closed_in entries w + now w ≡ old w
-
--- What was asked made no network socket and closed none.
-pub record MakesNone (before after : Seen) : Type 0 where
-  pub entries : List Entry
-  pub log : after.log ≡ option_map (λ log. log ++ entries) before.log
-  pub made : (w : Weight) → made_in entries w ≡ 0
-  pub closed : (w : Weight) → closed_in entries w ≡ 0
 
 -- As many network sockets were closed after the end mark as the log made and didn't close.
 pub record ClosesAll (old new : Seen) : Type 0 where

@@ -4,7 +4,8 @@ ghost use Rattle.std.specs.Prelude.{◌≡◌, true};
 ghost use Rattle.std.specs.List.Sorted.{IsStrictlySortedBy};
 ghost use Rattle.std.specs.Map.{keys_of};
 ghost use Rattle.std.specs.Ordering.{nat_cmp};
-ghost use Rattle.wasi_records.specs.Sides.{held_by, held_in, tally};
+ghost use Rattle.wasi_records.specs.Sides.{held_by, held_in};
+ghost use Rattle.record_common.specs.Sides.{tally};
 ghost use Rattle.wasi_records.specs.Closing.{ClosesMore, ClosesSides, NamesThese};
 ghost use Rattle.wasi_records.specs.RecordMap.{record_under, records_of};
 

@@ -9,13 +9,12 @@ ghost use Rattle.wasi_records.specs.Used.{used_in};
 ghost use Rattle.wasi_records.specs.declared.records.Record.{Record};
 ghost use Rattle.wasi_records.specs.declared.records.Record.TheVariants.{Gone};
 
-use crate::name_lookup::Lookup;
 use crate::record_list::{RecordId, RecordList, SlotKey};
-use crate::slot::Slot;
-use crate::socket::TcpRecord;
 use crate::totals::Share;
-use crate::udp::{OpenUdp, UdpRecord};
+use lookup_records::Lookup;
 use memory_streams::{InputPipeCore, OutputPipe};
+use tcp_records::{Slot, TcpRecord};
+use udp_records::{OpenUdp, UdpRecord};
 
 /// What a record number in a handle stands for, a case for each kind.
 #[derive(Drop)]
@@ -82,6 +81,119 @@ pub trait Stored {
     ghost gone: { of (Some Gone) ≡ None };
 }
 
+impl Stored for TcpRecord {
+    ghost use Rattle.std.specs.Prelude.{refl};
+    ghost use Rattle.wasi_records.specs.Records.{tcp2_of};
+    ghost use Rattle.wasi_records.specs.declared.records.Record.TheVariants.{Tcp};
+
+    ghost into = { λ r. Tcp r };
+
+    ghost of = { tcp2_of };
+
+    fn of_record(one: &Record) -> Option<&TcpRecord> {
+        match one {
+            Record::Tcp(socket) => Some(socket),
+            _ => None,
+        }
+    }
+
+    fn of_record_mut(one: &mut Record) -> Option<&mut TcpRecord> {
+        match one {
+            Record::Tcp(socket) => Some(socket),
+            _ => None,
+        }
+    }
+
+    ghost none = { refl };
+
+    ghost gone = { refl };
+}
+
+impl Stored for UdpRecord {
+    ghost use Rattle.std.specs.Prelude.{refl};
+    ghost use Rattle.wasi_records.specs.Records.{udp2_of};
+    ghost use Rattle.wasi_records.specs.declared.records.Record.TheVariants.{Udp};
+
+    ghost into = { λ r. Udp r };
+
+    ghost of = { udp2_of };
+
+    fn of_record(one: &Record) -> Option<&UdpRecord> {
+        match one {
+            Record::Udp(socket) => Some(socket),
+            _ => None,
+        }
+    }
+
+    fn of_record_mut(one: &mut Record) -> Option<&mut UdpRecord> {
+        match one {
+            Record::Udp(socket) => Some(socket),
+            _ => None,
+        }
+    }
+
+    ghost none = { refl };
+
+    ghost gone = { refl };
+}
+
+impl Stored for OpenUdp {
+    ghost use Rattle.std.specs.Prelude.{refl};
+    ghost use Rattle.wasi_records.specs.Records.{open_record_of};
+    ghost use Rattle.wasi_records.specs.declared.records.Record.TheVariants.{Udp};
+    ghost use Rattle.udp_records.specs.declared.udp.UdpRecord.TheVariants.{Open};
+
+    ghost into = { λ o. Udp (Open o) };
+
+    ghost of = { open_record_of };
+
+    fn of_record(one: &Record) -> Option<&OpenUdp> {
+        match one {
+            Record::Udp(socket) => socket.as_open(),
+            _ => None,
+        }
+    }
+
+    fn of_record_mut(one: &mut Record) -> Option<&mut OpenUdp> {
+        match one {
+            Record::Udp(socket) => socket.as_open_mut(),
+            _ => None,
+        }
+    }
+
+    ghost none = { refl };
+
+    ghost gone = { refl };
+}
+
+impl Stored for Lookup {
+    ghost use Rattle.std.specs.Prelude.{refl};
+    ghost use Rattle.wasi_records.specs.Records.{lookup_of};
+    ghost use Rattle.wasi_records.specs.declared.records.Record.TheVariants.{Lookup as LookupRecord};
+
+    ghost into = { λ r. LookupRecord r };
+
+    ghost of = { lookup_of };
+
+    fn of_record(one: &Record) -> Option<&Lookup> {
+        match one {
+            Record::Lookup(lookup) => Some(lookup),
+            _ => None,
+        }
+    }
+
+    fn of_record_mut(one: &mut Record) -> Option<&mut Lookup> {
+        match one {
+            Record::Lookup(lookup) => Some(lookup),
+            _ => None,
+        }
+    }
+
+    ghost none = { refl };
+
+    ghost gone = { refl };
+}
+
 impl Stored for InputPipeCore {
     ghost use Rattle.wasi_records.specs.Records.{input_pipe_of};
     ghost use Rattle.wasi_records.specs.declared.records.Record.TheVariants.{InputPipe};
@@ -127,6 +239,34 @@ impl Stored for OutputPipe {
     fn of_record_mut(one: &mut Record) -> Option<&mut OutputPipe> {
         match one {
             Record::OutputPipe(pipe) => Some(pipe),
+            _ => None,
+        }
+    }
+
+    ghost none = { refl };
+
+    ghost gone = { refl };
+}
+
+impl Stored for Slot {
+    ghost use Rattle.std.specs.Prelude.{refl};
+    ghost use Rattle.wasi_records.specs.Records.{slot_of};
+    ghost use Rattle.wasi_records.specs.declared.records.Record.TheVariants.{Slot as SlotRecord};
+
+    ghost into = { λ s. SlotRecord s };
+
+    ghost of = { slot_of };
+
+    fn of_record(one: &Record) -> Option<&Slot> {
+        match one {
+            Record::Slot(slot) => Some(slot),
+            _ => None,
+        }
+    }
+
+    fn of_record_mut(one: &mut Record) -> Option<&mut Slot> {
+        match one {
+            Record::Slot(slot) => Some(slot),
             _ => None,
         }
     }

@@ -5,6 +5,8 @@ use Rattle.wasi_world.specs.declared.outcome.WasiSocketsCtx.{WasiSocketsCtx}
 use Rattle.wasi_world.specs.declared.ids.OpId.{OpId}
 use Rattle.wasi_world.specs.declared.call.Entry.{Entry}
 use Rattle.wasi_steps.specs.declared.guest_call.GuestCall.TheVariants as guest
+use Rattle.wasi_steps.specs.declared.guest_call.TcpCall.TheVariants as tcp_call
+use Rattle.wasi_steps.specs.declared.guest_call.P3TcpCall.TheVariants as p3_tcp_call
 use Rattle.wasi_steps.specs.declared.step.Step.{Step}
 use Rattle.wasi_steps.specs.declared.step.Step.TheVariants.{Call}
 use Rattle.wasi_steps.specs.declared.reply.Reply.{Reply}
@@ -23,17 +25,17 @@ origin_made order steps zero s h e = absurd (cc)
 origin_made order steps (suc place) s h e = made_at order steps place s h e
 
 binds_to : (order : Order) (addr : IpSocketAddress) (s : Step) → MayMake order s → IsBindTo addr s → addr ≡ order.listen
-binds_to order addr (Call c (guest.TcpStartBind socket network a)) m h = sym h ∙ m
-binds_to order addr (Call c (guest.P3TcpBind socket a)) m h = absurd m
+binds_to order addr (Call c (guest.Tcp (tcp_call.StartBind socket network a))) m h = sym h ∙ m
+binds_to order addr (Call c (guest.P3Tcp (p3_tcp_call.Bind socket a))) m h = absurd m
 binds_to order addr _ m h = absurd h
 
 connects_to : (order : Order) (addr : IpSocketAddress) (s : Step) → MayMake order s → IsConnectTo addr s → addr ≡ order.target
-connects_to order addr (Call c (guest.TcpStartConnect socket network a)) m h = sym h ∙ m
-connects_to order addr (Call c (guest.P3TcpConnect socket a)) m h = absurd m
+connects_to order addr (Call c (guest.Tcp (tcp_call.StartConnect socket network a))) m h = sym h ∙ m
+connects_to order addr (Call c (guest.P3Tcp (p3_tcp_call.Connect socket a))) m h = absurd m
 connects_to order addr _ m h = absurd h
 
 anywhere : (order : Order) (s : Step) → MayMake order s → BindsAnywhere s → ⊥
-anywhere order (Call c (guest.P3TcpListen socket)) m h = m
+anywhere order (Call c (guest.P3Tcp (p3_tcp_call.Listen socket))) m h = m
 anywhere order _ m h = absurd h
 
 module _ (order : Order) (steps : List Step) (made : AllMade order steps) where

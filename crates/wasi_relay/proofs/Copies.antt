@@ -12,9 +12,13 @@ use Rattle.host_store.specs.declared.machine.Machine.{Machine}
 use Rattle.host_store.specs.declared.store.Standing.{Standing}
 use Rattle.host_store.specs.CallStops.{CallStop, Closed, Failed, Traps}
 use Rattle.host_streams.specs.StreamCalls.{check_asks}
-use Rattle.wasi_records.specs.Names.{own_of}
+use Rattle.record_common.specs.Names.{own_of}
 use Rattle.wasi_machine.specs.Machine.{asks_while, is_held_up, stream_reply_of}
 use Rattle.wasi_steps.specs.declared.guest_call.GuestCall.TheVariants as guest
+use Rattle.wasi_steps.specs.declared.guest_call.TcpCall.TheVariants as tcp_call
+use Rattle.wasi_steps.specs.declared.guest_call.NameCall.TheVariants as name_call
+use Rattle.wasi_steps.specs.declared.guest_call.StreamCall.TheVariants as stream_call
+use Rattle.wasi_steps.specs.declared.guest_call.PollableCall.TheVariants as pollable_call
 use Rattle.wasi_steps.specs.declared.reply.Field.{Field}
 use Rattle.wasi_steps.specs.declared.reply.Field.TheVariants as field
 use Rattle.wasi_steps.specs.declared.reply.Reply.{Reply}
@@ -46,50 +50,50 @@ use Rattle.wasi_relay.proofs.Grown.{Any, FlowAt, FlowIs, Fresh, Grows, IsTcp, ca
 
 -- == steps that neither read nor write
 abbrev pub IsQuiet : Step → Type 0
-IsQuiet (Call c guest.Network) = ⊤
-IsQuiet (Call c (guest.TcpCreate family)) = ⊤
-IsQuiet (Call c (guest.TcpStartBind socket network addr)) = ⊤
-IsQuiet (Call c (guest.TcpFinishBind socket)) = ⊤
-IsQuiet (Call c (guest.TcpStartConnect socket network addr)) = ⊤
-IsQuiet (Call c (guest.TcpFinishConnect socket)) = ⊤
-IsQuiet (Call c (guest.TcpStartListen socket)) = ⊤
-IsQuiet (Call c (guest.TcpFinishListen socket)) = ⊤
-IsQuiet (Call c (guest.TcpAccept socket)) = ⊤
-IsQuiet (Call c (guest.TcpShutdown socket how)) = ⊤
-IsQuiet (Call c (guest.CheckWrite output)) = ⊤
-IsQuiet (Call c (guest.Drop handle)) = ⊤
+IsQuiet (Call c (guest.Names name_call.Network)) = ⊤
+IsQuiet (Call c (guest.Tcp (tcp_call.Create family))) = ⊤
+IsQuiet (Call c (guest.Tcp (tcp_call.StartBind socket network addr))) = ⊤
+IsQuiet (Call c (guest.Tcp (tcp_call.FinishBind socket))) = ⊤
+IsQuiet (Call c (guest.Tcp (tcp_call.StartConnect socket network addr))) = ⊤
+IsQuiet (Call c (guest.Tcp (tcp_call.FinishConnect socket))) = ⊤
+IsQuiet (Call c (guest.Tcp (tcp_call.StartListen socket))) = ⊤
+IsQuiet (Call c (guest.Tcp (tcp_call.FinishListen socket))) = ⊤
+IsQuiet (Call c (guest.Tcp (tcp_call.Accept socket))) = ⊤
+IsQuiet (Call c (guest.Tcp (tcp_call.Shutdown socket how))) = ⊤
+IsQuiet (Call c (guest.Stream (stream_call.CheckWrite output))) = ⊤
+IsQuiet (Call c (guest.Pollable (pollable_call.Drop handle))) = ⊤
 IsQuiet Turn = ⊤
 IsQuiet _ = ⊥
 
 quiet_reads : (s : Step) → IsQuiet s → ReadsNothing s
-quiet_reads (Call c guest.Network) q = tt
-quiet_reads (Call c (guest.TcpCreate family)) q = tt
-quiet_reads (Call c (guest.TcpStartBind socket network addr)) q = tt
-quiet_reads (Call c (guest.TcpFinishBind socket)) q = tt
-quiet_reads (Call c (guest.TcpStartConnect socket network addr)) q = tt
-quiet_reads (Call c (guest.TcpFinishConnect socket)) q = tt
-quiet_reads (Call c (guest.TcpStartListen socket)) q = tt
-quiet_reads (Call c (guest.TcpFinishListen socket)) q = tt
-quiet_reads (Call c (guest.TcpAccept socket)) q = tt
-quiet_reads (Call c (guest.TcpShutdown socket how)) q = tt
-quiet_reads (Call c (guest.CheckWrite output)) q = tt
-quiet_reads (Call c (guest.Drop handle)) q = tt
+quiet_reads (Call c (guest.Names name_call.Network)) q = tt
+quiet_reads (Call c (guest.Tcp (tcp_call.Create family))) q = tt
+quiet_reads (Call c (guest.Tcp (tcp_call.StartBind socket network addr))) q = tt
+quiet_reads (Call c (guest.Tcp (tcp_call.FinishBind socket))) q = tt
+quiet_reads (Call c (guest.Tcp (tcp_call.StartConnect socket network addr))) q = tt
+quiet_reads (Call c (guest.Tcp (tcp_call.FinishConnect socket))) q = tt
+quiet_reads (Call c (guest.Tcp (tcp_call.StartListen socket))) q = tt
+quiet_reads (Call c (guest.Tcp (tcp_call.FinishListen socket))) q = tt
+quiet_reads (Call c (guest.Tcp (tcp_call.Accept socket))) q = tt
+quiet_reads (Call c (guest.Tcp (tcp_call.Shutdown socket how))) q = tt
+quiet_reads (Call c (guest.Stream (stream_call.CheckWrite output))) q = tt
+quiet_reads (Call c (guest.Pollable (pollable_call.Drop handle))) q = tt
 quiet_reads Turn q = tt
 quiet_reads _ q = absurd q
 
 quiet_when : (m : Machine) (side : OpId) (line : ℕ) (s : Step) (entries : List Entry) → IsQuiet s → permitted_when m side line s entries ≡ []
-quiet_when m side line (Call c guest.Network) entries q = refl
-quiet_when m side line (Call c (guest.TcpCreate family)) entries q = refl
-quiet_when m side line (Call c (guest.TcpStartBind socket network addr)) entries q = refl
-quiet_when m side line (Call c (guest.TcpFinishBind socket)) entries q = refl
-quiet_when m side line (Call c (guest.TcpStartConnect socket network addr)) entries q = refl
-quiet_when m side line (Call c (guest.TcpFinishConnect socket)) entries q = refl
-quiet_when m side line (Call c (guest.TcpStartListen socket)) entries q = refl
-quiet_when m side line (Call c (guest.TcpFinishListen socket)) entries q = refl
-quiet_when m side line (Call c (guest.TcpAccept socket)) entries q = refl
-quiet_when m side line (Call c (guest.TcpShutdown socket how)) entries q = refl
-quiet_when m side line (Call c (guest.CheckWrite output)) entries q = refl
-quiet_when m side line (Call c (guest.Drop handle)) entries q = refl
+quiet_when m side line (Call c (guest.Names name_call.Network)) entries q = refl
+quiet_when m side line (Call c (guest.Tcp (tcp_call.Create family))) entries q = refl
+quiet_when m side line (Call c (guest.Tcp (tcp_call.StartBind socket network addr))) entries q = refl
+quiet_when m side line (Call c (guest.Tcp (tcp_call.FinishBind socket))) entries q = refl
+quiet_when m side line (Call c (guest.Tcp (tcp_call.StartConnect socket network addr))) entries q = refl
+quiet_when m side line (Call c (guest.Tcp (tcp_call.FinishConnect socket))) entries q = refl
+quiet_when m side line (Call c (guest.Tcp (tcp_call.StartListen socket))) entries q = refl
+quiet_when m side line (Call c (guest.Tcp (tcp_call.FinishListen socket))) entries q = refl
+quiet_when m side line (Call c (guest.Tcp (tcp_call.Accept socket))) entries q = refl
+quiet_when m side line (Call c (guest.Tcp (tcp_call.Shutdown socket how))) entries q = refl
+quiet_when m side line (Call c (guest.Stream (stream_call.CheckWrite output))) entries q = refl
+quiet_when m side line (Call c (guest.Pollable (pollable_call.Drop handle))) entries q = refl
 quiet_when m side line Turn entries q = refl
 quiet_when m side line _ entries q = absurd q
 
@@ -114,13 +118,13 @@ number_given (Err Closed) = tt
 number_given (Err (Traps kind)) = tt
 
 module _ (contexts : List WasiSocketsCtx) where
-  check_while : (m : Machine) (line ctx output : ℕ) (o : Option Standing) → Gives (λ es done. IsNumber done.0) [] (asks_while contexts m line (Call ctx (guest.CheckWrite output)) o)
+  check_while : (m : Machine) (line ctx output : ℕ) (o : Option Standing) → Gives (λ es done. IsNumber done.0) [] (asks_while contexts m line (Call ctx (guest.Stream (stream_call.CheckWrite output))) o)
   check_while m line ctx output None =
       gives_then (λ es done. ⊤) (λ es done. IsNumber done.0) [] (check_asks m (own_of line) output) (λ done. Give (stream_reply_of number_fields done.0, done.1)) (gives_any (λ es done. ⊤) (λ es done. tt) [] (check_asks m (own_of line) output)) (λ es done t. number_given done.0)
   check_while m line ctx output (Some c) = tt
 
-  check_number : (m : Machine) (line ctx output : ℕ) (entries : List Entry) (fields : List Field) (after : Machine) → Answered contexts m line (Call ctx (guest.CheckWrite output)) entries (replied.Ok fields) after → (n : ℕ) × (fields ≡ number_fields n)
-  check_number m line ctx output entries fields after a = given (λ es done. IsNumber done.0) (asks_while contexts m line (Call ctx (guest.CheckWrite output)) m.store.standing) entries (replied.Ok fields, after) (check_while m line ctx output m.store.standing) a
+  check_number : (m : Machine) (line ctx output : ℕ) (entries : List Entry) (fields : List Field) (after : Machine) → Answered contexts m line (Call ctx (guest.Stream (stream_call.CheckWrite output))) entries (replied.Ok fields) after → (n : ℕ) × (fields ≡ number_fields n)
+  check_number m line ctx output entries fields after a = given (λ es done. IsNumber done.0) (asks_while contexts m line (Call ctx (guest.Stream (stream_call.CheckWrite output))) m.store.standing) entries (replied.Ok fields, after) (check_while m line ctx output m.store.standing) a
 
   -- == one step
   module _ (past : Past contexts) (g : Goes past.replies) (s : Step) (entries : List Entry) (r : Reply) (m : Machine) (a : Replies contexts past s entries r m) where
@@ -184,7 +188,7 @@ module _ (contexts : List WasiSocketsCtx) where
     -- == it breaks
     ends_broken : (flow : Flow) (r : Reply) (next : Flow → Guest) (past : Past contexts) → Base past → IsFrontOf (past.may b) (told_in a past.log) → Ends next → Copies contexts (broken flow r next) past
     ends_broken flow (replied.Failed code error) next past h f k =
-        quietly (Call 0 (guest.Drop error)) tt (λ r. next (ended_as Broken flow)) past (λ r now g. k (ended_as Broken flow) now (record { base = base_stays g h; flow_is = flow_grows contexts g a b tt tt Broken flow.bytes f }))
+        quietly (Call 0 (guest.Pollable (pollable_call.Drop error))) tt (λ r. next (ended_as Broken flow)) past (λ r now g. k (ended_as Broken flow) now (record { base = base_stays g h; flow_is = flow_grows contexts g a b tt tt Broken flow.bytes f }))
     ends_broken flow _ next past h f k = k (ended_as Broken flow) past (record { base = h; flow_is = f })
 
     same_front : (x y : List ℕ) → x ≡ y → IsFrontOf x y
@@ -196,7 +200,7 @@ module _ (contexts : List WasiSocketsCtx) where
 
     module _ (flow : Flow) (bytes : List ℕ) (next : Flow → Guest) (past : Past contexts) (h : Base past) (told : told_in a past.log ≡ past.may b ++ bytes) (open_ : flow.end ≡ Open) (count : flow.bytes ≡ capped (length (past.may b))) (k : Ends next) where
       abbrev written : Step
-      written = Call 0 (guest.Write to.output bytes)
+      written = Call 0 (guest.Stream (stream_call.Write to.output bytes))
 
       module _ (g : Goes past.replies) (entries : List Entry) (m : Machine) (r : Reply) (x : Replies contexts past written entries r m) where
         after_it : Past contexts
@@ -240,7 +244,7 @@ module _ (contexts : List WasiSocketsCtx) where
       by_written g entries (replied.Ok fields) m x = k (written_more (length bytes) flow) _ (all_let g entries m fields x)
       by_written g entries r m x = ends_broken flow r next _ (write_base g entries m r x) (part_let g entries m r x) k
 
-      pub writes : Copies contexts ((call (guest.Write to.output bytes) >>= after_write flow (length bytes)) next) past
+      pub writes : Copies contexts ((call (guest.Stream (stream_call.Write to.output bytes)) >>= after_write flow (length bytes)) next) past
       writes = by_written
 
     -- == a read, once all was taken
@@ -251,7 +255,7 @@ module _ (contexts : List WasiSocketsCtx) where
 
     module _ (flow : Flow) (len : ℕ) (next : Flow → Guest) (past : Past contexts) (h : Base past) (open_ : flow.end ≡ Open) (whole : FlowAt Clean (told_in a past.log) (past.may b) (taken_in b past.log) flow.bytes) (k : Ends next) where
       abbrev asked : Step
-      asked = Call 0 (guest.Read from.input len)
+      asked = Call 0 (guest.Stream (stream_call.Read from.input len))
 
       module _ (g : Goes past.replies) (entries : List Entry) (m : Machine) (r : Reply) (x : Replies contexts past asked entries r m) where
         other_input : (s : OpId) → (s ≡ a → ⊥) → IsSide past.log from.input s → ⊥
@@ -297,8 +301,8 @@ module _ (contexts : List WasiSocketsCtx) where
           same_dir : Dir (push contexts past g asked entries r m x) flow
           same_dir = record { base = read_base; flow_is = subst (λ (e : DirEnd). FlowAt e (told_in a (past.log ++ entries)) (past.may b ++ permitted_by past.state b (1 + length past.steps) asked entries) (taken_in b (past.log ++ entries)) flow.bytes) (sym open_) (whole_then.0, whole_then.1) }
 
-          ends_clean : Copies contexts ((call (guest.TcpShutdown to.socket Send) >>= λ done. give (ended_as Clean flow)) next) (push contexts past g asked entries r m x)
-          ends_clean = quietly (Call 0 (guest.TcpShutdown to.socket Send)) tt (λ done. next (ended_as Clean flow)) (push contexts past g asked entries r m x) (λ done now q. k (ended_as Clean flow) now (record { base = base_stays q read_base; flow_is = flow_grows contexts q a b tt tt Clean flow.bytes whole_then }))
+          ends_clean : Copies contexts ((call (guest.Tcp (tcp_call.Shutdown to.socket Send)) >>= λ done. give (ended_as Clean flow)) next) (push contexts past g asked entries r m x)
+          ends_clean = quietly (Call 0 (guest.Tcp (tcp_call.Shutdown to.socket Send))) tt (λ done. next (ended_as Clean flow)) (push contexts past g asked entries r m x) (λ done now q. k (ended_as Clean flow) now (record { base = base_stays q read_base; flow_is = flow_grows contexts q a b tt tt Clean flow.bytes whole_then }))
 
           breaks : Copies contexts (broken flow r next) (push contexts past g asked entries r m x)
           breaks = ends_broken flow r next (push contexts past g asked entries r m x) read_base (same_front _ _ whole_then.0) k
@@ -308,7 +312,7 @@ module _ (contexts : List WasiSocketsCtx) where
       none_bytes (y ∷ bytes) e = absurd (let z : length (y ∷ bytes) ≡ 0 = eqb-true (length (y ∷ bytes)) 0 e in omega (arith, z))
 
       by_bytes : (g : Goes past.replies) (entries : List Entry) (m : Machine) (fields : List Field) (x : Replies contexts past asked entries (replied.Ok fields) m) → (b0 : Bool) → (length (bytes_at fields 0) == 0) ≡ b0
-          → Copies contexts ((if b0 then give flow else (call (guest.Write to.output (bytes_at fields 0)) >>= after_write flow (length (bytes_at fields 0)))) next) (push contexts past g asked entries (replied.Ok fields) m x)
+          → Copies contexts ((if b0 then give flow else (call (guest.Stream (stream_call.Write to.output (bytes_at fields 0))) >>= after_write flow (length (bytes_at fields 0)))) next) (push contexts past g asked entries (replied.Ok fields) m x)
       by_bytes g entries m fields x true e = k flow _ (same_dir g entries m (replied.Ok fields) x (handed_fields fields ∙ none_bytes (bytes_at fields 0) e))
       by_bytes g entries m fields x false e = writes flow (bytes_at fields 0) next _ (read_base g entries m (replied.Ok fields) x) (left_to_write g entries m (replied.Ok fields) x (bytes_at fields 0) (handed_fields fields)) open_ (count_then g entries m (replied.Ok fields) x) k
 
@@ -317,13 +321,13 @@ module _ (contexts : List WasiSocketsCtx) where
       by_read g entries replied.Closed m x = ends_clean g entries m replied.Closed x refl
       by_read g entries r m x = breaks g entries m r x refl
 
-      pub reads : Copies contexts ((call (guest.Read from.input len) >>= after_read to flow) next) past
+      pub reads : Copies contexts ((call (guest.Stream (stream_call.Read from.input len)) >>= after_read to flow) next) past
       reads = by_read
 
     -- == a permit
     module _ (flow : Flow) (next : Flow → Guest) (past : Past contexts) (h : Dir past flow) (k : Ends next) where
       abbrev checked : Step
-      checked = Call 0 (guest.CheckWrite to.output)
+      checked = Call 0 (guest.Stream (stream_call.CheckWrite to.output))
 
       module _ (open_ : flow.end ≡ Open) (g : Goes past.replies) (entries : List Entry) (m : Machine) where
         open_flow : FlowAt Open (told_in a past.log) (past.may b) (taken_in b past.log) flow.bytes
@@ -357,7 +361,7 @@ module _ (contexts : List WasiSocketsCtx) where
               positive (suc n) z = omega arith
 
           by_permit : (b0 : Bool) → (number_at fields 0 == 0) ≡ b0
-              → Copies contexts ((if b0 then give flow else (call (guest.Read from.input (min (number_at fields 0) 4096)) >>= after_read to flow)) next) (push contexts past g checked entries (replied.Ok fields) m x)
+              → Copies contexts ((if b0 then give flow else (call (guest.Stream (stream_call.Read from.input (min (number_at fields 0) 4096))) >>= after_read to flow)) next) (push contexts past g checked entries (replied.Ok fields) m x)
           by_permit true e = k flow _ (check_dir (replied.Ok fields) x)
           by_permit false e =
               let o = open_then (replied.Ok fields) x in
@@ -368,7 +372,7 @@ module _ (contexts : List WasiSocketsCtx) where
         by_check (replied.Ok fields) x = by_permit fields x (number_at fields 0 == 0) refl
         by_check r x = ends_broken flow r next _ (check_base r x) (same_front _ _ (open_then r x).0) k
 
-      by_end : (e : DirEnd) → flow.end ≡ e → Copies contexts ((if is_open e then (call (guest.CheckWrite to.output) >>= after_check from to flow) else give flow) next) past
+      by_end : (e : DirEnd) → flow.end ≡ e → Copies contexts ((if is_open e then (call (guest.Stream (stream_call.CheckWrite to.output)) >>= after_check from to flow) else give flow) next) past
       by_end Open e = λ g entries r m x. by_check e g entries m r x
       by_end Clean e = k flow past h
       by_end Broken e = k flow past h

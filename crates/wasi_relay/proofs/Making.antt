@@ -3,6 +3,10 @@
 use Rattle.std.proofs.Common.{◌≡◌, ℕ, zero, suc, ◌==◌, refl, min, length, List, [], ◌∷◌, ◌++◌, Bool, true, false, if◌then◌else◌, Option, Some, None, Result, Ok, Err}
 use Rattle.wasi_steps.specs.declared.guest_call.GuestCall.{GuestCall}
 use Rattle.wasi_steps.specs.declared.guest_call.GuestCall.TheVariants as guest
+use Rattle.wasi_steps.specs.declared.guest_call.TcpCall.TheVariants as tcp_call
+use Rattle.wasi_steps.specs.declared.guest_call.NameCall.TheVariants as name_call
+use Rattle.wasi_steps.specs.declared.guest_call.StreamCall.TheVariants as stream_call
+use Rattle.wasi_steps.specs.declared.guest_call.P3TcpCall.TheVariants as p3_tcp_call
 use Rattle.wasi_steps.specs.declared.step.Step.{Step}
 use Rattle.wasi_steps.specs.declared.step.Step.TheVariants.{Call}
 use Rattle.wasi_steps.specs.declared.reply.CodeWord.TheVariants.{WouldBlock}
@@ -29,11 +33,11 @@ use Rattle.wasi_relay.specs.Turns.{Course, finish, after_create, after_accept, a
 use Rattle.wasi_relay.specs.RelaySteps.{after_setup, relay_guest, no_course, at_end}
 
 abbrev pub MayMake : Order → Step → Type 0
-MayMake order (Call c (guest.TcpStartBind socket network addr)) = addr ≡ order.listen
-MayMake order (Call c (guest.TcpStartConnect socket network addr)) = addr ≡ order.target
-MayMake order (Call c (guest.P3TcpBind socket addr)) = ⊥
-MayMake order (Call c (guest.P3TcpConnect socket addr)) = ⊥
-MayMake order (Call c (guest.P3TcpListen socket)) = ⊥
+MayMake order (Call c (guest.Tcp (tcp_call.StartBind socket network addr))) = addr ≡ order.listen
+MayMake order (Call c (guest.Tcp (tcp_call.StartConnect socket network addr))) = addr ≡ order.target
+MayMake order (Call c (guest.P3Tcp (p3_tcp_call.Bind socket addr))) = ⊥
+MayMake order (Call c (guest.P3Tcp (p3_tcp_call.Connect socket addr))) = ⊥
+MayMake order (Call c (guest.P3Tcp (p3_tcp_call.Listen socket))) = ⊥
 MayMake order _ = Unit {0}
 
 abbrev pub AllMade : Order → List Step → Type 0
@@ -74,8 +78,8 @@ module _ (order : Order) where
 
   bytes_make : (to : Peer) (flow : Flow) (bytes : List ℕ) → PartMakes order (copy_bytes to flow bytes)
   bytes_make to flow bytes =
-      choice (length bytes == 0) (give flow) (call (guest.Write to.output bytes) >>= after_write flow (length bytes)) (gives flow)
-      (both (call (guest.Write to.output bytes)) (after_write flow (length bytes)) (makes (Call 0 (guest.Write to.output bytes)) tt) (write_makes flow (length bytes)))
+      choice (length bytes == 0) (give flow) (call (guest.Stream (stream_call.Write to.output bytes)) >>= after_write flow (length bytes)) (gives flow)
+      (both (call (guest.Stream (stream_call.Write to.output bytes))) (after_write flow (length bytes)) (makes (Call 0 (guest.Stream (stream_call.Write to.output bytes))) tt) (write_makes flow (length bytes)))
 
   read_makes : (to : Peer) (flow : Flow) (reply : Reply) → PartMakes order (after_read to flow reply)
   read_makes to flow (replied.Ok fields) next h = bytes_make to flow (bytes_at fields 0) next h
@@ -85,8 +89,8 @@ module _ (order : Order) where
 
   within_makes : (from to : Peer) (flow : Flow) (permit : ℕ) → PartMakes order (within from to flow permit)
   within_makes from to flow permit =
-      choice (permit == 0) (give flow) (call (guest.Read from.input (min permit 4096)) >>= after_read to flow) (gives flow)
-      (both (call (guest.Read from.input (min permit 4096))) (after_read to flow) (makes (Call 0 (guest.Read from.input (min permit 4096))) tt) (read_makes to flow))
+      choice (permit == 0) (give flow) (call (guest.Stream (stream_call.Read from.input (min permit 4096))) >>= after_read to flow) (gives flow)
+      (both (call (guest.Stream (stream_call.Read from.input (min permit 4096)))) (after_read to flow) (makes (Call 0 (guest.Stream (stream_call.Read from.input (min permit 4096)))) tt) (read_makes to flow))
 
   check_makes : (from to : Peer) (flow : Flow) (reply : Reply) → PartMakes order (after_check from to flow reply)
   check_makes from to flow (replied.Ok fields) next h = within_makes from to flow (number_at fields 0) next h
@@ -95,8 +99,8 @@ module _ (order : Order) where
 
   copied_makes : (from to : Peer) (flow : Flow) → PartMakes order (copied from to flow)
   copied_makes from to flow =
-      choice (is_open flow.end) (call (guest.CheckWrite to.output) >>= after_check from to flow) (give flow)
-      (both (call (guest.CheckWrite to.output)) (after_check from to flow) (makes (Call 0 (guest.CheckWrite to.output)) tt) (check_makes from to flow)) (gives flow)
+      choice (is_open flow.end) (call (guest.Stream (stream_call.CheckWrite to.output)) >>= after_check from to flow) (give flow)
+      (both (call (guest.Stream (stream_call.CheckWrite to.output))) (after_check from to flow) (makes (Call 0 (guest.Stream (stream_call.CheckWrite to.output))) tt) (check_makes from to flow)) (gives flow)
 
   -- == serving
   both_make : (target : Peer) (pair : Pair) → PartMakes order (served_both target pair)
@@ -130,8 +134,8 @@ module _ (order : Order) where
 
   accepted_makes : (listener : Listener) (at : Course) → PartMakes order (accepted order listener at)
   accepted_makes listener at =
-      choice (may_accept order at) (call (guest.TcpAccept listener.socket) >>= after_accept order listener at) (give at)
-      (both (call (guest.TcpAccept listener.socket)) (after_accept order listener at) (makes (Call 0 (guest.TcpAccept listener.socket)) tt) (accept_makes listener at)) (gives at)
+      choice (may_accept order at) (call (guest.Tcp (tcp_call.Accept listener.socket)) >>= after_accept order listener at) (give at)
+      (both (call (guest.Tcp (tcp_call.Accept listener.socket))) (after_accept order listener at) (makes (Call 0 (guest.Tcp (tcp_call.Accept listener.socket))) tt) (accept_makes listener at)) (gives at)
 
   turn_makes : (listener : Listener) (at : Course) → PartMakes order (turned order listener at)
   turn_makes listener at next h = (tt, λ reply. accepted_makes listener at _ (λ new. from_makes [] new.pairs _ (λ pairs. h _)))
@@ -168,12 +172,12 @@ module _ (order : Order) where
 
   setup_makes : PartMakes order (setup order)
   setup_makes =
-      settled_then order.turns guest.Network _ tt (λ network.
-      settled_then network.left (guest.TcpCreate (family_of order.listen)) _ tt (λ socket.
-      settled_then socket.left (guest.TcpStartBind socket.handle network.handle order.listen) _ refl (λ bound.
-      settled_then bound.left (guest.TcpFinishBind socket.handle) _ tt (λ named.
-      settled_then named.left (guest.TcpStartListen socket.handle) _ tt (λ begins.
-      settled_then begins.left (guest.TcpFinishListen socket.handle) _ tt (λ listens. gives _))))))
+      settled_then order.turns (guest.Names name_call.Network) _ tt (λ network.
+      settled_then network.left (guest.Tcp (tcp_call.Create (family_of order.listen))) _ tt (λ socket.
+      settled_then socket.left (guest.Tcp (tcp_call.StartBind socket.handle network.handle order.listen)) _ refl (λ bound.
+      settled_then bound.left (guest.Tcp (tcp_call.FinishBind socket.handle)) _ tt (λ named.
+      settled_then named.left (guest.Tcp (tcp_call.StartListen socket.handle)) _ tt (λ begins.
+      settled_then begins.left (guest.Tcp (tcp_call.FinishListen socket.handle)) _ tt (λ listens. gives _))))))
 
   setup_after : (given : Result Listener RelayEnd) → PartMakes order (after_setup order given)
   setup_after (Ok listener) next h = rounds_make listener listener.turns no_course next h

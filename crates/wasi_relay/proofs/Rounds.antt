@@ -7,8 +7,9 @@ use Rattle.wasi_world.specs.declared.call.HandleKind.TheVariants.{Tcp2, Input, O
 use Rattle.wasi_world.specs.declared.call.Told.TheVariants.{Done}
 use Rattle.wasi_world.specs.declared.outcome.WasiSocketsCtx.{WasiSocketsCtx}
 use Rattle.host_store.specs.declared.machine.Machine.{Machine}
-use Rattle.wasi_records.specs.Names.{own_of}
+use Rattle.record_common.specs.Names.{own_of}
 use Rattle.wasi_steps.specs.declared.guest_call.GuestCall.TheVariants as guest
+use Rattle.wasi_steps.specs.declared.guest_call.TcpCall.TheVariants as tcp_call
 use Rattle.wasi_steps.specs.declared.reply.CodeWord.TheVariants.{WouldBlock}
 use Rattle.wasi_steps.specs.declared.reply.Field.{Field}
 use Rattle.wasi_steps.specs.declared.reply.Reply.{Reply}
@@ -96,9 +97,9 @@ module _ (contexts : List WasiSocketsCtx) where
   abbrev client_of : List Field → Peer
   client_of fields = record { socket = handle_at fields 0; input = handle_at fields 1; output = handle_at fields 2 }
 
-  accepted_new : (pairs : List Pair) (listener : ℕ) (past : Past contexts) → All contexts past pairs → (g : Goes past.replies) (entries : List Entry) (fields : List Field) (m : Machine) (a : Replies contexts past (Call 0 (guest.TcpAccept listener)) entries (replied.Ok fields) m) → New (push contexts past g (Call 0 (guest.TcpAccept listener)) entries (replied.Ok fields) m a) pairs (client_of fields)
+  accepted_new : (pairs : List Pair) (listener : ℕ) (past : Past contexts) → All contexts past pairs → (g : Goes past.replies) (entries : List Entry) (fields : List Field) (m : Machine) (a : Replies contexts past (Call 0 (guest.Tcp (tcp_call.Accept listener))) entries (replied.Ok fields) m) → New (push contexts past g (Call 0 (guest.Tcp (tcp_call.Accept listener))) entries (replied.Ok fields) m a) pairs (client_of fields)
   accepted_new pairs listener past h g entries fields m a =
-      let s : Step = Call 0 (guest.TcpAccept listener) in
+      let s : Step = Call 0 (guest.Tcp (tcp_call.Accept listener)) in
       let own = own_of (1 + length past.steps) in
       let n = marks_in past.log in
       let q : Grows contexts past (push contexts past g s entries (replied.Ok fields) m a) (Any contexts) (Any contexts) = quiet_grows contexts past g s entries (replied.Ok fields) m a tt in
@@ -127,9 +128,9 @@ module _ (contexts : List WasiSocketsCtx) where
       }
 
   -- == it gets a target
-  created_all : (pairs : List Pair) (client : Peer) (order : Order) (past : Past contexts) → New past pairs client → (g : Goes past.replies) (entries : List Entry) (fields : List Field) (m : Machine) (a : Replies contexts past (Call 0 (guest.TcpCreate (family_of order.target))) entries (replied.Ok fields) m) → All contexts (push contexts past g (Call 0 (guest.TcpCreate (family_of order.target))) entries (replied.Ok fields) m a) (pairs ++ first_pair client (handle_at fields 0) ∷ [])
+  created_all : (pairs : List Pair) (client : Peer) (order : Order) (past : Past contexts) → New past pairs client → (g : Goes past.replies) (entries : List Entry) (fields : List Field) (m : Machine) (a : Replies contexts past (Call 0 (guest.Tcp (tcp_call.Create (family_of order.target)))) entries (replied.Ok fields) m) → All contexts (push contexts past g (Call 0 (guest.Tcp (tcp_call.Create (family_of order.target)))) entries (replied.Ok fields) m a) (pairs ++ first_pair client (handle_at fields 0) ∷ [])
   created_all pairs client order past h g entries fields m a =
-      let s : Step = Call 0 (guest.TcpCreate (family_of order.target)) in
+      let s : Step = Call 0 (guest.Tcp (tcp_call.Create (family_of order.target))) in
       let now : Past contexts = push contexts past g s entries (replied.Ok fields) m a in
       let t = own_of (1 + length past.steps) in
       let q : Grows contexts past (push contexts past g s entries (replied.Ok fields) m a) (Any contexts) (Any contexts) = quiet_grows contexts past g s entries (replied.Ok fields) m a tt in
@@ -165,12 +166,12 @@ module _ (contexts : List WasiSocketsCtx) where
   module _ (order : Order) (listener : Listener) where
     module _ (pairs : List Pair) (client : Peer) (next : List Pair → Guest) (k : ThenAll next) (past : Past contexts) (h : New past pairs client) (g : Goes past.replies) (entries : List Entry) (m : Machine) where
       abbrev creates : Step
-      creates = Call 0 (guest.TcpCreate (family_of order.target))
+      creates = Call 0 (guest.Tcp (tcp_call.Create (family_of order.target)))
 
       by_create : (r : Reply) (a : Replies contexts past creates entries r m) → Copies contexts (after_create order listener client pairs r next) (push contexts past g creates entries r m a)
       by_create (replied.Ok fields) a =
           let more = pairs ++ first_pair client (handle_at fields 0) ∷ [] in
-          still contexts (λ p. All contexts p more) (all_stays contexts more) (Call 0 (guest.TcpStartConnect (handle_at fields 0) listener.network order.target)) tt (λ x. next more) (push contexts past g creates entries (replied.Ok fields) m a) (created_all pairs client order past h g entries fields m a) (λ x now i. k more now i)
+          still contexts (λ p. All contexts p more) (all_stays contexts more) (Call 0 (guest.Tcp (tcp_call.StartConnect (handle_at fields 0) listener.network order.target))) tt (λ x. next more) (push contexts past g creates entries (replied.Ok fields) m a) (created_all pairs client order past h g entries fields m a) (λ x now i. k more now i)
       by_create r a =
           closes contexts (λ p. All contexts p pairs) (all_stays contexts pairs) client (λ x. next pairs) (push contexts past g creates entries r m a) (without pairs client _ (new_stays pairs client past (push contexts past g creates entries r m a) (quiet_grows contexts past g creates entries r m a tt) h)) (λ x now i. k pairs now i)
 
@@ -179,7 +180,7 @@ module _ (contexts : List WasiSocketsCtx) where
 
     module _ (at : Course) (next : Course → Guest) (k : ThenAt next) (past : Past contexts) (h : All contexts past at.pairs) where
       abbrev accepts : Step
-      accepts = Call 0 (guest.TcpAccept listener.socket)
+      accepts = Call 0 (guest.Tcp (tcp_call.Accept listener.socket))
 
       by_accept : (g : Goes past.replies) (entries : List Entry) (r : Reply) (m : Machine) (a : Replies contexts past accepts entries r m) → Copies contexts (after_accept order listener at r next) (push contexts past g accepts entries r m a)
       by_accept g entries (replied.Ok fields) m a =
@@ -190,7 +191,7 @@ module _ (contexts : List WasiSocketsCtx) where
       accept_copies : Copies contexts (accepted order listener at next) past
       accept_copies = by_room (may_accept order at)
         where
-          by_room : (b : Bool) → Copies contexts ((if b then (call (guest.TcpAccept listener.socket) >>= after_accept order listener at) else give at) next) past
+          by_room : (b : Bool) → Copies contexts ((if b then (call (guest.Tcp (tcp_call.Accept listener.socket)) >>= after_accept order listener at) else give at) next) past
           by_room true = by_accept
           by_room false = k at past h
 

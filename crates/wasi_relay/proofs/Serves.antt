@@ -7,6 +7,8 @@ use Rattle.wasi_world.specs.declared.outcome.WasiSocketsCtx.{WasiSocketsCtx}
 use Rattle.wasi_tcp.specs.Taken.{taken_in}
 use Rattle.host_store.specs.declared.machine.Machine.{Machine}
 use Rattle.wasi_steps.specs.declared.guest_call.GuestCall.TheVariants as guest
+use Rattle.wasi_steps.specs.declared.guest_call.TcpCall.TheVariants as tcp_call
+use Rattle.wasi_steps.specs.declared.guest_call.PollableCall.TheVariants as pollable_call
 use Rattle.wasi_steps.specs.declared.reply.CodeWord.TheVariants.{WouldBlock}
 use Rattle.wasi_steps.specs.declared.reply.Field.{Field}
 use Rattle.wasi_steps.specs.declared.reply.Reply.{Reply}
@@ -76,18 +78,18 @@ module _ (contexts : List WasiSocketsCtx) where
 
     drops : (peer : Peer) (next : Reply → Guest) (past : Past contexts) → P past → After next → Copies contexts (drop_all peer next) past
     drops peer next past h k =
-        still (Call 0 (guest.Drop peer.input)) tt (λ a. (call (guest.Drop peer.output) >> call (guest.Drop peer.socket)) next) past h (λ r now i.
-        still (Call 0 (guest.Drop peer.output)) tt (λ a. call (guest.Drop peer.socket) next) now i (λ q then_ j.
-        still (Call 0 (guest.Drop peer.socket)) tt next then_ j k))
+        still (Call 0 (guest.Pollable (pollable_call.Drop peer.input))) tt (λ a. (call (guest.Pollable (pollable_call.Drop peer.output)) >> call (guest.Pollable (pollable_call.Drop peer.socket))) next) past h (λ r now i.
+        still (Call 0 (guest.Pollable (pollable_call.Drop peer.output))) tt (λ a. call (guest.Pollable (pollable_call.Drop peer.socket)) next) now i (λ q then_ j.
+        still (Call 0 (guest.Pollable (pollable_call.Drop peer.socket))) tt next then_ j k))
 
     pub closes : (peer : Peer) (next : Reply → Guest) (past : Past contexts) → P past → After next → Copies contexts (closed peer next) past
-    closes peer next past h k = still (Call 0 (guest.TcpShutdown peer.socket Both)) tt (λ a. drop_all peer next) past h (λ r now i. drops peer next now i k)
+    closes peer next past h k = still (Call 0 (guest.Tcp (tcp_call.Shutdown peer.socket Both))) tt (λ a. drop_all peer next) past h (λ r now i. drops peer next now i k)
 
     closes_with : (client : Peer) (socket : ℕ) (target : Option Peer) (next : Reply → Guest) (past : Past contexts) → P past → After next → Copies contexts (closed_with client socket target next) past
-    closes_with client socket None next past h k = closes client (λ a. call (guest.Drop socket) next) past h (λ r now i. still (Call 0 (guest.Drop socket)) tt next now i k)
+    closes_with client socket None next past h k = closes client (λ a. call (guest.Pollable (pollable_call.Drop socket)) next) past h (λ r now i. still (Call 0 (guest.Pollable (pollable_call.Drop socket))) tt next now i k)
     closes_with client socket (Some target) next past h k =
-        still (Call 0 (guest.TcpShutdown client.socket Both)) tt (λ a. (shut_down target >> (drop_all client >> drop_all target)) next) past h (λ r now i.
-        still (Call 0 (guest.TcpShutdown target.socket Both)) tt (λ a. (drop_all client >> drop_all target) next) now i (λ q then_ j.
+        still (Call 0 (guest.Tcp (tcp_call.Shutdown client.socket Both))) tt (λ a. (shut_down target >> (drop_all client >> drop_all target)) next) past h (λ r now i.
+        still (Call 0 (guest.Tcp (tcp_call.Shutdown target.socket Both))) tt (λ a. (drop_all client >> drop_all target) next) now i (λ q then_ j.
         drops client (λ a. drop_all target next) then_ j (λ p last l. drops target next last l k)))
 
   -- where nothing more was told or let write, none was to some
@@ -229,7 +231,7 @@ module _ (contexts : List WasiSocketsCtx) where
 
     module _ (pair : Pair) (next : Pair → Guest) (k : Then next) (past : Past contexts) (h : Held past pair) (g : Goes past.replies) (entries : List Entry) (m : Machine) where
       abbrev finishes : Step
-      finishes = Call 0 (guest.TcpFinishConnect pair.target)
+      finishes = Call 0 (guest.Tcp (tcp_call.FinishConnect pair.target))
 
       still_held : (r : Reply) (a : Replies contexts past finishes entries r m) → Held (push contexts past g finishes entries r m a) pair
       still_held r a = held_stays pair past (push contexts past g finishes entries r m a) (quiet_grows contexts past g finishes entries r m a tt) h

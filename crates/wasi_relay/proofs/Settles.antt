@@ -14,6 +14,8 @@ use Rattle.host_store.specs.Standing.{call_of}
 use Rattle.wasi_machine.specs.Machine.{HasRun, run}
 use Rattle.wasi_steps.specs.declared.guest_call.GuestCall.{GuestCall}
 use Rattle.wasi_steps.specs.declared.guest_call.GuestCall.TheVariants as guest
+use Rattle.wasi_steps.specs.declared.guest_call.TcpCall.TheVariants as tcp_call
+use Rattle.wasi_steps.specs.declared.guest_call.NameCall.TheVariants as name_call
 use Rattle.wasi_steps.specs.declared.reply.Reply.{Reply}
 use Rattle.wasi_steps.specs.declared.reply.Reply.TheVariants as replied
 use Rattle.wasi_steps.specs.declared.step.Step.{Step}
@@ -46,42 +48,42 @@ use Rattle.wasi_relay.proofs.Rounds.{rounds_copy}
 
 -- == the steps of a setup
 abbrev IsSetting : Step → Type 0
-IsSetting (Call c guest.Network) = ⊤
-IsSetting (Call c (guest.TcpCreate family)) = ⊤
-IsSetting (Call c (guest.TcpStartBind socket network addr)) = ⊤
-IsSetting (Call c (guest.TcpFinishBind socket)) = ⊤
-IsSetting (Call c (guest.TcpStartListen socket)) = ⊤
-IsSetting (Call c (guest.TcpFinishListen socket)) = ⊤
+IsSetting (Call c (guest.Names name_call.Network)) = ⊤
+IsSetting (Call c (guest.Tcp (tcp_call.Create family))) = ⊤
+IsSetting (Call c (guest.Tcp (tcp_call.StartBind socket network addr))) = ⊤
+IsSetting (Call c (guest.Tcp (tcp_call.FinishBind socket))) = ⊤
+IsSetting (Call c (guest.Tcp (tcp_call.StartListen socket))) = ⊤
+IsSetting (Call c (guest.Tcp (tcp_call.FinishListen socket))) = ⊤
 IsSetting Turn = ⊤
 IsSetting (Poll n) = ⊤
 IsSetting _ = ⊥
 
 quiet_or_poll : (s : Step) → IsSetting s → IsQuiet s ⊎ ((n : ℕ) × (s ≡ Poll n))
-quiet_or_poll (Call c guest.Network) q = inl tt
-quiet_or_poll (Call c (guest.TcpCreate family)) q = inl tt
-quiet_or_poll (Call c (guest.TcpStartBind socket network addr)) q = inl tt
-quiet_or_poll (Call c (guest.TcpFinishBind socket)) q = inl tt
-quiet_or_poll (Call c (guest.TcpStartListen socket)) q = inl tt
-quiet_or_poll (Call c (guest.TcpFinishListen socket)) q = inl tt
+quiet_or_poll (Call c (guest.Names name_call.Network)) q = inl tt
+quiet_or_poll (Call c (guest.Tcp (tcp_call.Create family))) q = inl tt
+quiet_or_poll (Call c (guest.Tcp (tcp_call.StartBind socket network addr))) q = inl tt
+quiet_or_poll (Call c (guest.Tcp (tcp_call.FinishBind socket))) q = inl tt
+quiet_or_poll (Call c (guest.Tcp (tcp_call.StartListen socket))) q = inl tt
+quiet_or_poll (Call c (guest.Tcp (tcp_call.FinishListen socket))) q = inl tt
 quiet_or_poll Turn q = inl tt
 quiet_or_poll (Poll n) q = inr (n, refl)
 quiet_or_poll _ q = absurd q
 
 no_call : (kind : CallKind) (s : Step) → IsSetting s → IsCall kind s → ⊥
-no_call OfStreams (Call c guest.Network) q h = h
-no_call OfStreams (Call c (guest.TcpCreate family)) q h = h
-no_call OfStreams (Call c (guest.TcpStartBind socket network addr)) q h = h
-no_call OfStreams (Call c (guest.TcpFinishBind socket)) q h = h
-no_call OfStreams (Call c (guest.TcpStartListen socket)) q h = h
-no_call OfStreams (Call c (guest.TcpFinishListen socket)) q h = h
+no_call OfStreams (Call c (guest.Names name_call.Network)) q h = h
+no_call OfStreams (Call c (guest.Tcp (tcp_call.Create family))) q h = h
+no_call OfStreams (Call c (guest.Tcp (tcp_call.StartBind socket network addr))) q h = h
+no_call OfStreams (Call c (guest.Tcp (tcp_call.FinishBind socket))) q h = h
+no_call OfStreams (Call c (guest.Tcp (tcp_call.StartListen socket))) q h = h
+no_call OfStreams (Call c (guest.Tcp (tcp_call.FinishListen socket))) q h = h
 no_call OfStreams Turn q h = h
 no_call OfStreams (Poll n) q h = h
-no_call OfPollables (Call c guest.Network) q h = h
-no_call OfPollables (Call c (guest.TcpCreate family)) q h = h
-no_call OfPollables (Call c (guest.TcpStartBind socket network addr)) q h = h
-no_call OfPollables (Call c (guest.TcpFinishBind socket)) q h = h
-no_call OfPollables (Call c (guest.TcpStartListen socket)) q h = h
-no_call OfPollables (Call c (guest.TcpFinishListen socket)) q h = h
+no_call OfPollables (Call c (guest.Names name_call.Network)) q h = h
+no_call OfPollables (Call c (guest.Tcp (tcp_call.Create family))) q h = h
+no_call OfPollables (Call c (guest.Tcp (tcp_call.StartBind socket network addr))) q h = h
+no_call OfPollables (Call c (guest.Tcp (tcp_call.FinishBind socket))) q h = h
+no_call OfPollables (Call c (guest.Tcp (tcp_call.StartListen socket))) q h = h
+no_call OfPollables (Call c (guest.Tcp (tcp_call.FinishListen socket))) q h = h
 no_call OfPollables Turn q h = h
 no_call OfPollables (Poll n) q h = h
 no_call kind _ q h = absurd q
@@ -214,28 +216,28 @@ module _ (contexts : List WasiSocketsCtx) where
     last_part network socket listens = give (Ok (record { network = network.handle; socket = socket.handle; turns = listens.left }))
 
     abbrev finish_listen : Settled → Settled → Settled → Setup Listener
-    finish_listen network socket begun = settled begun.left (guest.TcpFinishListen socket.handle) >>= last_part network socket
+    finish_listen network socket begun = settled begun.left (guest.Tcp (tcp_call.FinishListen socket.handle)) >>= last_part network socket
 
     abbrev start_listen : Settled → Settled → Settled → Setup Listener
-    start_listen network socket named = settled named.left (guest.TcpStartListen socket.handle) >>= finish_listen network socket
+    start_listen network socket named = settled named.left (guest.Tcp (tcp_call.StartListen socket.handle)) >>= finish_listen network socket
 
     abbrev finish_bind : Settled → Settled → Settled → Setup Listener
-    finish_bind network socket bound = settled bound.left (guest.TcpFinishBind socket.handle) >>= start_listen network socket
+    finish_bind network socket bound = settled bound.left (guest.Tcp (tcp_call.FinishBind socket.handle)) >>= start_listen network socket
 
     abbrev start_bind : Settled → Settled → Setup Listener
-    start_bind network socket = settled socket.left (guest.TcpStartBind socket.handle network.handle order.listen) >>= finish_bind network socket
+    start_bind network socket = settled socket.left (guest.Tcp (tcp_call.StartBind socket.handle network.handle order.listen)) >>= finish_bind network socket
 
     abbrev create : Settled → Setup Listener
-    create network = settled network.left (guest.TcpCreate (family_of order.listen)) >>= start_bind network
+    create network = settled network.left (guest.Tcp (tcp_call.Create (family_of order.listen))) >>= start_bind network
 
     setup_sets : Sets (setup order)
     setup_sets =
-        set_then (settled order.turns guest.Network) create (settled_sets order.turns guest.Network tt) (λ network.
-        set_then (settled network.left (guest.TcpCreate (family_of order.listen))) (start_bind network) (settled_sets network.left (guest.TcpCreate (family_of order.listen)) tt) (λ socket.
-        set_then (settled socket.left (guest.TcpStartBind socket.handle network.handle order.listen)) (finish_bind network socket) (settled_sets socket.left (guest.TcpStartBind socket.handle network.handle order.listen) tt) (λ bound.
-        set_then (settled bound.left (guest.TcpFinishBind socket.handle)) (start_listen network socket) (settled_sets bound.left (guest.TcpFinishBind socket.handle) tt) (λ named.
-        set_then (settled named.left (guest.TcpStartListen socket.handle)) (finish_listen network socket) (settled_sets named.left (guest.TcpStartListen socket.handle) tt) (λ begun.
-        set_then (settled begun.left (guest.TcpFinishListen socket.handle)) (last_part network socket) (settled_sets begun.left (guest.TcpFinishListen socket.handle) tt) (λ listens next past h k. k (Ok (record { network = network.handle; socket = socket.handle; turns = listens.left })) past h))))))
+        set_then (settled order.turns (guest.Names name_call.Network)) create (settled_sets order.turns (guest.Names name_call.Network) tt) (λ network.
+        set_then (settled network.left (guest.Tcp (tcp_call.Create (family_of order.listen)))) (start_bind network) (settled_sets network.left (guest.Tcp (tcp_call.Create (family_of order.listen))) tt) (λ socket.
+        set_then (settled socket.left (guest.Tcp (tcp_call.StartBind socket.handle network.handle order.listen))) (finish_bind network socket) (settled_sets socket.left (guest.Tcp (tcp_call.StartBind socket.handle network.handle order.listen)) tt) (λ bound.
+        set_then (settled bound.left (guest.Tcp (tcp_call.FinishBind socket.handle))) (start_listen network socket) (settled_sets bound.left (guest.Tcp (tcp_call.FinishBind socket.handle)) tt) (λ named.
+        set_then (settled named.left (guest.Tcp (tcp_call.StartListen socket.handle))) (finish_listen network socket) (settled_sets named.left (guest.Tcp (tcp_call.StartListen socket.handle)) tt) (λ begun.
+        set_then (settled begun.left (guest.Tcp (tcp_call.FinishListen socket.handle))) (last_part network socket) (settled_sets begun.left (guest.Tcp (tcp_call.FinishListen socket.handle)) tt) (λ listens next past h k. k (Ok (record { network = network.handle; socket = socket.handle; turns = listens.left })) past h))))))
 
     -- == the guest
     by_setup : (given : Result Listener RelayEnd) (now : Past contexts) → Calm now → Copies contexts (after_setup order given at_end) now

@@ -1,7 +1,9 @@
 -- A pair's part of a turn.
 use Rattle.std.specs.Prelude.{ℕ, if◌then◌else◌, List, [], ◌∷◌, ◌++◌, Option, Some, None}
 use Rattle.wasi_addr.specs.declared.address.ShutdownType.TheVariants.{Both}
-use Rattle.wasi_steps.specs.declared.guest_call.GuestCall.TheVariants.{TcpFinishConnect, TcpShutdown, Drop}
+use Rattle.wasi_steps.specs.declared.guest_call.GuestCall.TheVariants as guest
+use Rattle.wasi_steps.specs.declared.guest_call.TcpCall.TheVariants as tcp_call
+use Rattle.wasi_steps.specs.declared.guest_call.PollableCall.TheVariants as pollable_call
 use Rattle.wasi_steps.specs.declared.reply.CodeWord.TheVariants.{WouldBlock}
 use Rattle.wasi_steps.specs.declared.reply.Reply.{Reply}
 use Rattle.wasi_steps.specs.declared.reply.Reply.TheVariants.{Ok, Err}
@@ -26,7 +28,7 @@ after_connect pair _ = both_broken pair
 
 abbrev pub connected : Pair → Part Pair
 connected pair = do
-  reply ← call (TcpFinishConnect pair.target)
+  reply ← call (guest.Tcp (tcp_call.FinishConnect pair.target))
   give (after_connect pair reply)
 
 -- == a pair that is connected: up, then down
@@ -38,13 +40,13 @@ served_both target pair = do
 
 -- == the end of a pair
 abbrev pub shut_down : Peer → Part Reply
-shut_down peer = call (TcpShutdown peer.socket Both)
+shut_down peer = call (guest.Tcp (tcp_call.Shutdown peer.socket Both))
 
 abbrev pub drop_all : Peer → Part Reply
 drop_all peer = do
-  call (Drop peer.input)
-  call (Drop peer.output)
-  call (Drop peer.socket)
+  call (guest.Pollable (pollable_call.Drop peer.input))
+  call (guest.Pollable (pollable_call.Drop peer.output))
+  call (guest.Pollable (pollable_call.Drop peer.socket))
 
 abbrev pub closed : Peer → Part Reply
 closed peer = do
@@ -63,7 +65,7 @@ abbrev pub closed_with : Peer → ℕ → Option Peer → Part Reply
 closed_with client socket (Some target) = closed_both client target
 closed_with client socket None = do
   closed client
-  call (Drop socket)
+  call (guest.Pollable (pollable_call.Drop socket))
 
 abbrev pub over : Pair → Part Pair
 over pair = do

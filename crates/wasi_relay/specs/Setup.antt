@@ -1,7 +1,9 @@
 -- The setup of a relay, which makes its listener.
 use Rattle.std.specs.Prelude.{ℕ, zero, suc, ◌==◌, if◌then◌else◌, Result, Ok, Err}
 use Rattle.wasi_steps.specs.declared.guest_call.GuestCall.{GuestCall}
-use Rattle.wasi_steps.specs.declared.guest_call.GuestCall.TheVariants.{Network, TcpCreate, TcpStartBind, TcpFinishBind, TcpStartListen, TcpFinishListen}
+use Rattle.wasi_steps.specs.declared.guest_call.GuestCall.TheVariants as guest
+use Rattle.wasi_steps.specs.declared.guest_call.TcpCall.TheVariants as tcp_call
+use Rattle.wasi_steps.specs.declared.guest_call.NameCall.TheVariants as name_call
 use Rattle.wasi_steps.specs.declared.step.Step.TheVariants.{Turn, Poll}
 use Rattle.wasi_steps.specs.declared.reply.Reply.{Reply}
 use Rattle.wasi_steps.specs.declared.reply.Reply.TheVariants as replied
@@ -64,12 +66,12 @@ settled left c = λ next. call c (λ reply. after_call left reply next)
 
 abbrev pub setup : Order → Setup Listener
 setup order = do
-  network ← settled order.turns Network
-  socket ← settled network.left (TcpCreate (family_of order.listen))
-  bound ← settled socket.left (TcpStartBind socket.handle network.handle order.listen)
-  named ← settled bound.left (TcpFinishBind socket.handle)
-  begun ← settled named.left (TcpStartListen socket.handle)
-  listens ← settled begun.left (TcpFinishListen socket.handle)
+  network ← settled order.turns (guest.Names name_call.Network)
+  socket ← settled network.left (guest.Tcp (tcp_call.Create (family_of order.listen)))
+  bound ← settled socket.left (guest.Tcp (tcp_call.StartBind socket.handle network.handle order.listen))
+  named ← settled bound.left (guest.Tcp (tcp_call.FinishBind socket.handle))
+  begun ← settled named.left (guest.Tcp (tcp_call.StartListen socket.handle))
+  listens ← settled begun.left (guest.Tcp (tcp_call.FinishListen socket.handle))
   give (Ok (record { network = network.handle; socket = socket.handle; turns = listens.left }))
 
 -- an end of the relay is something that the setup gives

@@ -1,7 +1,8 @@
 -- The turns of a relay.
 use Rattle.std.specs.Prelude.{ℕ, zero, suc, ◌+◌, ◌==◌, ◌&&◌, nat_lt, Bool, if◌then◌else◌, List, [], ◌∷◌, ◌++◌, Result}
 use Rattle.std.specs.Prelude as prelude
-use Rattle.wasi_steps.specs.declared.guest_call.GuestCall.TheVariants.{TcpAccept, TcpCreate, TcpStartConnect}
+use Rattle.wasi_steps.specs.declared.guest_call.GuestCall.TheVariants as guest
+use Rattle.wasi_steps.specs.declared.guest_call.TcpCall.TheVariants as tcp_call
 use Rattle.wasi_steps.specs.declared.step.Step.TheVariants.{Turn}
 use Rattle.wasi_steps.specs.declared.reply.CodeWord.TheVariants.{WouldBlock}
 use Rattle.wasi_steps.specs.declared.reply.Reply.{Reply}
@@ -30,7 +31,7 @@ course_of at = record { taken = at.taken; pairs = at.pairs.items }
 
 -- == an arrival
 abbrev pub begun : Order → Listener → ℕ → Part Reply
-begun order listener socket = call (TcpStartConnect socket listener.network order.target)
+begun order listener socket = call (guest.Tcp (tcp_call.StartConnect socket listener.network order.target))
 
 -- the socket that was accepted is connected to the target, and is one more pair; without a socket for that it is closed
 abbrev pub after_create : Order → Listener → Peer → List Pair → Reply → Part (List Pair)
@@ -43,7 +44,7 @@ after_create order listener client pairs _ = do
 
 abbrev pub paired : Order → Listener → Peer → List Pair → Part (List Pair)
 paired order listener client pairs = do
-  reply ← call (TcpCreate (family_of order.target))
+  reply ← call (guest.Tcp (tcp_call.Create (family_of order.target)))
   after_create order listener client pairs reply
 
 -- would-block takes no arrival; another refusal is an arrival without a pair
@@ -60,7 +61,7 @@ may_accept order at = nat_lt at.taken order.connections && nat_lt (open_pairs at
 
 abbrev pub accepted : Order → Listener → Course → Part Course
 accepted order listener at =
-    if may_accept order at then (call (TcpAccept listener.socket) >>= after_accept order listener at) else give at
+    if may_accept order at then (call (guest.Tcp (tcp_call.Accept listener.socket)) >>= after_accept order listener at) else give at
 
 -- == a turn
 abbrev pub turned : Order → Listener → Course → Part Course

@@ -10,7 +10,7 @@ use crate::calls::{bytes_at, call, number_at};
 use crate::pair::{DirEnd, Flow, Peer};
 use std::alloc::Global;
 use wasi_addr::ShutdownType;
-use wasi_session::{GuestCall, Reply, Session, StepError};
+use wasi_session::{GuestCall, PollableCall, Reply, Session, StepError, StreamCall, TcpCall};
 use wasi_world::{Octets, World};
 
 /// How many bytes are read at most at once.
@@ -52,7 +52,10 @@ pub(crate) fn copy<W: World>(
         return Ok(flow);
     }
     let output = to.output;
-    let reply = call(session, GuestCall::CheckWrite { output })?;
+    let reply = call(
+        session,
+        GuestCall::Stream(StreamCall::CheckWrite { output }),
+    )?;
     after_check(alloc, session, from, to, flow, reply)
 }
 
@@ -90,10 +93,10 @@ fn copy_within<W: World>(
     if permit == 0 {
         return Ok(flow);
     }
-    let read = GuestCall::Read {
+    let read = GuestCall::Stream(StreamCall::Read {
         input: from.input,
         len: permit.min(PIECE),
-    };
+    });
     let reply = call(session, read)?;
     after_read(alloc, session, to, flow, reply)
 }
@@ -111,10 +114,10 @@ fn after_read<W: World>(
     match reply {
         Reply::Ok(fields) => copy_bytes(alloc, session, to, flow, bytes_at(fields.as_slice(), 0)),
         Reply::Closed => {
-            let shutdown = GuestCall::TcpShutdown {
+            let shutdown = GuestCall::Tcp(TcpCall::Shutdown {
                 socket: to.socket,
                 how: ShutdownType::Send,
-            };
+            });
             call(session, shutdown)?;
             Ok(flow.ended_as(DirEnd::Clean))
         }
@@ -135,10 +138,10 @@ fn copy_bytes<W: World>(
     if bytes.is_empty() {
         return Ok(flow);
     }
-    let write = GuestCall::Write {
+    let write = GuestCall::Stream(StreamCall::Write {
         output: to.output,
         bytes: Octets::copy_of(alloc, bytes)?,
-    };
+    });
     let reply = call(session, write)?;
     after_write(session, flow, bytes.len(), reply)
 }
@@ -167,7 +170,10 @@ fn break_off<W: World>(
     ensures { Went (broken flow reply) session.old session.new result }
 {
     if let Reply::Failed(_, error) = reply {
-        call(session, GuestCall::Drop { handle: error })?;
+        call(
+            session,
+            GuestCall::Pollable(PollableCall::Drop { handle: error }),
+        )?;
     }
     Ok(flow.ended_as(DirEnd::Broken))
 }

@@ -14,7 +14,7 @@ use crate::copying::copy;
 use crate::pair::{DirEnd, Pair, Peer, Stage};
 use std::alloc::Global;
 use wasi_addr::ShutdownType;
-use wasi_session::{GuestCall, Reply, Session, StepError};
+use wasi_session::{GuestCall, PollableCall, Reply, Session, StepError, TcpCall};
 use wasi_steps::CodeWord;
 use wasi_world::{Handle, World};
 
@@ -107,7 +107,7 @@ fn connect<W: World>(session: &mut Session<W>, pair: Pair) -> Result<Pair, StepE
     ensures { Went (connected pair) session.old session.new result }
 {
     let socket = pair.target;
-    let reply = call(session, GuestCall::TcpFinishConnect { socket })?;
+    let reply = call(session, GuestCall::Tcp(TcpCall::FinishConnect { socket }))?;
     Ok(pair.after_connect(&reply))
 }
 
@@ -155,7 +155,10 @@ fn close_pair<W: World>(
         Some(peer) => close_both(session, client, peer),
         None => {
             close(session, client)?;
-            call(session, GuestCall::Drop { handle: target })
+            call(
+                session,
+                GuestCall::Pollable(PollableCall::Drop { handle: target }),
+            )
         }
     }
 }
@@ -186,10 +189,10 @@ pub(crate) fn close<W: World>(session: &mut Session<W>, peer: Peer) -> Result<Re
 fn shut_down<W: World>(session: &mut Session<W>, peer: Peer) -> Result<Reply, StepError>
     ensures { Went (shut_down peer) session.old session.new result }
 {
-    let shutdown = GuestCall::TcpShutdown {
+    let shutdown = GuestCall::Tcp(TcpCall::Shutdown {
         socket: peer.socket,
         how: ShutdownType::Both,
-    };
+    });
     call(session, shutdown)
 }
 
@@ -197,17 +200,20 @@ fn shut_down<W: World>(session: &mut Session<W>, peer: Peer) -> Result<Reply, St
 fn drop_all<W: World>(session: &mut Session<W>, peer: Peer) -> Result<Reply, StepError>
     ensures { Went (drop_all peer) session.old session.new result }
 {
-    call(session, GuestCall::Drop { handle: peer.input })?;
     call(
         session,
-        GuestCall::Drop {
-            handle: peer.output,
-        },
+        GuestCall::Pollable(PollableCall::Drop { handle: peer.input }),
     )?;
     call(
         session,
-        GuestCall::Drop {
+        GuestCall::Pollable(PollableCall::Drop {
+            handle: peer.output,
+        }),
+    )?;
+    call(
+        session,
+        GuestCall::Pollable(PollableCall::Drop {
             handle: peer.socket,
-        },
+        }),
     )
 }

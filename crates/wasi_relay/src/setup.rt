@@ -8,7 +8,7 @@ ghost use Rattle.wasi_relay.specs.Setup.{at_turns_end, outcome, with_left, as_is
 use crate::calls::{call, handle_in, step};
 use crate::order::{Order, family_of};
 use crate::service::RelayEnd;
-use wasi_session::{GuestCall, Reply, Session, Step, StepError};
+use wasi_session::{GuestCall, NameCall, Reply, Session, Step, StepError, TcpCall};
 use wasi_world::{Handle, World};
 
 /// What the setup made.
@@ -60,18 +60,34 @@ pub(crate) fn set_up<W: World>(session: &mut Session<W>, order: Order) -> Result
 {
     let mut turns = order.turns;
     let addr = order.listen;
-    let network = settle(session, GuestCall::Network, &mut turns)?;
+    let network = settle(session, GuestCall::Names(NameCall::Network), &mut turns)?;
     let family = family_of(addr);
-    let socket = settle(session, GuestCall::TcpCreate { family }, &mut turns)?;
-    let bind = GuestCall::TcpStartBind {
+    let socket = settle(
+        session,
+        GuestCall::Tcp(TcpCall::Create { family }),
+        &mut turns,
+    )?;
+    let bind = GuestCall::Tcp(TcpCall::StartBind {
         socket,
         network,
         addr,
-    };
+    });
     settle(session, bind, &mut turns)?;
-    settle(session, GuestCall::TcpFinishBind { socket }, &mut turns)?;
-    settle(session, GuestCall::TcpStartListen { socket }, &mut turns)?;
-    settle(session, GuestCall::TcpFinishListen { socket }, &mut turns)?;
+    settle(
+        session,
+        GuestCall::Tcp(TcpCall::FinishBind { socket }),
+        &mut turns,
+    )?;
+    settle(
+        session,
+        GuestCall::Tcp(TcpCall::StartListen { socket }),
+        &mut turns,
+    )?;
+    settle(
+        session,
+        GuestCall::Tcp(TcpCall::FinishListen { socket }),
+        &mut turns,
+    )?;
     Ok(Listener {
         network,
         socket,

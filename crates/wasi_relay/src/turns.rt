@@ -16,7 +16,7 @@ use crate::service::RelayEnd;
 use crate::serving::close;
 use crate::setup::Listener;
 use std::alloc::Global;
-use wasi_session::{GuestCall, Reply, Session, Step, StepError};
+use wasi_session::{GuestCall, Reply, Session, Step, StepError, TcpCall};
 use wasi_steps::CodeWord;
 use wasi_world::{Handle, World};
 
@@ -115,7 +115,7 @@ fn accept<W: World>(
         return Ok(());
     }
     let socket = listener.socket;
-    let reply = call(session, GuestCall::TcpAccept { socket })?;
+    let reply = call(session, GuestCall::Tcp(TcpCall::Accept { socket }))?;
     after_accept(session, order, listener, at, &reply)
 }
 
@@ -163,7 +163,7 @@ fn pair_up<W: World>(
 {
     pairs.reserve()?;
     let family = family_of(order.target);
-    let reply = call(session, GuestCall::TcpCreate { family })?;
+    let reply = call(session, GuestCall::Tcp(TcpCall::Create { family }))?;
     match reply {
         Reply::Ok(fields) => {
             let target = handle_at(fields.as_slice(), 0);
@@ -187,10 +187,10 @@ fn begin_connect<W: World>(
 ) -> Result<Reply, StepError>
     ensures { Went (begun order listener socket) session.old session.new result }
 {
-    let connect = GuestCall::TcpStartConnect {
+    let connect = GuestCall::Tcp(TcpCall::StartConnect {
         socket,
         network: listener.network,
         addr: order.target,
-    };
+    });
     call(session, connect)
 }

@@ -5,7 +5,8 @@ use Rattle.wasi_world.specs.declared.ids.OpId.{OpId}
 use Rattle.wasi_run.specs.declared.run.RunEnd.{RunEnd}
 use Rattle.host_store.specs.KnownSides.{KnowsSides}
 use Rattle.wasi_records.specs.Closing.{HasClosedEach}
-use Rattle.wasi_records.specs.Sides.{ClosesAll, no_socket}
+use Rattle.wasi_records.specs.Sides.{ClosesAll}
+use Rattle.record_common.specs.Sides.{no_socket}
 use Rattle.wasi_run.specs.Script.{RanOver, RanScript}
 use Rattle.wasi_run.specs.Causes.{BeginsRun, DoneLines}
 use Rattle.wasi_run.specs.Headline.{RunsLicensed}

@@ -14,8 +14,6 @@ pub use Rattle.world_text.specs.Lines.{lines_from, lines_of, rest_from, rest_of}
 pub use Rattle.wasi_world.specs.Seen.{Rose, Seen}
 pub use Rattle.wasi_records.specs.Closing.{AsksNothing, HasClosedAll, IsFresh}
 pub use Rattle.wasi_steps.specs.Steps.{IsStep, line_of, step_of}
-pub use Rattle.wasi_steps.specs.declared.guest_call.GuestCall.TheVariants.{CheckWrite, Drop, Network, TcpCreate, TcpFinishConnect, TcpShutdown, TcpStartConnect}
-pub use Rattle.wasi_steps.specs.declared.guest_call.GuestCall.TheVariants.{Write}
 pub use Rattle.wasi_run.proofs.LinesJoined.{lines_none, lines_then, stays_open, trap_then}
 pub use Rattle.wasi_run.specs.Lines.{AllSteps, BadAfter, KeptOf, StartWith, after_lines}
 pub use Rattle.wasi_run.specs.Ran.{Beyond, Counted, LinesRan, Met, Wrote, texts}

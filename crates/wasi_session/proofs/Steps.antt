@@ -15,7 +15,8 @@ use Rattle.wasi_steps.specs.Reply.{is_trap}
 use Rattle.wasi_walks.specs.Licence.{IsLicensed}
 use Rattle.wasi_walks.proofs.licence.Runs.{runs_licensed}
 use Rattle.wasi_records.specs.Closing.{IsFresh, HasClosedAll, HasClosedEach}
-use Rattle.wasi_records.specs.Sides.{ClosesAll, no_socket}
+use Rattle.wasi_records.specs.Sides.{ClosesAll}
+use Rattle.record_common.specs.Sides.{no_socket}
 use Rattle.wasi_world.specs.declared.ids.OpId.{OpId}
 use Rattle.wasi_records.proofs.Closings.{empty_known}
 use Rattle.wasi_calls.specs.Stretches.{Stretch}

@@ -7,4 +7,7 @@ pub mod session;
 
 pub use error::StepError;
 pub use session::Session;
-pub use wasi_steps::{Field, GuestCall, Reply, ReplyFields, Step};
+pub use wasi_steps::{
+    Field, GuestCall, NameCall, P3NameCall, P3TcpCall, P3UdpCall, PipeCall, PollableCall, Reply,
+    ReplyFields, Step, StreamCall, TcpCall, UdpCall,
+};

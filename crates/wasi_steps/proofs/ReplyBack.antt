@@ -20,6 +20,15 @@ use Rattle.wasi_steps.specs.declared.reply.Reply.{Reply}
 use Rattle.wasi_steps.specs.declared.reply.Reply.TheVariants as reply
 use Rattle.wasi_steps.specs.declared.guest_call.GuestCall.{GuestCall}
 use Rattle.wasi_steps.specs.declared.guest_call.GuestCall.TheVariants as guest
+use Rattle.wasi_steps.specs.declared.guest_call.TcpCall.TheVariants as tcp_call
+use Rattle.wasi_steps.specs.declared.guest_call.UdpCall.TheVariants as udp_call
+use Rattle.wasi_steps.specs.declared.guest_call.NameCall.TheVariants as name_call
+use Rattle.wasi_steps.specs.declared.guest_call.StreamCall.TheVariants as stream_call
+use Rattle.wasi_steps.specs.declared.guest_call.PipeCall.TheVariants as pipe_call
+use Rattle.wasi_steps.specs.declared.guest_call.PollableCall.TheVariants as pollable_call
+use Rattle.wasi_steps.specs.declared.guest_call.P3TcpCall.TheVariants as p3_tcp_call
+use Rattle.wasi_steps.specs.declared.guest_call.P3UdpCall.TheVariants as p3_udp_call
+use Rattle.wasi_steps.specs.declared.guest_call.P3NameCall.TheVariants as p3_name_call
 use Rattle.wasi_steps.specs.declared.step.Step.{Step}
 use Rattle.wasi_steps.specs.declared.step.Step.TheVariants as step
 use Rattle.wasi_steps.specs.Reply.{ip_values, address_values, ips_values, received_values, datagram_values, numbers_fields}
@@ -202,7 +211,15 @@ AreKnown OfAPolledCall = ⊥
 AreKnown _ = Unit {0}
 
 call_known : (call : GuestCall) → AreKnown (call_signature call).gives
-call_known guest.Network = tt
+call_known (guest.Tcp (tcp_call.Create _)) = tt
+call_known (guest.Udp (udp_call.Create _)) = tt
+call_known (guest.Names name_call.Network) = tt
+call_known (guest.Stream (stream_call.Flush _)) = tt
+call_known (guest.Pipe pipe_call.Sink) = tt
+call_known (guest.Pollable (pollable_call.Ready _)) = tt
+call_known (guest.P3Tcp (p3_tcp_call.Create _)) = tt
+call_known (guest.P3Udp (p3_udp_call.Create _)) = tt
+call_known (guest.P3Names (p3_name_call.Resolve _)) = tt
 call_known _ = tt
 
 are_known : (s : Step) → is_poll s ≡ false → AreKnown (kinds_of s)

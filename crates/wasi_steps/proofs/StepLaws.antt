@@ -16,6 +16,15 @@ use Rattle.wasi_addr.specs.declared.address.ShutdownType.{ShutdownType}
 use Rattle.wasi_addr.specs.declared.address.ShutdownType.TheVariants.{Receive, Send, Both}
 use Rattle.wasi_steps.specs.declared.guest_call.GuestCall.{GuestCall}
 use Rattle.wasi_steps.specs.declared.guest_call.GuestCall.TheVariants as guest
+use Rattle.wasi_steps.specs.declared.guest_call.TcpCall.TheVariants as tcp_call
+use Rattle.wasi_steps.specs.declared.guest_call.UdpCall.TheVariants as udp_call
+use Rattle.wasi_steps.specs.declared.guest_call.NameCall.TheVariants as name_call
+use Rattle.wasi_steps.specs.declared.guest_call.StreamCall.TheVariants as stream_call
+use Rattle.wasi_steps.specs.declared.guest_call.PipeCall.TheVariants as pipe_call
+use Rattle.wasi_steps.specs.declared.guest_call.PollableCall.TheVariants as pollable_call
+use Rattle.wasi_steps.specs.declared.guest_call.P3TcpCall.TheVariants as p3_tcp_call
+use Rattle.wasi_steps.specs.declared.guest_call.P3UdpCall.TheVariants as p3_udp_call
+use Rattle.wasi_steps.specs.declared.guest_call.P3NameCall.TheVariants as p3_name_call
 use Rattle.wasi_steps.specs.declared.step.Step.{Step}
 use Rattle.wasi_steps.specs.declared.step.Step.TheVariants as step
 use Rattle.wasi_steps.specs.Arguments.{Kind, ALine, ACount, ACapacity, AFamily, ASocketAddress, AnOption, ASetting, AUdpOption, AUdpSetting, AHalf, AllBytes, ARemote, SomeDatagrams, ADatagram, SomePollables, AName, Value, value_at, value_fields, FitsValue, Values, values_fields, FitsValues, shutdown_fields, shutdown_words, shutdown_at}
@@ -86,7 +95,15 @@ ends_last (kind ∷ next ∷ kinds) = goes_on kind && ends_last (next ∷ kinds)
 
 all_end_last : (call : GuestCall) → ends_last (call_signature call).written.kinds ≡ true
 unfolding ends_last goes_on
-all_end_last guest.Network = refl
+all_end_last (guest.Tcp (tcp_call.Create _)) = refl
+all_end_last (guest.Udp (udp_call.Create _)) = refl
+all_end_last (guest.Names name_call.Network) = refl
+all_end_last (guest.Stream (stream_call.Flush _)) = refl
+all_end_last (guest.Pipe pipe_call.Sink) = refl
+all_end_last (guest.Pollable (pollable_call.Ready _)) = refl
+all_end_last (guest.P3Tcp (p3_tcp_call.Create _)) = refl
+all_end_last (guest.P3Udp (p3_udp_call.Create _)) = refl
+all_end_last (guest.P3Names (p3_name_call.Resolve _)) = refl
 all_end_last _ = refl
 
 values_only : {A : Type 0} (kinds : List Kind) (makes : Takes A kinds) {Q : List (List ℕ) → A → Type 0} → ((values : Values kinds) → FitsValues kinds values → Q (values_fields kinds values) (made kinds makes values)) → Only (values_at kinds makes) Q

@@ -5,6 +5,7 @@ pub mod Datagrams
 pub mod Names
 pub mod HandleLists
 pub mod Arguments
+pub mod Signatures
 pub mod Steps
 pub mod Forms
 pub mod Replies

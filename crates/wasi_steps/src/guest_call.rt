@@ -4,168 +4,183 @@ use crate::setting::{TcpSetting, UdpOption, UdpSetting};
 use wasi_addr::{IpSocketAddress, ShutdownType, SocketAddressFamily};
 use wasi_world::{Handle, NameText, NumberList, Octets, Opt, OutgoingDatagram, OutgoingDatagrams};
 
-/// A call that a guest makes, with its arguments.
+/// A call that a guest makes, with its arguments, by its kind.
 #[derive(Drop)]
 pub enum GuestCall {
-    /// Makes a handle of the network (`instance-network`).
-    Network,
+    /// TCP sockets.
+    Tcp(TcpCall),
+    /// UDP sockets and their streams of datagrams.
+    Udp(UdpCall),
+    /// The network, lookups and errors.
+    Names(NameCall),
+    /// Streams of bytes.
+    Stream(StreamCall),
+    /// Pipes and other streams in memory.
+    Pipe(PipeCall),
+    /// Pollables, and drops of handles.
+    Pollable(PollableCall),
+    /// TCP sockets of 0.3 and the ends of their streams.
+    P3Tcp(P3TcpCall),
+    /// UDP sockets of 0.3.
+    P3Udp(P3UdpCall),
+    /// Lookups of 0.3.
+    P3Names(P3NameCall),
+}
+
+/// A call of a TCP socket.
+#[derive(Drop)]
+pub enum TcpCall {
     /// Makes a TCP socket of this family (`create-tcp-socket`).
-    TcpCreate {
+    Create {
         family: SocketAddressFamily,
     },
     /// Begins to bind the socket to the address (`start-bind`).
-    TcpStartBind {
+    StartBind {
         socket: Handle,
         network: Handle,
         addr: IpSocketAddress,
     },
     /// Ends a bind that was begun (`finish-bind`).
-    TcpFinishBind {
+    FinishBind {
         socket: Handle,
     },
     /// Begins to connect the socket to the address (`start-connect`).
-    TcpStartConnect {
+    StartConnect {
         socket: Handle,
         network: Handle,
         addr: IpSocketAddress,
     },
     /// Polls a connect that was begun, and makes the two streams of the connection
     /// (`finish-connect`).
-    TcpFinishConnect {
+    FinishConnect {
         socket: Handle,
     },
     /// Begins to make the socket listen (`start-listen`).
-    TcpStartListen {
+    StartListen {
         socket: Handle,
     },
     /// Ends a listen that was begun (`finish-listen`).
-    TcpFinishListen {
+    FinishListen {
         socket: Handle,
     },
     /// Accepts a connection of the listener, and makes its socket and its two streams (`accept`).
-    TcpAccept {
+    Accept {
         socket: Handle,
     },
     /// The address that the socket is bound to (`local-address`).
-    TcpLocalAddress {
+    LocalAddress {
         socket: Handle,
     },
     /// The address of the other end of the connection (`remote-address`).
-    TcpRemoteAddress {
+    RemoteAddress {
         socket: Handle,
     },
     /// Whether the socket is listening (`is-listening`).
-    TcpIsListening {
+    IsListening {
         socket: Handle,
     },
     /// The socket's family (`address-family`).
-    TcpAddressFamily {
+    AddressFamily {
         socket: Handle,
     },
     /// The value of an option of the socket (its getter: `keep-alive-enabled`, and so on).
-    TcpGet {
+    Get {
         socket: Handle,
         option: Opt,
     },
     /// Sets an option of the socket, or its backlog (its setter: `set-keep-alive-enabled`, and so
     /// on).
-    TcpSet {
+    Set {
         socket: Handle,
         setting: TcpSetting,
     },
     /// Shuts down this half of the connection, or both (`shutdown`).
-    TcpShutdown {
+    Shutdown {
         socket: Handle,
         how: ShutdownType,
     },
+}
+
+/// A call of a UDP socket, or of its streams of datagrams.
+#[derive(Drop)]
+pub enum UdpCall {
     /// Makes a UDP socket of this family (`create-udp-socket`).
-    UdpCreate {
+    Create {
         family: SocketAddressFamily,
     },
     /// Begins to bind the UDP socket to the address (`start-bind`).
-    UdpStartBind {
+    StartBind {
         socket: Handle,
         network: Handle,
         addr: IpSocketAddress,
     },
     /// Ends a bind of the UDP socket that was begun (`finish-bind`).
-    UdpFinishBind {
+    FinishBind {
         socket: Handle,
     },
     /// The address that the UDP socket is bound to (`local-address`).
-    UdpLocalAddress {
+    LocalAddress {
         socket: Handle,
     },
     /// The one address that the UDP socket sends to and receives from, where there is one
     /// (`remote-address`).
-    UdpRemoteAddress {
+    RemoteAddress {
         socket: Handle,
     },
     /// The UDP socket's family (`address-family`).
-    UdpAddressFamily {
+    AddressFamily {
         socket: Handle,
     },
     /// The value of an option of the UDP socket (its getter: `unicast-hop-limit`, and so on).
-    UdpGet {
+    Get {
         socket: Handle,
         option: UdpOption,
     },
     /// Sets an option of the UDP socket (its setter: `set-unicast-hop-limit`, and so on).
-    UdpSet {
+    Set {
         socket: Handle,
         setting: UdpSetting,
     },
     /// Makes the two datagram streams of the UDP socket, which is connected to the address first,
     /// or else disconnected from where it was connected (`udp-socket.stream`).
-    UdpStream {
+    Stream {
         socket: Handle,
         remote: Option<IpSocketAddress>,
     },
     /// Receives at most so many datagrams (`incoming-datagram-stream.receive`).
-    UdpReceive {
+    Receive {
         incoming: Handle,
         max_results: u64,
     },
     /// How many datagrams may be sent (`outgoing-datagram-stream.check-send`).
-    UdpCheckSend {
+    CheckSend {
         outgoing: Handle,
     },
     /// Sends the datagrams, of which there are no more than was permitted
     /// (`outgoing-datagram-stream.send`).
-    UdpSend {
+    Send {
         outgoing: Handle,
         datagrams: OutgoingDatagrams,
     },
+}
+
+/// A call of the network, of a lookup or of an error.
+#[derive(Drop)]
+pub enum NameCall {
+    /// Makes a handle of the network (`instance-network`).
+    Network,
     /// Begins to look up the addresses of a host name (`resolve-addresses`).
-    Resolve {
-        network: Handle,
-        name: NameText,
-    },
+    Resolve { network: Handle, name: NameText },
     /// Takes the next address that a lookup found (`resolve-next-address`).
-    ResolveNext {
-        lookup: Handle,
-    },
-    /// Makes an input over the bytes; the host's own, as an embedder's `MemoryInputPipe`.
-    PipeIn {
-        bytes: Octets,
-    },
-    /// Makes an output that keeps what is written to it; the host's own, as an embedder's
-    /// `MemoryOutputPipe`.
-    PipeOut {
-        /// How many bytes it holds, at most 65536.
-        capacity: u32,
-    },
-    /// What was written to an output that [`GuestCall::PipeOut`] made (`MemoryOutputPipe::contents`).
-    PipeContents {
-        output: Handle,
-    },
-    /// Makes an output that takes all bytes and keeps none; the host's own, as an embedder's
-    /// `SinkOutputStream`.
-    Sink,
-    /// Makes an input that is closed; the host's own, as an embedder's `ClosedInputStream`.
-    ClosedIn,
-    /// Makes an output that is closed; the host's own, as an embedder's `ClosedOutputStream`.
-    ClosedOut,
+    ResolveNext { lookup: Handle },
+    /// The network's code in the error of a stream, which is always `none` in 0.2: the code was
+    /// returned when the stream failed (`network-error-code`).
+    NetworkErrorCode { error: Handle },
+}
+
+/// A call of a stream of bytes.
+#[derive(Drop)]
+pub enum StreamCall {
     /// Reads at most so many bytes (`input-stream.read`).
     Read {
         input: Handle,
@@ -236,156 +251,185 @@ pub enum GuestCall {
         input: Handle,
         len: u64,
     },
-    /// Waits until what the pollable watches is ready (`pollable.block`).
-    Block {
-        pollable: Handle,
+}
+
+/// A call of a pipe or of another stream in memory; the host's own.
+#[derive(Drop)]
+pub enum PipeCall {
+    /// Makes an input over the bytes; the host's own, as an embedder's `MemoryInputPipe`.
+    In {
+        bytes: Octets,
     },
-    /// Waits until what one of the pollables watches is ready (`poll`).
-    PollList {
-        pollables: NumberList,
+    /// Makes an output that keeps what is written to it; the host's own, as an embedder's
+    /// `MemoryOutputPipe`.
+    Out {
+        /// How many bytes it holds, at most 65536.
+        capacity: u32,
     },
-    /// The network's code in the error of a stream, which is always `none` in 0.2: the code was
-    /// returned when the stream failed (`network-error-code`).
-    NetworkErrorCode {
-        error: Handle,
+    /// What was written to an output that [`PipeCall::Out`] made (`MemoryOutputPipe::contents`).
+    Contents {
+        output: Handle,
     },
+    /// Makes an output that takes all bytes and keeps none; the host's own, as an embedder's
+    /// `SinkOutputStream`.
+    Sink,
+    /// Makes an input that is closed; the host's own, as an embedder's `ClosedInputStream`.
+    ClosedIn,
+    /// Makes an output that is closed; the host's own, as an embedder's `ClosedOutputStream`.
+    ClosedOut,
+}
+
+/// A call of a pollable, or the drop of a handle.
+#[derive(Drop)]
+pub enum PollableCall {
     /// Makes a pollable for what the handle stands for (`subscribe` of the resource).
-    Subscribe {
-        handle: Handle,
-    },
+    Subscribe { handle: Handle },
     /// Whether what the pollable watches is ready (`pollable.ready`).
-    Ready {
-        pollable: Handle,
-    },
+    Ready { pollable: Handle },
+    /// Waits until what the pollable watches is ready (`pollable.block`).
+    Block { pollable: Handle },
+    /// Waits until what one of the pollables watches is ready (`poll`).
+    PollList { pollables: NumberList },
     /// Drops the handle (`resource drop`).
-    Drop {
-        handle: Handle,
-    },
+    Drop { handle: Handle },
+}
+
+/// A call of a TCP socket of 0.3, or of an end of its streams.
+#[derive(Drop)]
+pub enum P3TcpCall {
     /// Makes a TCP socket of the 0.3 interface, of this family (`create`).
-    P3TcpCreate {
+    Create {
         family: SocketAddressFamily,
     },
     /// Binds the 0.3 socket to an address (`bind`).
-    P3TcpBind {
+    Bind {
         socket: Handle,
         addr: IpSocketAddress,
     },
     /// Connects the 0.3 socket to an address (`connect`).
-    P3TcpConnect {
+    Connect {
         socket: Handle,
         addr: IpSocketAddress,
     },
     /// Makes the 0.3 socket listen, and makes its listener (`listen`).
-    P3TcpListen {
+    Listen {
         socket: Handle,
     },
     /// Accepts a connection of the listener; with nothing remaining it is only looked whether one
     /// has come.
-    P3Accept {
+    Accept {
         listener: Handle,
         remaining: u64,
     },
     /// The address that the 0.3 socket is bound to (`get-local-address`).
-    P3TcpLocalAddress {
+    LocalAddress {
         socket: Handle,
     },
     /// The address of the other end of the 0.3 socket's connection (`get-remote-address`).
-    P3TcpRemoteAddress {
+    RemoteAddress {
         socket: Handle,
     },
     /// Whether the 0.3 socket is listening (`get-is-listening`).
-    P3TcpIsListening {
+    IsListening {
         socket: Handle,
     },
     /// The 0.3 socket's family (`get-address-family`).
-    P3TcpAddressFamily {
+    AddressFamily {
         socket: Handle,
     },
     /// The value of an option of the 0.3 socket (its getter: `get-keep-alive-enabled`, and so on).
-    P3TcpGet {
+    Get {
         socket: Handle,
         option: Opt,
     },
     /// Sets an option of the 0.3 socket, or its backlog (its setter: `set-keep-alive-enabled`, and
     /// so on).
-    P3TcpSet {
+    Set {
         socket: Handle,
         setting: TcpSetting,
     },
     /// Makes the write end of the 0.3 socket's connection, and its result slot (`send`).
-    P3TcpSend {
+    Send {
         socket: Handle,
     },
     /// Writes bytes by the write end.
-    P3Write {
+    Write {
         end: Handle,
         bytes: Octets,
     },
     /// Makes the read end of the 0.3 socket's connection, and its result slot (`receive`).
-    P3TcpReceive {
+    Receive {
         socket: Handle,
     },
     /// Reads at most this many bytes by the read end.
-    P3Read {
+    Read {
         end: Handle,
         len: u64,
     },
     /// Takes the result out of the slot, once its end is closed.
-    P3Result {
+    Result {
         slot: Handle,
     },
+}
+
+/// A call of a UDP socket of 0.3.
+#[derive(Drop)]
+pub enum P3UdpCall {
     /// Makes a UDP socket of the 0.3 interface, of this family (`create`).
-    P3UdpCreate {
+    Create {
         family: SocketAddressFamily,
     },
     /// Binds the 0.3 UDP socket to an address (`bind`).
-    P3UdpBind {
+    Bind {
         socket: Handle,
         addr: IpSocketAddress,
     },
     /// Connects the 0.3 UDP socket to an address (`connect`).
-    P3UdpConnect {
+    Connect {
         socket: Handle,
         addr: IpSocketAddress,
     },
     /// Takes the 0.3 UDP socket's remote address away (`disconnect`).
-    P3UdpDisconnect {
+    Disconnect {
         socket: Handle,
     },
     /// Sends a datagram on the 0.3 UDP socket (`send`).
-    P3UdpSend {
+    Send {
         socket: Handle,
         datagram: OutgoingDatagram,
     },
     /// Receives a datagram on the 0.3 UDP socket (`receive`).
-    P3UdpReceive {
+    Receive {
         socket: Handle,
     },
     /// The address that the 0.3 UDP socket is bound to (`get-local-address`).
-    P3UdpLocalAddress {
+    LocalAddress {
         socket: Handle,
     },
     /// The address that the 0.3 UDP socket is connected to (`get-remote-address`).
-    P3UdpRemoteAddress {
+    RemoteAddress {
         socket: Handle,
     },
     /// The 0.3 UDP socket's family (`get-address-family`).
-    P3UdpAddressFamily {
+    AddressFamily {
         socket: Handle,
     },
     /// The value of an option of the 0.3 UDP socket (its getter: `get-unicast-hop-limit`, and so
     /// on).
-    P3UdpGet {
+    Get {
         socket: Handle,
         option: UdpOption,
     },
     /// Sets an option of the 0.3 UDP socket (its setter: `set-unicast-hop-limit`, and so on).
-    P3UdpSet {
+    Set {
         socket: Handle,
         setting: UdpSetting,
     },
+}
+
+/// A lookup of 0.3.
+#[derive(Drop)]
+pub enum P3NameCall {
     /// Looks up a host name (`resolve-addresses` of 0.3).
-    P3Resolve {
-        name: NameText,
-    },
+    Resolve { name: NameText },
 }

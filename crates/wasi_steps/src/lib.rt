@@ -17,7 +17,10 @@ mod stream;
 mod words;
 
 pub use fields::{IntoFields, NoCode};
-pub use guest_call::GuestCall;
+pub use guest_call::{
+    GuestCall, NameCall, P3NameCall, P3TcpCall, P3UdpCall, PipeCall, PollableCall, StreamCall,
+    TcpCall, UdpCall,
+};
 pub use reply::{CodeWord, Field, Reply, ReplyFields};
 pub use setting::{TcpSetting, UdpOption, UdpSetting};
 pub use step::{STEP_FORMS, Step};

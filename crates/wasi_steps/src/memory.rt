@@ -2,12 +2,15 @@
 
 ghost use Rattle.std.specs.Prelude.{IfOk};
 ghost use Rattle.world_text.specs.Fields.{Reads};
-ghost use Rattle.wasi_steps.specs.Steps.{pipe_call, write_call, blocking_write_call, send_call};
+ghost use Rattle.wasi_steps.specs.Steps.{pipe_in_call, write_call, blocking_write_call, send_call};
 ghost use Rattle.wasi_steps.specs.Steps.{poll_list_call, resolve_call, p3_write_call, row_of, p3_resolve_call};
 ghost use Rattle.wasi_steps.specs.Steps.{p3_send_call};
 
 use crate::datagram::{datagram, datagrams};
-use crate::guest_call::GuestCall;
+use crate::guest_call::{
+    GuestCall, NameCall, P3NameCall, P3TcpCall, P3UdpCall, PipeCall, PollableCall, StreamCall,
+    UdpCall,
+};
 use crate::handle_list::pollables;
 use crate::name::name;
 use std::alloc::{AllocError, Global};
@@ -19,13 +22,13 @@ pub(crate) fn pipe_arguments(
     alloc: Global,
     fields: &mut Fields<'_>,
 ) -> Result<Option<GuestCall>, AllocError>
-    ensures { IfOk result (λ call. Reads (row_of pipe_call).reads fields.old call
+    ensures { IfOk result (λ call. Reads (row_of pipe_in_call).reads fields.old call
         fields.new) }
 {
     let Some(bytes) = fields.octets(alloc)? else {
         return Ok(None);
     };
-    Ok(Some(GuestCall::PipeIn { bytes }))
+    Ok(Some(GuestCall::Pipe(PipeCall::In { bytes })))
 }
 
 /// Takes the arguments of a write.
@@ -43,7 +46,7 @@ pub(crate) fn write_arguments(
     let Some(bytes) = fields.octets(alloc)? else {
         return Ok(None);
     };
-    Ok(Some(GuestCall::Write { output, bytes }))
+    Ok(Some(GuestCall::Stream(StreamCall::Write { output, bytes })))
 }
 
 /// Takes the arguments of a blocking-write.
@@ -61,7 +64,7 @@ pub(crate) fn blocking_write_arguments(
     let Some(bytes) = fields.octets(alloc)? else {
         return Ok(None);
     };
-    Ok(Some(GuestCall::BlockingWrite { output, bytes }))
+    Ok(Some(GuestCall::Stream(StreamCall::BlockingWrite { output, bytes })))
 }
 
 /// Takes the arguments of a send.
@@ -79,10 +82,10 @@ pub(crate) fn send_arguments(
     let Some(datagrams) = datagrams(alloc, fields)? else {
         return Ok(None);
     };
-    Ok(Some(GuestCall::UdpSend {
+    Ok(Some(GuestCall::Udp(UdpCall::Send {
         outgoing,
         datagrams,
-    }))
+    })))
 }
 
 /// Takes the handles of a poll-list, up to the end of the line.
@@ -97,7 +100,7 @@ pub(crate) fn poll_list_arguments(
     let Some(pollables) = pollables(alloc, fields)? else {
         return Ok(None);
     };
-    Ok(Some(GuestCall::PollList { pollables }))
+    Ok(Some(GuestCall::Pollable(PollableCall::PollList { pollables })))
 }
 
 /// Takes the arguments of a resolve.
@@ -115,7 +118,7 @@ pub(crate) fn resolve_arguments(
     let Some(name) = name(alloc, fields)? else {
         return Ok(None);
     };
-    Ok(Some(GuestCall::Resolve { network, name }))
+    Ok(Some(GuestCall::Names(NameCall::Resolve { network, name })))
 }
 
 /// Takes the arguments of a write of 0.3.
@@ -133,7 +136,7 @@ pub(crate) fn p3_write_arguments(
     let Some(bytes) = fields.octets(alloc)? else {
         return Ok(None);
     };
-    Ok(Some(GuestCall::P3Write { end, bytes }))
+    Ok(Some(GuestCall::P3Tcp(P3TcpCall::Write { end, bytes })))
 }
 
 /// Takes the name of a p3-resolve.
@@ -148,7 +151,7 @@ pub(crate) fn p3_resolve_arguments(
     let Some(name) = name(alloc, fields)? else {
         return Ok(None);
     };
-    Ok(Some(GuestCall::P3Resolve { name }))
+    Ok(Some(GuestCall::P3Names(P3NameCall::Resolve { name })))
 }
 
 /// Takes the arguments of a p3-udp-send.
@@ -166,5 +169,5 @@ pub(crate) fn p3_send_arguments(
     let Some(datagram) = datagram(alloc, fields)? else {
         return Ok(None);
     };
-    Ok(Some(GuestCall::P3UdpSend { socket, datagram }))
+    Ok(Some(GuestCall::P3Udp(P3UdpCall::Send { socket, datagram })))
 }

@@ -15,7 +15,7 @@ ghost use Rattle.wasi_steps.specs.Steps.{output_value_calls, handle_calls, bare_
 ghost use Rattle.wasi_steps.specs.Steps.{call_at, guest_call_at, step_reader, step_of, takes_a_name};
 
 use crate::datagram::remote;
-use crate::guest_call::GuestCall;
+use crate::guest_call::{GuestCall, NameCall, P3TcpCall, P3UdpCall, PipeCall, TcpCall, UdpCall};
 use crate::memory::{
     blocking_write_arguments, p3_resolve_arguments, p3_send_arguments, p3_write_arguments,
     pipe_arguments, poll_list_arguments, resolve_arguments, send_arguments, write_arguments,
@@ -145,46 +145,46 @@ fn p3_arguments(fields: &mut Fields<'_>, word: &[u8], handle: u32) -> Option<Gue
         ++ output_value_calls ++ handle_calls)) word.now handle fields.old result fields.new }
 {
     match word {
-        _ if is(word, "p3-tcp-bind") => Some(GuestCall::P3TcpBind {
+        _ if is(word, "p3-tcp-bind") => Some(GuestCall::P3Tcp(P3TcpCall::Bind {
             socket: handle,
             addr: fields.socket_address()?,
-        }),
-        _ if is(word, "p3-tcp-connect") => Some(GuestCall::P3TcpConnect {
+        })),
+        _ if is(word, "p3-tcp-connect") => Some(GuestCall::P3Tcp(P3TcpCall::Connect {
             socket: handle,
             addr: fields.socket_address()?,
-        }),
-        _ if is(word, "p3-tcp-get") => Some(GuestCall::P3TcpGet {
+        })),
+        _ if is(word, "p3-tcp-get") => Some(GuestCall::P3Tcp(P3TcpCall::Get {
             socket: handle,
             option: option(fields)?,
-        }),
-        _ if is(word, "p3-tcp-set") => Some(GuestCall::P3TcpSet {
+        })),
+        _ if is(word, "p3-tcp-set") => Some(GuestCall::P3Tcp(P3TcpCall::Set {
             socket: handle,
             setting: setting(fields)?,
-        }),
-        _ if is(word, "p3-accept") => Some(GuestCall::P3Accept {
+        })),
+        _ if is(word, "p3-accept") => Some(GuestCall::P3Tcp(P3TcpCall::Accept {
             listener: handle,
             remaining: fields.number(u64::MAX)?,
-        }),
-        _ if is(word, "p3-read") => Some(GuestCall::P3Read {
+        })),
+        _ if is(word, "p3-read") => Some(GuestCall::P3Tcp(P3TcpCall::Read {
             end: handle,
             len: fields.number(u64::MAX)?,
-        }),
-        _ if is(word, "p3-udp-bind") => Some(GuestCall::P3UdpBind {
+        })),
+        _ if is(word, "p3-udp-bind") => Some(GuestCall::P3Udp(P3UdpCall::Bind {
             socket: handle,
             addr: fields.socket_address()?,
-        }),
-        _ if is(word, "p3-udp-connect") => Some(GuestCall::P3UdpConnect {
+        })),
+        _ if is(word, "p3-udp-connect") => Some(GuestCall::P3Udp(P3UdpCall::Connect {
             socket: handle,
             addr: fields.socket_address()?,
-        }),
-        _ if is(word, "p3-udp-get") => Some(GuestCall::P3UdpGet {
+        })),
+        _ if is(word, "p3-udp-get") => Some(GuestCall::P3Udp(P3UdpCall::Get {
             socket: handle,
             option: udp_option(fields)?,
-        }),
-        _ if is(word, "p3-udp-set") => Some(GuestCall::P3UdpSet {
+        })),
+        _ if is(word, "p3-udp-set") => Some(GuestCall::P3Udp(P3UdpCall::Set {
             socket: handle,
             setting: udp_setting(fields)?,
-        }),
+        })),
         _ => stream_arguments(fields, word, handle),
     }
 }
@@ -198,27 +198,27 @@ fn udp_arguments(fields: &mut Fields<'_>, word: &[u8], handle: u32) -> Option<Gu
         fields.new }
 {
     match word {
-        _ if is(word, "udp-start-bind") => Some(GuestCall::UdpStartBind {
+        _ if is(word, "udp-start-bind") => Some(GuestCall::Udp(UdpCall::StartBind {
             socket: handle,
             network: fields.u32()?,
             addr: fields.socket_address()?,
-        }),
-        _ if is(word, "udp-get") => Some(GuestCall::UdpGet {
+        })),
+        _ if is(word, "udp-get") => Some(GuestCall::Udp(UdpCall::Get {
             socket: handle,
             option: udp_option(fields)?,
-        }),
-        _ if is(word, "udp-set") => Some(GuestCall::UdpSet {
+        })),
+        _ if is(word, "udp-set") => Some(GuestCall::Udp(UdpCall::Set {
             socket: handle,
             setting: udp_setting(fields)?,
-        }),
-        _ if is(word, "udp-stream") => Some(GuestCall::UdpStream {
+        })),
+        _ if is(word, "udp-stream") => Some(GuestCall::Udp(UdpCall::Stream {
             socket: handle,
             remote: remote(fields)?,
-        }),
-        _ if is(word, "udp-receive") => Some(GuestCall::UdpReceive {
+        })),
+        _ if is(word, "udp-receive") => Some(GuestCall::Udp(UdpCall::Receive {
             incoming: handle,
             max_results: fields.number(u64::MAX)?,
-        }),
+        })),
         _ => p3_arguments(fields, word, handle),
     }
 }
@@ -231,28 +231,28 @@ fn tcp_arguments(fields: &mut Fields<'_>, word: &[u8], handle: u32) -> Option<Gu
         handle fields.old result fields.new }
 {
     match word {
-        _ if is(word, "tcp-start-bind") => Some(GuestCall::TcpStartBind {
+        _ if is(word, "tcp-start-bind") => Some(GuestCall::Tcp(TcpCall::StartBind {
             socket: handle,
             network: fields.u32()?,
             addr: fields.socket_address()?,
-        }),
-        _ if is(word, "tcp-start-connect") => Some(GuestCall::TcpStartConnect {
+        })),
+        _ if is(word, "tcp-start-connect") => Some(GuestCall::Tcp(TcpCall::StartConnect {
             socket: handle,
             network: fields.u32()?,
             addr: fields.socket_address()?,
-        }),
-        _ if is(word, "tcp-get") => Some(GuestCall::TcpGet {
+        })),
+        _ if is(word, "tcp-get") => Some(GuestCall::Tcp(TcpCall::Get {
             socket: handle,
             option: option(fields)?,
-        }),
-        _ if is(word, "tcp-set") => Some(GuestCall::TcpSet {
+        })),
+        _ if is(word, "tcp-set") => Some(GuestCall::Tcp(TcpCall::Set {
             socket: handle,
             setting: setting(fields)?,
-        }),
-        _ if is(word, "tcp-shutdown") => Some(GuestCall::TcpShutdown {
+        })),
+        _ if is(word, "tcp-shutdown") => Some(GuestCall::Tcp(TcpCall::Shutdown {
             socket: handle,
             how: shutdown_type(fields)?,
-        }),
+        })),
         _ => udp_arguments(fields, word, handle),
     }
 }
@@ -274,25 +274,25 @@ fn plain_arguments(fields: &mut Fields<'_>, word: &[u8]) -> Option<GuestCall>
         fields.new }
 {
     match word {
-        _ if is(word, "network") => Some(GuestCall::Network),
-        _ if is(word, "tcp-create") => Some(GuestCall::TcpCreate {
+        _ if is(word, "network") => Some(GuestCall::Names(NameCall::Network)),
+        _ if is(word, "tcp-create") => Some(GuestCall::Tcp(TcpCall::Create {
             family: fields.family()?,
-        }),
-        _ if is(word, "udp-create") => Some(GuestCall::UdpCreate {
+        })),
+        _ if is(word, "udp-create") => Some(GuestCall::Udp(UdpCall::Create {
             family: fields.family()?,
-        }),
-        _ if is(word, "pipe-out") => Some(GuestCall::PipeOut {
+        })),
+        _ if is(word, "pipe-out") => Some(GuestCall::Pipe(PipeCall::Out {
             capacity: fields.number(65536)? as u32,
-        }),
-        _ if is(word, "sink") => Some(GuestCall::Sink),
-        _ if is(word, "closed-in") => Some(GuestCall::ClosedIn),
-        _ if is(word, "closed-out") => Some(GuestCall::ClosedOut),
-        _ if is(word, "p3-tcp-create") => Some(GuestCall::P3TcpCreate {
+        })),
+        _ if is(word, "sink") => Some(GuestCall::Pipe(PipeCall::Sink)),
+        _ if is(word, "closed-in") => Some(GuestCall::Pipe(PipeCall::ClosedIn)),
+        _ if is(word, "closed-out") => Some(GuestCall::Pipe(PipeCall::ClosedOut)),
+        _ if is(word, "p3-tcp-create") => Some(GuestCall::P3Tcp(P3TcpCall::Create {
             family: fields.family()?,
-        }),
-        _ if is(word, "p3-udp-create") => Some(GuestCall::P3UdpCreate {
+        })),
+        _ if is(word, "p3-udp-create") => Some(GuestCall::P3Udp(P3UdpCall::Create {
             family: fields.family()?,
-        }),
+        })),
         _ => handle_arguments(fields, word),
     }
 }
@@ -398,7 +398,10 @@ pub fn parse_step(alloc: Global, line: &[u8], contexts: u32) -> Result<Option<St
 {
     let mut fields = Fields::of(line);
     let step = step(alloc, &mut fields, contexts)?;
-    Ok(if fields.is_done() { step } else { None })
+    if !fields.is_done() {
+        return Ok(None);
+    }
+    Ok(step)
 }
 
 /// A line is read as a step exactly where it is the line that is written for that step.

@@ -5,7 +5,7 @@ ghost use Rattle.wasi_steps.specs.Settings.{ReadsAfter};
 ghost use Rattle.wasi_steps.specs.Steps.{handle_calls, input_value_calls, output_value_calls};
 ghost use Rattle.wasi_steps.specs.Steps.{rows_of};
 
-use crate::guest_call::GuestCall;
+use crate::guest_call::{GuestCall, StreamCall};
 use crate::handle::handle_call;
 use crate::words::is;
 use world_text::Fields;
@@ -19,24 +19,24 @@ fn output_arguments(fields: &mut Fields<'_>, word: &[u8], handle: u32) -> Option
 {
     use GuestCall::*;
     match word {
-        _ if is(word, "write-zeroes") => Some(WriteZeroes {
+        _ if is(word, "write-zeroes") => Some(Stream(StreamCall::WriteZeroes {
             output: handle,
             len: fields.number(u64::MAX)?,
-        }),
-        _ if is(word, "splice") => Some(Splice {
-            output: handle,
-            input: fields.u32()?,
-            len: fields.number(u64::MAX)?,
-        }),
-        _ if is(word, "blocking-zeroes") => Some(BlockingZeroes {
-            output: handle,
-            len: fields.number(u64::MAX)?,
-        }),
-        _ if is(word, "blocking-splice") => Some(BlockingSplice {
+        })),
+        _ if is(word, "splice") => Some(Stream(StreamCall::Splice {
             output: handle,
             input: fields.u32()?,
             len: fields.number(u64::MAX)?,
-        }),
+        })),
+        _ if is(word, "blocking-zeroes") => Some(Stream(StreamCall::BlockingZeroes {
+            output: handle,
+            len: fields.number(u64::MAX)?,
+        })),
+        _ if is(word, "blocking-splice") => Some(Stream(StreamCall::BlockingSplice {
+            output: handle,
+            input: fields.u32()?,
+            len: fields.number(u64::MAX)?,
+        })),
         _ => handle_call(word, handle),
     }
 }
@@ -53,22 +53,22 @@ pub(crate) fn stream_arguments(
 {
     use GuestCall::*;
     match word {
-        _ if is(word, "read") => Some(Read {
+        _ if is(word, "read") => Some(Stream(StreamCall::Read {
             input: handle,
             len: fields.number(u64::MAX)?,
-        }),
-        _ if is(word, "skip") => Some(Skip {
+        })),
+        _ if is(word, "skip") => Some(Stream(StreamCall::Skip {
             input: handle,
             len: fields.number(u64::MAX)?,
-        }),
-        _ if is(word, "blocking-read") => Some(BlockingRead {
+        })),
+        _ if is(word, "blocking-read") => Some(Stream(StreamCall::BlockingRead {
             input: handle,
             len: fields.number(u64::MAX)?,
-        }),
-        _ if is(word, "blocking-skip") => Some(BlockingSkip {
+        })),
+        _ if is(word, "blocking-skip") => Some(Stream(StreamCall::BlockingSkip {
             input: handle,
             len: fields.number(u64::MAX)?,
-        }),
+        })),
         _ => output_arguments(fields, word, handle),
     }
 }

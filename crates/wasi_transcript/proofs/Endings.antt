@@ -7,7 +7,8 @@ use Rattle.host_store.specs.declared.machine.Machine.{Machine}
 use Rattle.wasi_records.specs.Closing.{AsksNothing, IsFresh, HasClosedAll}
 use Rattle.host_store.specs.Machine.{first_state}
 use Rattle.host_store.specs.KnownSides.{KnowsSides}
-use Rattle.wasi_records.specs.Sides.{ClosesAll, no_socket}
+use Rattle.wasi_records.specs.Sides.{ClosesAll}
+use Rattle.record_common.specs.Sides.{no_socket}
 use Rattle.wasi_records.proofs.Closings.{empty_known}
 use Rattle.wasi_run.specs.declared.run.RunEnd.{RunEnd}
 use Rattle.wasi_run.specs.declared.run.RunEnd.TheVariants as end

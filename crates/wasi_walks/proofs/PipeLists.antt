@@ -2,13 +2,13 @@
 use Rattle.std.proofs.Common.{◌≡◌, ℕ, inl, List, [], ◌∷◌, ◌++◌, Option, Some, true, refl, ap, ◌∙◌}
 use Rattle.std.specs.Prelude.{is_some, ⊤}
 use Rattle.memory_streams.specs.Plain.{Contents}
-use Rattle.wasi_records.specs.declared.name_lookup.Lookup.{Lookup}
-use Rattle.wasi_records.specs.declared.name_lookup.Lookup.TheVariants.{InProgress}
-use Rattle.wasi_records.specs.declared.name_lookup.LookupOp.{LookupOp}
+use Rattle.lookup_records.specs.declared.name_lookup.Lookup.{Lookup}
+use Rattle.lookup_records.specs.declared.name_lookup.Lookup.TheVariants.{InProgress}
+use Rattle.lookup_records.specs.declared.name_lookup.LookupOp.{LookupOp}
 use Rattle.wasi_records.specs.declared.records.Record.{Record}
 use Rattle.wasi_records.specs.declared.records.Record.TheVariants.{InputPipe, OutputPipe}
-use Rattle.wasi_records.specs.Slots.{slot_at, slot_pushed, slot_put}
-use Rattle.wasi_records.specs.declared.slot.Slot.{Slot}
+use Rattle.wasi_records.specs.Records.{slot_at, slot_pushed, slot_put}
+use Rattle.tcp_records.specs.declared.slot.Slot.{Slot}
 use Rattle.wasi_records.specs.Records.{input_pipe_at, input_pipe_put, output_pipe_at, output_pipe_put}
 use Rattle.wasi_walks.proofs.Places.{slot_sort, there_push, there_put, Apart, Sort, at, input_sort, lookup_sort, other_push, other_put, output_sort, push_some, push_was, pushed, put, put_some, put_was, tcp_sort, udp_sort}
 use Rattle.wasi_walks.proofs.walks.Moves.{SameSockets}

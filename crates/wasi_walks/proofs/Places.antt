@@ -1,16 +1,16 @@
 -- Places of a store: the records of one kind by number. What holds of one kind holds of each, so there is one theory of lists.
 use Rattle.std.proofs.Common.{◌≡◌, ◌⊎◌, inl, inr, ℕ, zero, suc, List, [], ◌∷◌, ◌++◌, Option, Some, None, true, length, refl, sym, ap, slice_get, slice_set, subst, ◌∙◌}
 use Rattle.std.specs.Prelude.{IsSome, is_some}
-use Rattle.wasi_records.specs.Slots.{slot_of}
-use Rattle.wasi_records.specs.declared.slot.Slot.{Slot}
+use Rattle.wasi_records.specs.Records.{slot_of}
+use Rattle.tcp_records.specs.declared.slot.Slot.{Slot}
 use Rattle.wasi_walks.proofs.Lists.{get_seam}
 use Rattle.memory_streams.specs.Plain.{Contents}
 use Rattle.wasi_records.specs.Records.{tcp2_of, udp2_of, lookup_of, input_pipe_of, output_pipe_of}
-use Rattle.wasi_records.specs.declared.name_lookup.Lookup.{Lookup}
+use Rattle.lookup_records.specs.declared.name_lookup.Lookup.{Lookup}
 use Rattle.wasi_records.specs.declared.records.Record.{Record}
 use Rattle.wasi_records.specs.declared.records.Record.TheVariants.{Tcp, Udp, Lookup as LookupRecord, InputPipe, OutputPipe, Slot as SlotRecord}
-use Rattle.wasi_records.specs.declared.socket.TcpRecord.{TcpRecord}
-use Rattle.wasi_records.specs.declared.udp.UdpRecord.{UdpRecord}
+use Rattle.tcp_records.specs.declared.socket.TcpRecord.{TcpRecord}
+use Rattle.udp_records.specs.declared.udp.UdpRecord.{UdpRecord}
 
 -- == of any list
 -- at a place a list is as it was, or this is the place that was replaced, where something was

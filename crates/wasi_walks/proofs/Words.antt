@@ -66,12 +66,13 @@ pub use Rattle.wasi_tcp.specs.declared.socket.Connection.{Connection}
 pub use Rattle.wasi_tcp.specs.declared.socket.TcpState.{TcpState}
 pub use Rattle.wasi_tcp.specs.declared.writer.WriteState.{WriteState}
 pub use Rattle.host_tcp.specs.Dropping.{drop_output_at, release_at, drop_waits, wait_put}
-pub use Rattle.wasi_records.specs.Releasing.{give_streams_up, gone, release_asks}
-pub use Rattle.wasi_records.specs.Looks.{wait_writer}
-pub use Rattle.wasi_records.specs.Stops.{Stop, Trap}
+pub use Rattle.tcp_records.specs.Releasing.{give_streams_up, gone, release_asks}
+pub use Rattle.tcp_records.specs.Looks.{wait_writer}
+pub use Rattle.record_common.specs.Stops.{Stop, Trap}
 pub use Rattle.host_store.specs.Kinds.{HandleTable, has_no_child, input_of, is_network, is_readable, is_writable, kind_at, make_asks, name_of, output_of, place_in, place_of, table_parent, taken_out, watch_of, watched_by, with_handle, without_handle}
 pub use Rattle.host_tcp.specs.TcpCalls.{accept_answered, accept_at, start_listen_at, start_listen_by, with_records, shutdown_at, start_bind_at, start_bind_by, finish_at, finish_by, start_connect_at, start_connect_by}
-pub use Rattle.wasi_records.specs.Listening.{accept_listening, accept_record_asks, accepted_record, begin_listen_asks, closed_listening, give_up_asks, kept_accepted, listen_begun, listen_bound, listen_once, listen_polled, poll_begun, poll_listen_asks, poll_listening, with_listening}
+pub use Rattle.tcp_records.specs.Listening.{accept_listening, accept_record_asks, accepted_record, begin_listen_asks, closed_listening, give_up_asks, listen_begun, listen_bound, listen_once, listen_polled, poll_begun, poll_listen_asks, poll_listening, with_listening}
+pub use Rattle.wasi_records.specs.Accepted.{kept_accepted}
 pub use Rattle.host_tcp.specs.Creates.{create_asks, create_handle, create_to, created_asks, handle_to, made_to}
 pub use Rattle.wasi_host.specs.HandleDrops.{drop_taken}
 pub use Rattle.host_store.specs.Machine.{first_state, input_at, output_at, own_of, side_at, socket_at, with_store, with_table}
@@ -79,23 +80,24 @@ pub use Rattle.wasi_host.specs.Pollables.{ready_on, subscribe_on}
 pub use Rattle.wasi_host.specs.Turns.{turn_machine_asks}
 pub use Rattle.wasi_host.specs.Pending.{go_on, resume_call, resumed}
 pub use Rattle.host_tcp.specs.TcpCalls.{relisten_at}
-pub use Rattle.wasi_records.specs.Shutdowns.{shut_record, shut_streams}
-pub use Rattle.wasi_records.specs.Binding.{begin_bind_asks, bind_answer, bind_begun, bind_ended, bind_progress, left_of, poll_bind_asks, poll_binding}
-pub use Rattle.wasi_records.specs.InProgress.{is_bind, is_connect, is_listen, is_nothing}
+pub use Rattle.tcp_records.specs.Shutdowns.{shut_record, shut_streams}
+pub use Rattle.tcp_records.specs.Binding.{begin_bind_asks, bind_begun, bind_ended, bind_progress, poll_bind_asks, poll_binding}
+pub use Rattle.record_common.specs.Binding.{bind_answer, left_of}
+pub use Rattle.tcp_records.specs.InProgress.{is_bind, is_connect, is_listen, is_nothing}
 pub use Rattle.host_store.specs.Standing.{call_answered, call_of, call_place, standing_as, stood, unstood}
 pub use Rattle.host_store.specs.Store.{Records, put_back, stream_at, with_record, with_socket}
-pub use Rattle.wasi_records.specs.Sockets.{begin_connect_asks, connect_begun, connect_polled, idle, inner_answered, new_record, new_streams, opened_receive, opened_send, poll_connect_asks, tell_local_asks, tell_remote_asks, with_inner, with_progress}
-pub use Rattle.wasi_records.specs.Halves.{flush_asks, reader_asks, reader_of, with_reader, with_writer, writer_asks, writer_of}
-pub use Rattle.wasi_records.specs.declared.tcp_binding.AsyncOperation.{AsyncOperation}
-pub use Rattle.wasi_records.specs.declared.tcp_binding.InProgress.{InProgress}
+pub use Rattle.tcp_records.specs.Sockets.{begin_connect_asks, connect_begun, connect_polled, idle, inner_answered, new_record, new_streams, opened_receive, opened_send, poll_connect_asks, tell_local_asks, tell_remote_asks, with_inner, with_progress}
+pub use Rattle.tcp_records.specs.Halves.{flush_asks, reader_asks, reader_of, with_reader, with_writer, writer_asks, writer_of}
+pub use Rattle.tcp_records.specs.declared.tcp_binding.AsyncOperation.{AsyncOperation}
+pub use Rattle.tcp_records.specs.declared.tcp_binding.InProgress.{InProgress}
 pub use Rattle.host_store.specs.declared.kind.Kind.{Kind}
 pub use Rattle.host_store.specs.declared.kind.Kind.TheVariants.{ErrorValue, Input, Network, Output, Pollable, Tcp2}
 pub use Rattle.host_store.specs.declared.kind.Watched.{Watched}
-pub use Rattle.wasi_records.specs.declared.tcp_listening.Listening.{Listening}
-pub use Rattle.wasi_records.specs.declared.tcp_listening.Listening.TheVariants.{Accepts, Begins, Not, Unclosed}
+pub use Rattle.tcp_records.specs.declared.tcp_listening.Listening.{Listening}
+pub use Rattle.tcp_records.specs.declared.tcp_listening.Listening.TheVariants.{Accepts, Begins, Not, Unclosed}
 pub use Rattle.host_store.specs.declared.machine.Machine.{Machine}
-pub use Rattle.wasi_records.specs.declared.socket.Streams.{Streams}
-pub use Rattle.wasi_records.specs.declared.socket.TcpRecord.{TcpRecord}
+pub use Rattle.tcp_records.specs.declared.socket.Streams.{Streams}
+pub use Rattle.tcp_records.specs.declared.socket.TcpRecord.{TcpRecord}
 pub use Rattle.host_store.specs.declared.store.Standing.{Standing}
 pub use Rattle.host_store.specs.declared.store.StandingCall.{StandingCall}
 pub use Rattle.wasi_p2.specs.Tcp.{accept_on, accepted_asks, accepted_streams, finish_on}

@@ -40,23 +40,25 @@ use Rattle.host_store.specs.declared.machine.Machine.{Machine}
 use Rattle.wasi_steps.specs.declared.reply.CodeWord.{CodeWord}
 use Rattle.wasi_steps.specs.declared.reply.CodeWord.TheVariants as word
 use Rattle.wasi_steps.specs.declared.reply.Reply.{Reply}
-use Rattle.wasi_records.specs.declared.socket.Streams.{Streams}
-use Rattle.wasi_records.specs.declared.socket.TcpRecord.{TcpRecord}
-use Rattle.wasi_records.specs.declared.udp.OpenUdp.{OpenUdp}
+use Rattle.tcp_records.specs.declared.socket.Streams.{Streams}
+use Rattle.tcp_records.specs.declared.socket.TcpRecord.{TcpRecord}
+use Rattle.udp_records.specs.declared.udp.OpenUdp.{OpenUdp}
 use Rattle.wasi_steps.specs.declared.step.Step.{Step}
 use Rattle.wasi_steps.specs.declared.guest_call.GuestCall.TheVariants as guest
+use Rattle.wasi_steps.specs.declared.guest_call.TcpCall.TheVariants as tcp_call
+use Rattle.wasi_steps.specs.declared.guest_call.UdpCall.TheVariants as udp_call
 use Rattle.wasi_steps.specs.declared.step.Step.TheVariants as step
 use Rattle.host_store.specs.declared.kind.Kind.TheVariants as kind
 use Rattle.wasi_steps.specs.Reply.{word_of_p2, word_of_p3}
 use Rattle.host_store.specs.Kinds.{with_handle}
-use Rattle.wasi_records.specs.Binding.{left_of}
-use Rattle.wasi_records.specs.InProgress.{is_nothing, is_bind, is_connect}
-use Rattle.wasi_records.specs.Sockets.{with_inner, idle}
-use Rattle.wasi_records.specs.Halves.{with_reader, with_writer}
+use Rattle.record_common.specs.Binding.{left_of}
+use Rattle.tcp_records.specs.InProgress.{is_nothing, is_bind, is_connect}
+use Rattle.tcp_records.specs.Sockets.{with_inner, idle}
+use Rattle.tcp_records.specs.Halves.{with_reader, with_writer}
 use Rattle.host_store.specs.Store.{with_socket}
-use Rattle.wasi_records.specs.declared.datagrams.Incoming.{Incoming}
-use Rattle.wasi_records.specs.declared.datagrams.Outgoing.{Outgoing}
-use Rattle.wasi_records.specs.declared.name_lookup.Lookup.{Lookup}
+use Rattle.udp_records.specs.declared.datagrams.Incoming.{Incoming}
+use Rattle.udp_records.specs.declared.datagrams.Outgoing.{Outgoing}
+use Rattle.lookup_records.specs.declared.name_lookup.Lookup.{Lookup}
 use Rattle.host_store.specs.Machine.{socket_at, udp_socket_at, input_at, output_at, incoming_at, outgoing_at}
 use Rattle.wasi_machine.specs.Machine.{machine_asks}
 use Rattle.wasi_walks.specs.Licence.{Has, entry}
@@ -310,9 +312,9 @@ pub data RemoteRefusal (m : Machine) (own : OpId) (place : ℕ) (r : TcpRecord) 
 
 -- the step asks a socket for what it says without asking the network
 abbrev pub IsQuiet : Step → Type 0
-IsQuiet (step.Call ctx (guest.TcpIsListening socket)) = ⊤
-IsQuiet (step.Call ctx (guest.TcpAddressFamily socket)) = ⊤
-IsQuiet (step.Call ctx (guest.UdpAddressFamily socket)) = ⊤
+IsQuiet (step.Call ctx (guest.Tcp (tcp_call.IsListening socket))) = ⊤
+IsQuiet (step.Call ctx (guest.Tcp (tcp_call.AddressFamily socket))) = ⊤
+IsQuiet (step.Call ctx (guest.Udp (udp_call.AddressFamily socket))) = ⊤
 IsQuiet _ = ⊥
 
 -- == reads

@@ -28,9 +28,18 @@ use Rattle.wasi_names.specs.Names.{name_is}
 use Rattle.wasi_steps.specs.declared.reply.Field.{Field}
 use Rattle.wasi_steps.specs.declared.reply.Reply.{Reply}
 use Rattle.wasi_steps.specs.Reply.{datagram_values, received_values}
-use Rattle.wasi_records.specs.Names.{own_of}
+use Rattle.record_common.specs.Names.{own_of}
 use Rattle.wasi_steps.specs.declared.step.Step.{Step}
 use Rattle.wasi_steps.specs.declared.guest_call.GuestCall.TheVariants as guest
+use Rattle.wasi_steps.specs.declared.guest_call.TcpCall.TheVariants as tcp_call
+use Rattle.wasi_steps.specs.declared.guest_call.UdpCall.TheVariants as udp_call
+use Rattle.wasi_steps.specs.declared.guest_call.NameCall.TheVariants as name_call
+use Rattle.wasi_steps.specs.declared.guest_call.StreamCall.TheVariants as stream_call
+use Rattle.wasi_steps.specs.declared.guest_call.PipeCall.TheVariants as pipe_call
+use Rattle.wasi_steps.specs.declared.guest_call.PollableCall.TheVariants as pollable_call
+use Rattle.wasi_steps.specs.declared.guest_call.P3TcpCall.TheVariants as p3_tcp_call
+use Rattle.wasi_steps.specs.declared.guest_call.P3UdpCall.TheVariants as p3_udp_call
+use Rattle.wasi_steps.specs.declared.guest_call.P3NameCall.TheVariants as p3_name_call
 use Rattle.wasi_steps.specs.declared.step.Step.TheVariants as step
 use Rattle.wasi_steps.specs.Settings.{Chosen, AnOption, TheBacklog, chosen, udp_opt, udp_chosen}
 pub use Rattle.wasi_steps.specs.Steps.{handles_of}
@@ -152,8 +161,8 @@ pub record MayUseTcp (contexts : List WasiSocketsCtx) (number name : ℕ) : Type
 
 -- a create of this family, by the context of this name
 abbrev pub IsTcpCreate : List WasiSocketsCtx → ℕ → SocketAddressFamily → Step → Type 0
-IsTcpCreate contexts name family (step.Call ctx (guest.TcpCreate f)) = MayUseTcp contexts ctx name × (f ≡ family)
-IsTcpCreate contexts name family (step.Call ctx (guest.P3TcpCreate f)) = MayUseTcp contexts ctx name × (f ≡ family)
+IsTcpCreate contexts name family (step.Call ctx (guest.Tcp (tcp_call.Create f))) = MayUseTcp contexts ctx name × (f ≡ family)
+IsTcpCreate contexts name family (step.Call ctx (guest.P3Tcp (p3_tcp_call.Create f))) = MayUseTcp contexts ctx name × (f ≡ family)
 IsTcpCreate contexts name family _ = ⊥
 
 -- The context of this number has this name, and may use UDP.
@@ -165,8 +174,8 @@ pub record MayUseUdp (contexts : List WasiSocketsCtx) (number name : ℕ) : Type
 
 -- a create of a UDP socket of this family, by the context of this name
 abbrev pub IsUdpCreate : List WasiSocketsCtx → ℕ → SocketAddressFamily → Step → Type 0
-IsUdpCreate contexts name family (step.Call ctx (guest.UdpCreate f)) = MayUseUdp contexts ctx name × (f ≡ family)
-IsUdpCreate contexts name family (step.Call ctx (guest.P3UdpCreate f)) = MayUseUdp contexts ctx name × (f ≡ family)
+IsUdpCreate contexts name family (step.Call ctx (guest.Udp (udp_call.Create f))) = MayUseUdp contexts ctx name × (f ≡ family)
+IsUdpCreate contexts name family (step.Call ctx (guest.P3Udp (p3_udp_call.Create f))) = MayUseUdp contexts ctx name × (f ≡ family)
 IsUdpCreate contexts name family _ = ⊥
 
 -- The context of this number may look names up.
@@ -177,52 +186,52 @@ pub record MayLookUp (contexts : List WasiSocketsCtx) (number : ℕ) : Type 0 wh
 
 -- a lookup of a name, which is this domain, by a context that may look names up
 abbrev pub IsLookupOf : List WasiSocketsCtx → List ℕ → Step → Type 0
-IsLookupOf contexts host (step.Call ctx (guest.Resolve network name)) = MayLookUp contexts ctx × (name_is name ≡ Some (Domain host))
-IsLookupOf contexts host (step.Call ctx (guest.P3Resolve name)) = MayLookUp contexts ctx × (name_is name ≡ Some (Domain host))
+IsLookupOf contexts host (step.Call ctx (guest.Names (name_call.Resolve network name))) = MayLookUp contexts ctx × (name_is name ≡ Some (Domain host))
+IsLookupOf contexts host (step.Call ctx (guest.P3Names (p3_name_call.Resolve name))) = MayLookUp contexts ctx × (name_is name ≡ Some (Domain host))
 IsLookupOf contexts host _ = ⊥
 
 -- a create of a TCP socket
 abbrev pub MakesTcp : Step → Type 0
-MakesTcp (step.Call ctx (guest.TcpCreate family)) = ⊤
-MakesTcp (step.Call ctx (guest.P3TcpCreate family)) = ⊤
+MakesTcp (step.Call ctx (guest.Tcp (tcp_call.Create family))) = ⊤
+MakesTcp (step.Call ctx (guest.P3Tcp (p3_tcp_call.Create family))) = ⊤
 MakesTcp _ = ⊥
 
 -- a create of a UDP socket
 abbrev pub MakesUdp : Step → Type 0
-MakesUdp (step.Call ctx (guest.UdpCreate family)) = ⊤
-MakesUdp (step.Call ctx (guest.P3UdpCreate family)) = ⊤
+MakesUdp (step.Call ctx (guest.Udp (udp_call.Create family))) = ⊤
+MakesUdp (step.Call ctx (guest.P3Udp (p3_udp_call.Create family))) = ⊤
 MakesUdp _ = ⊥
 
 -- a bind of a UDP socket to this address
 abbrev pub IsUdpBindTo : IpSocketAddress → Step → Type 0
-IsUdpBindTo addr (step.Call ctx (guest.UdpStartBind socket network a)) = a ≡ addr
-IsUdpBindTo addr (step.Call ctx (guest.P3UdpBind socket a)) = a ≡ addr
+IsUdpBindTo addr (step.Call ctx (guest.Udp (udp_call.StartBind socket network a))) = a ≡ addr
+IsUdpBindTo addr (step.Call ctx (guest.P3Udp (p3_udp_call.Bind socket a))) = a ≡ addr
 IsUdpBindTo addr _ = ⊥
 
 -- datagram streams that are made with a connect to this address
 abbrev pub IsUdpConnectTo : IpSocketAddress → Step → Type 0
-IsUdpConnectTo addr (step.Call ctx (guest.UdpStream socket remote)) = remote ≡ Some addr
-IsUdpConnectTo addr (step.Call ctx (guest.P3UdpConnect socket a)) = a ≡ addr
+IsUdpConnectTo addr (step.Call ctx (guest.Udp (udp_call.Stream socket remote))) = remote ≡ Some addr
+IsUdpConnectTo addr (step.Call ctx (guest.P3Udp (p3_udp_call.Connect socket a))) = a ≡ addr
 IsUdpConnectTo addr _ = ⊥
 
 -- datagram streams that are made without an address: a socket that is connected is disconnected; or a disconnect
 abbrev pub IsDisconnect : Step → Type 0
-IsDisconnect (step.Call ctx (guest.UdpStream socket None)) = ⊤
-IsDisconnect (step.Call ctx (guest.P3UdpDisconnect socket)) = ⊤
+IsDisconnect (step.Call ctx (guest.Udp (udp_call.Stream socket None))) = ⊤
+IsDisconnect (step.Call ctx (guest.P3Udp (p3_udp_call.Disconnect socket))) = ⊤
 IsDisconnect _ = ⊥
 
 -- datagrams are received, or pollables are looked at, by which a receive may begin too
 abbrev pub Receives : Step → Type 0
-Receives (step.Call ctx (guest.UdpReceive incoming most)) = ⊤
-Receives (step.Call ctx (guest.Ready pollable)) = ⊤
-Receives (step.Call ctx (guest.Block pollable)) = ⊤
-Receives (step.Call ctx (guest.PollList pollables)) = ⊤
-Receives (step.Call ctx (guest.P3UdpReceive socket)) = ⊤
+Receives (step.Call ctx (guest.Udp (udp_call.Receive incoming most))) = ⊤
+Receives (step.Call ctx (guest.Pollable (pollable_call.Ready pollable))) = ⊤
+Receives (step.Call ctx (guest.Pollable (pollable_call.Block pollable))) = ⊤
+Receives (step.Call ctx (guest.Pollable (pollable_call.PollList pollables))) = ⊤
+Receives (step.Call ctx (guest.P3Udp (p3_udp_call.Receive socket))) = ⊤
 Receives _ = ⊥
 
 -- the datagram streams of the UDP socket of this handle are made
 abbrev pub IsStreamOf : ℕ → Step → Type 0
-IsStreamOf handle (step.Call ctx (guest.UdpStream socket remote)) = socket ≡ handle
+IsStreamOf handle (step.Call ctx (guest.Udp (udp_call.Stream socket remote))) = socket ≡ handle
 IsStreamOf handle _ = ⊥
 
 -- the datagram of this part, counted from 1, is this one
@@ -234,8 +243,8 @@ IsItem (suc (suc n)) d (x ∷ ds) = IsItem (suc n) d ds
 
 -- a send of datagrams, of which this is the one of this part; that of 0.3 sends one, as the line's own operation
 abbrev pub IsSendOf : ℕ → OutgoingDatagram → Step → Type 0
-IsSendOf part d (step.Call ctx (guest.UdpSend outgoing ds)) = IsItem part d ds
-IsSendOf part d (step.Call ctx (guest.P3UdpSend socket x)) = (part ≡ 0) × (x ≡ d)
+IsSendOf part d (step.Call ctx (guest.Udp (udp_call.Send outgoing ds))) = IsItem part d ds
+IsSendOf part d (step.Call ctx (guest.P3Udp (p3_udp_call.Send socket x))) = (part ≡ 0) × (x ≡ d)
 IsSendOf part d _ = ⊥
 
 -- It is the datagram of the operation's part in its step, with these bytes, and goes to this address.
@@ -247,33 +256,33 @@ pub record SendsItem (before : List Entry) (op side : OpId) (addr : IpSocketAddr
 
 -- a bind of a TCP socket to this address
 abbrev pub IsBindTo : IpSocketAddress → Step → Type 0
-IsBindTo addr (step.Call ctx (guest.TcpStartBind socket network a)) = a ≡ addr
-IsBindTo addr (step.Call ctx (guest.P3TcpBind socket a)) = a ≡ addr
+IsBindTo addr (step.Call ctx (guest.Tcp (tcp_call.StartBind socket network a))) = a ≡ addr
+IsBindTo addr (step.Call ctx (guest.P3Tcp (p3_tcp_call.Bind socket a))) = a ≡ addr
 IsBindTo addr _ = ⊥
 
 -- a connect to this address
 abbrev pub IsConnectTo : IpSocketAddress → Step → Type 0
-IsConnectTo addr (step.Call ctx (guest.TcpStartConnect socket network a)) = a ≡ addr
-IsConnectTo addr (step.Call ctx (guest.P3TcpConnect socket a)) = a ≡ addr
+IsConnectTo addr (step.Call ctx (guest.Tcp (tcp_call.StartConnect socket network a))) = a ≡ addr
+IsConnectTo addr (step.Call ctx (guest.P3Tcp (p3_tcp_call.Connect socket a))) = a ≡ addr
 IsConnectTo addr _ = ⊥
 
 -- a listen
 abbrev pub IsListenStep : Step → Type 0
-IsListenStep (step.Call ctx (guest.TcpStartListen socket)) = ⊤
-IsListenStep (step.Call ctx (guest.P3TcpListen socket)) = ⊤
+IsListenStep (step.Call ctx (guest.Tcp (tcp_call.StartListen socket))) = ⊤
+IsListenStep (step.Call ctx (guest.P3Tcp (p3_tcp_call.Listen socket))) = ⊤
 IsListenStep _ = ⊥
 
 -- a listen of 0.3, which binds a socket that isn't bound to the wildcard
 abbrev pub BindsAnywhere : Step → Type 0
-BindsAnywhere (step.Call ctx (guest.P3TcpListen socket)) = ⊤
+BindsAnywhere (step.Call ctx (guest.P3Tcp (p3_tcp_call.Listen socket))) = ⊤
 BindsAnywhere _ = ⊥
 
 -- a get of this option
 abbrev pub IsGetOf : Opt → Step → Type 0
-IsGetOf option (step.Call ctx (guest.TcpGet socket o)) = o ≡ option
-IsGetOf option (step.Call ctx (guest.P3TcpGet socket o)) = o ≡ option
-IsGetOf option (step.Call ctx (guest.UdpGet socket o)) = udp_opt o ≡ option
-IsGetOf option (step.Call ctx (guest.P3UdpGet socket o)) = udp_opt o ≡ option
+IsGetOf option (step.Call ctx (guest.Tcp (tcp_call.Get socket o))) = o ≡ option
+IsGetOf option (step.Call ctx (guest.P3Tcp (p3_tcp_call.Get socket o))) = o ≡ option
+IsGetOf option (step.Call ctx (guest.Udp (udp_call.Get socket o))) = udp_opt o ≡ option
+IsGetOf option (step.Call ctx (guest.P3Udp (p3_udp_call.Get socket o))) = udp_opt o ≡ option
 IsGetOf option _ = ⊥
 
 -- what is set is this option, and its value, brought into the option's range, is this
@@ -282,10 +291,10 @@ SetsOption option value (AnOption o n) = (o ≡ option) × (value ≡ value_set 
 SetsOption option value (TheBacklog n) = ⊥
 
 abbrev pub IsSetTo : Opt → ℕ → Step → Type 0
-IsSetTo option value (step.Call ctx (guest.TcpSet socket setting)) = SetsOption option value (chosen setting)
-IsSetTo option value (step.Call ctx (guest.P3TcpSet socket setting)) = SetsOption option value (chosen setting)
-IsSetTo option value (step.Call ctx (guest.UdpSet socket setting)) = SetsOption option value (AnOption (udp_chosen setting).0 (udp_chosen setting).1)
-IsSetTo option value (step.Call ctx (guest.P3UdpSet socket setting)) = SetsOption option value (AnOption (udp_chosen setting).0 (udp_chosen setting).1)
+IsSetTo option value (step.Call ctx (guest.Tcp (tcp_call.Set socket setting))) = SetsOption option value (chosen setting)
+IsSetTo option value (step.Call ctx (guest.P3Tcp (p3_tcp_call.Set socket setting))) = SetsOption option value (chosen setting)
+IsSetTo option value (step.Call ctx (guest.Udp (udp_call.Set socket setting))) = SetsOption option value (AnOption (udp_chosen setting).0 (udp_chosen setting).1)
+IsSetTo option value (step.Call ctx (guest.P3Udp (p3_udp_call.Set socket setting))) = SetsOption option value (AnOption (udp_chosen setting).0 (udp_chosen setting).1)
 IsSetTo option value _ = ⊥
 
 -- what is set is the backlog, which is this, brought into its range
@@ -294,8 +303,8 @@ SetsBacklog backlog (AnOption o n) = ⊥
 SetsBacklog backlog (TheBacklog n) = backlog ≡ clamped_backlog n
 
 abbrev pub IsBacklogSet : ℕ → Step → Type 0
-IsBacklogSet backlog (step.Call ctx (guest.TcpSet socket setting)) = SetsBacklog backlog (chosen setting)
-IsBacklogSet backlog (step.Call ctx (guest.P3TcpSet socket setting)) = SetsBacklog backlog (chosen setting)
+IsBacklogSet backlog (step.Call ctx (guest.Tcp (tcp_call.Set socket setting))) = SetsBacklog backlog (chosen setting)
+IsBacklogSet backlog (step.Call ctx (guest.P3Tcp (p3_tcp_call.Set socket setting))) = SetsBacklog backlog (chosen setting)
 IsBacklogSet backlog _ = ⊥
 
 -- its parent is this handle, of whose network socket it is
@@ -380,42 +389,42 @@ IsErrorMark before op kind stream parent sock = (kind ≡ ErrorValue) × IsOfPar
 -- its socket's, a lookup has none, and the two streams of a connection or of a UDP socket, an end of 0.3 and its slot, an error and a
 -- pollable are of their parent's; no other step makes a handle
 abbrev pub IsMarkOf : List Entry → OpId → HandleKind → Option ℕ → Option OpId → Step → Type 0
-IsMarkOf before op kind parent sock (step.Call ctx guest.Network) = (kind ≡ Network) × (parent ≡ None) × (sock ≡ None)
-IsMarkOf before op kind parent sock (step.Call ctx (guest.TcpCreate family)) =
+IsMarkOf before op kind parent sock (step.Call ctx (guest.Names name_call.Network)) = (kind ≡ Network) × (parent ≡ None) × (sock ≡ None)
+IsMarkOf before op kind parent sock (step.Call ctx (guest.Tcp (tcp_call.Create family))) =
     (kind ≡ Tcp2) × (parent ≡ None) × (sock ≡ Some op) × ((name : ℕ) × (f : SocketAddressFamily) × Has before (entry op (TcpCreate name f) Done))
-IsMarkOf before op kind parent sock (step.Call ctx (guest.P3TcpCreate family)) =
+IsMarkOf before op kind parent sock (step.Call ctx (guest.P3Tcp (p3_tcp_call.Create family))) =
     (kind ≡ Tcp3) × (parent ≡ None) × (sock ≡ Some op) × ((name : ℕ) × (f : SocketAddressFamily) × Has before (entry op (TcpCreate name f) Done))
-IsMarkOf before op kind parent sock (step.Call ctx (guest.UdpCreate family)) =
+IsMarkOf before op kind parent sock (step.Call ctx (guest.Udp (udp_call.Create family))) =
     (kind ≡ Udp2) × (parent ≡ None) × (sock ≡ Some op) × ((name : ℕ) × (f : SocketAddressFamily) × Has before (entry op (UdpCreate name f) Done))
-IsMarkOf before op kind parent sock (step.Call ctx (guest.P3UdpCreate family)) =
+IsMarkOf before op kind parent sock (step.Call ctx (guest.P3Udp (p3_udp_call.Create family))) =
     (kind ≡ Udp3) × (parent ≡ None) × (sock ≡ Some op) × ((name : ℕ) × (f : SocketAddressFamily) × Has before (entry op (UdpCreate name f) Done))
-IsMarkOf before op kind parent sock (step.Call ctx (guest.TcpFinishConnect socket)) = ((kind ≡ Input) ⊎ (kind ≡ Output)) × IsOfParent before socket parent sock
-IsMarkOf before op kind parent sock (step.Call ctx (guest.TcpAccept socket)) = IsAcceptedMark before op socket Tcp2 kind parent sock ⊎ IsStreamMark before op kind parent sock
-IsMarkOf before op kind parent sock (step.Call ctx (guest.P3TcpListen socket)) = (kind ≡ Listen3) × IsOfParent before socket parent sock
-IsMarkOf before op kind parent sock (step.Call ctx (guest.P3Accept listener remaining)) = IsAcceptedMark before op listener Tcp3 kind parent sock ⊎ IsFaultMark listener kind parent sock
-IsMarkOf before op kind parent sock (step.Call ctx (guest.UdpStream socket remote)) = ((kind ≡ Incoming) ⊎ (kind ≡ Outgoing)) × IsOfParent before socket parent sock
-IsMarkOf before op kind parent sock (step.Call ctx (guest.P3TcpSend socket)) = ((kind ≡ Send3) ⊎ (kind ≡ Result3)) × IsOfParent before socket parent sock
-IsMarkOf before op kind parent sock (step.Call ctx (guest.P3TcpReceive socket)) = ((kind ≡ Receive3) ⊎ (kind ≡ Result3)) × IsOfParent before socket parent sock
-IsMarkOf before op kind parent sock (step.Call ctx (guest.PipeIn bytes)) = IsPlainMark Input kind parent sock
-IsMarkOf before op kind parent sock (step.Call ctx (guest.PipeOut capacity)) = IsPlainMark Output kind parent sock
-IsMarkOf before op kind parent sock (step.Call ctx guest.Sink) = IsPlainMark Output kind parent sock
-IsMarkOf before op kind parent sock (step.Call ctx guest.ClosedIn) = IsPlainMark Input kind parent sock
-IsMarkOf before op kind parent sock (step.Call ctx guest.ClosedOut) = IsPlainMark Output kind parent sock
-IsMarkOf before op kind parent sock (step.Call ctx (guest.Read input len)) = IsErrorMark before op kind input parent sock
-IsMarkOf before op kind parent sock (step.Call ctx (guest.Skip input len)) = IsErrorMark before op kind input parent sock
-IsMarkOf before op kind parent sock (step.Call ctx (guest.BlockingRead input len)) = IsErrorMark before op kind input parent sock
-IsMarkOf before op kind parent sock (step.Call ctx (guest.BlockingSkip input len)) = IsErrorMark before op kind input parent sock
-IsMarkOf before op kind parent sock (step.Call ctx (guest.CheckWrite output)) = IsErrorMark before op kind output parent sock
-IsMarkOf before op kind parent sock (step.Call ctx (guest.Write output bytes)) = IsErrorMark before op kind output parent sock
-IsMarkOf before op kind parent sock (step.Call ctx (guest.WriteZeroes output len)) = IsErrorMark before op kind output parent sock
-IsMarkOf before op kind parent sock (step.Call ctx (guest.Flush output)) = IsErrorMark before op kind output parent sock
-IsMarkOf before op kind parent sock (step.Call ctx (guest.BlockingWrite output bytes)) = IsErrorMark before op kind output parent sock
-IsMarkOf before op kind parent sock (step.Call ctx (guest.BlockingZeroes output len)) = IsErrorMark before op kind output parent sock
-IsMarkOf before op kind parent sock (step.Call ctx (guest.BlockingFlush output)) = IsErrorMark before op kind output parent sock
-IsMarkOf before op kind parent sock (step.Call ctx (guest.Splice output input len)) = IsErrorMark before op kind output parent sock ⊎ IsErrorMark before op kind input parent sock
-IsMarkOf before op kind parent sock (step.Call ctx (guest.BlockingSplice output input len)) = IsErrorMark before op kind output parent sock ⊎ IsErrorMark before op kind input parent sock
-IsMarkOf before op kind parent sock (step.Call ctx (guest.Resolve network name)) = (kind ≡ handle_kind.Lookup) × (parent ≡ Some network) × (sock ≡ None)
-IsMarkOf before op kind parent sock (step.Call ctx (guest.Subscribe handle)) = (kind ≡ Pollable) × IsOfParent before handle parent sock
+IsMarkOf before op kind parent sock (step.Call ctx (guest.Tcp (tcp_call.FinishConnect socket))) = ((kind ≡ Input) ⊎ (kind ≡ Output)) × IsOfParent before socket parent sock
+IsMarkOf before op kind parent sock (step.Call ctx (guest.Tcp (tcp_call.Accept socket))) = IsAcceptedMark before op socket Tcp2 kind parent sock ⊎ IsStreamMark before op kind parent sock
+IsMarkOf before op kind parent sock (step.Call ctx (guest.P3Tcp (p3_tcp_call.Listen socket))) = (kind ≡ Listen3) × IsOfParent before socket parent sock
+IsMarkOf before op kind parent sock (step.Call ctx (guest.P3Tcp (p3_tcp_call.Accept listener remaining))) = IsAcceptedMark before op listener Tcp3 kind parent sock ⊎ IsFaultMark listener kind parent sock
+IsMarkOf before op kind parent sock (step.Call ctx (guest.Udp (udp_call.Stream socket remote))) = ((kind ≡ Incoming) ⊎ (kind ≡ Outgoing)) × IsOfParent before socket parent sock
+IsMarkOf before op kind parent sock (step.Call ctx (guest.P3Tcp (p3_tcp_call.Send socket))) = ((kind ≡ Send3) ⊎ (kind ≡ Result3)) × IsOfParent before socket parent sock
+IsMarkOf before op kind parent sock (step.Call ctx (guest.P3Tcp (p3_tcp_call.Receive socket))) = ((kind ≡ Receive3) ⊎ (kind ≡ Result3)) × IsOfParent before socket parent sock
+IsMarkOf before op kind parent sock (step.Call ctx (guest.Pipe (pipe_call.In bytes))) = IsPlainMark Input kind parent sock
+IsMarkOf before op kind parent sock (step.Call ctx (guest.Pipe (pipe_call.Out capacity))) = IsPlainMark Output kind parent sock
+IsMarkOf before op kind parent sock (step.Call ctx (guest.Pipe pipe_call.Sink)) = IsPlainMark Output kind parent sock
+IsMarkOf before op kind parent sock (step.Call ctx (guest.Pipe pipe_call.ClosedIn)) = IsPlainMark Input kind parent sock
+IsMarkOf before op kind parent sock (step.Call ctx (guest.Pipe pipe_call.ClosedOut)) = IsPlainMark Output kind parent sock
+IsMarkOf before op kind parent sock (step.Call ctx (guest.Stream (stream_call.Read input len))) = IsErrorMark before op kind input parent sock
+IsMarkOf before op kind parent sock (step.Call ctx (guest.Stream (stream_call.Skip input len))) = IsErrorMark before op kind input parent sock
+IsMarkOf before op kind parent sock (step.Call ctx (guest.Stream (stream_call.BlockingRead input len))) = IsErrorMark before op kind input parent sock
+IsMarkOf before op kind parent sock (step.Call ctx (guest.Stream (stream_call.BlockingSkip input len))) = IsErrorMark before op kind input parent sock
+IsMarkOf before op kind parent sock (step.Call ctx (guest.Stream (stream_call.CheckWrite output))) = IsErrorMark before op kind output parent sock
+IsMarkOf before op kind parent sock (step.Call ctx (guest.Stream (stream_call.Write output bytes))) = IsErrorMark before op kind output parent sock
+IsMarkOf before op kind parent sock (step.Call ctx (guest.Stream (stream_call.WriteZeroes output len))) = IsErrorMark before op kind output parent sock
+IsMarkOf before op kind parent sock (step.Call ctx (guest.Stream (stream_call.Flush output))) = IsErrorMark before op kind output parent sock
+IsMarkOf before op kind parent sock (step.Call ctx (guest.Stream (stream_call.BlockingWrite output bytes))) = IsErrorMark before op kind output parent sock
+IsMarkOf before op kind parent sock (step.Call ctx (guest.Stream (stream_call.BlockingZeroes output len))) = IsErrorMark before op kind output parent sock
+IsMarkOf before op kind parent sock (step.Call ctx (guest.Stream (stream_call.BlockingFlush output))) = IsErrorMark before op kind output parent sock
+IsMarkOf before op kind parent sock (step.Call ctx (guest.Stream (stream_call.Splice output input len))) = IsErrorMark before op kind output parent sock ⊎ IsErrorMark before op kind input parent sock
+IsMarkOf before op kind parent sock (step.Call ctx (guest.Stream (stream_call.BlockingSplice output input len))) = IsErrorMark before op kind output parent sock ⊎ IsErrorMark before op kind input parent sock
+IsMarkOf before op kind parent sock (step.Call ctx (guest.Names (name_call.Resolve network name))) = (kind ≡ handle_kind.Lookup) × (parent ≡ Some network) × (sock ≡ None)
+IsMarkOf before op kind parent sock (step.Call ctx (guest.Pollable (pollable_call.Subscribe handle))) = (kind ≡ Pollable) × IsOfParent before handle parent sock
 IsMarkOf before op kind parent sock _ = ⊥
 
 -- == the table
@@ -468,7 +477,7 @@ pub record HandsOut (log : List Entry) (handle : ℕ) (fields : List Field) : Ty
 
 -- a receive of 0.3
 abbrev pub IsReceive : Step → Type 0
-IsReceive (step.Call ctx (guest.P3UdpReceive socket)) = ⊤
+IsReceive (step.Call ctx (guest.P3Udp (p3_udp_call.Receive socket))) = ⊤
 IsReceive _ = ⊥
 
 -- none of these lines is this one
@@ -494,20 +503,20 @@ pub record HandsOne (steps : List Step) (log : List Entry) (served : List ℕ) (
 
 -- a reply to a call that receives hands one datagram out; the call is that of a line that is there
 abbrev pub HandsAs : List Step → List Entry → List ℕ → ℕ → Option Step → List Field → Type 0
-HandsAs steps log served line (Some (step.Call ctx (guest.P3UdpReceive socket))) fields = HandsOne steps log served line fields
+HandsAs steps log served line (Some (step.Call ctx (guest.P3Udp (p3_udp_call.Receive socket)))) fields = HandsOne steps log served line fields
 HandsAs steps log served line (Some s) fields = ⊤
 HandsAs steps log served line None fields = ⊥
 
 -- a poll is replied to as the call that it polls
 abbrev pub MayReply : List Step → List Entry → List ℕ → ℕ → Step → Reply → Type 0
-MayReply steps log served line (step.Call ctx (guest.UdpReceive handle most)) (Reply.Ok fields) = HandsOut log handle fields
-MayReply steps log served line (step.Call ctx (guest.P3UdpReceive socket)) (Reply.Ok fields) = HandsOne steps log served line fields
+MayReply steps log served line (step.Call ctx (guest.Udp (udp_call.Receive handle most))) (Reply.Ok fields) = HandsOut log handle fields
+MayReply steps log served line (step.Call ctx (guest.P3Udp (p3_udp_call.Receive socket))) (Reply.Ok fields) = HandsOne steps log served line fields
 MayReply steps log served line (step.Poll n) (Reply.Ok fields) = HandsAs steps log served n (step_at steps n) fields
 MayReply steps log served line _ reply = ⊤
 
 -- the lines that handed a datagram out, with this one where its reply does
 abbrev pub served_by : ℕ → Option Step → List ℕ → List ℕ
-served_by line (Some (step.Call ctx (guest.P3UdpReceive socket))) served = line ∷ served
+served_by line (Some (step.Call ctx (guest.P3Udp (p3_udp_call.Receive socket)))) served = line ∷ served
 served_by line _ served = served
 
 abbrev pub serves : List Step → ℕ → Step → Reply → List ℕ → List ℕ

@@ -18,12 +18,12 @@ use Rattle.wasi_tcp.specs.declared.socket.TcpState.TheVariants as state
 use Rattle.wasi_tcp.specs.Connecting.{with_state}
 use Rattle.wasi_tcp.specs.Listener.{Listener, with_accept, accepted_socket, accepted_state, HoldsAccept}
 use Rattle.wasi_records.specs.Records.{tcp2_pushed}
-use Rattle.wasi_records.specs.declared.tcp_listening.Listening.{Listening}
-use Rattle.wasi_records.specs.declared.tcp_listening.Listening.TheVariants as listening
+use Rattle.tcp_records.specs.declared.tcp_listening.Listening.{Listening}
+use Rattle.tcp_records.specs.declared.tcp_listening.Listening.TheVariants as listening
 use Rattle.host_store.specs.declared.machine.Machine.{Machine}
-use Rattle.wasi_records.specs.declared.socket.TcpRecord.{TcpRecord}
-use Rattle.wasi_records.specs.Listening.{with_listening, accepted_record}
-use Rattle.wasi_records.specs.InProgress.{is_listen}
+use Rattle.tcp_records.specs.declared.socket.TcpRecord.{TcpRecord}
+use Rattle.tcp_records.specs.Listening.{with_listening, accepted_record}
+use Rattle.tcp_records.specs.InProgress.{is_listen}
 use Rattle.wasi_steps.specs.declared.reply.CodeWord.{CodeWord}
 use Rattle.wasi_steps.specs.declared.reply.CodeWord.TheVariants as word
 use Rattle.wasi_walks.specs.Answered.{record_at, putting, word_of_code, EndsPending, StartRefusal, RefusedOf, IsBound, IsFoundUnbound, IsPastDefault, knowing_bound}

@@ -11,7 +11,7 @@ use Rattle.host_store.specs.declared.kind.PlainOutput.TheVariants as plain_outpu
 use Rattle.host_store.specs.declared.kind.Watched.{Watched}
 use Rattle.host_store.specs.declared.kind.Watched.TheVariants as watched
 use Rattle.host_store.specs.declared.machine.Machine.{Machine}
-use Rattle.wasi_records.specs.declared.socket.TcpRecord.{TcpRecord}
+use Rattle.tcp_records.specs.declared.socket.TcpRecord.{TcpRecord}
 use Rattle.host_store.specs.declared.store.StandingCall.{StandingCall}
 use Rattle.host_store.specs.declared.store.StandingCall.TheVariants as standing
 use Rattle.host_store.specs.Kinds.{kind_at, is_network, is_error, udp_of, tcp3_of, watched_by, watch_of, place_in}
@@ -28,6 +28,14 @@ use Rattle.wasi_steps.specs.Steps.{Kind, HandleOf, ALine, ANetwork, ASocket, ASo
 use Rattle.wasi_p3.specs.Streams.{slot_in}
 use Rattle.wasi_steps.specs.declared.step.Step.{Step}
 use Rattle.wasi_steps.specs.declared.guest_call.GuestCall.TheVariants as guest
+use Rattle.wasi_steps.specs.declared.guest_call.TcpCall.TheVariants as tcp_call
+use Rattle.wasi_steps.specs.declared.guest_call.UdpCall.TheVariants as udp_call
+use Rattle.wasi_steps.specs.declared.guest_call.NameCall.TheVariants as name_call
+use Rattle.wasi_steps.specs.declared.guest_call.StreamCall.TheVariants as stream_call
+use Rattle.wasi_steps.specs.declared.guest_call.PipeCall.TheVariants as pipe_call
+use Rattle.wasi_steps.specs.declared.guest_call.PollableCall.TheVariants as pollable_call
+use Rattle.wasi_steps.specs.declared.guest_call.P3TcpCall.TheVariants as p3_tcp_call
+use Rattle.wasi_steps.specs.declared.guest_call.P3UdpCall.TheVariants as p3_udp_call
 use Rattle.wasi_steps.specs.declared.step.Step.TheVariants as step
 use Rattle.wasi_walks.specs.Answered.{record_at, open_udp_at, incoming_in, outgoing_in, lookup_in, streams_in, input_streams, output_streams}
 
@@ -158,54 +166,54 @@ MissesFirst m (kind ∷ kinds) values = MissesValue m kind values.0
 -- a handle of the step isn't live, or is of another kind; it is the first argument, or one of several pollables, and that of a network
 -- or of an input beside it; a pipe's contents are told of a pipe alone; and a cancel asks for no handle
 abbrev pub MissesHandle : Machine → Step → Type 0
-MissesHandle m (step.Call ctx (guest.TcpStartBind socket network a)) = (is_network (kind_at m.table network) ≡ false) ⊎ (record_at m socket ≡ None)
-MissesHandle m (step.Call ctx (guest.TcpStartConnect socket network a)) = (is_network (kind_at m.table network) ≡ false) ⊎ (record_at m socket ≡ None)
-MissesHandle m (step.Call ctx (guest.UdpStartBind socket network a)) = (is_network (kind_at m.table network) ≡ false) ⊎ (open_udp_at m socket ≡ None)
-MissesHandle m (step.Call ctx (guest.Splice to from len)) = MissesEither m to from
-MissesHandle m (step.Call ctx (guest.BlockingSplice to from len)) = MissesEither m to from
-MissesHandle m (step.Call ctx (guest.PipeContents output)) = pipe_of m (plain_output_at m output) ≡ None
+MissesHandle m (step.Call ctx (guest.Tcp (tcp_call.StartBind socket network a))) = (is_network (kind_at m.table network) ≡ false) ⊎ (record_at m socket ≡ None)
+MissesHandle m (step.Call ctx (guest.Tcp (tcp_call.StartConnect socket network a))) = (is_network (kind_at m.table network) ≡ false) ⊎ (record_at m socket ≡ None)
+MissesHandle m (step.Call ctx (guest.Udp (udp_call.StartBind socket network a))) = (is_network (kind_at m.table network) ≡ false) ⊎ (open_udp_at m socket ≡ None)
+MissesHandle m (step.Call ctx (guest.Stream (stream_call.Splice to from len))) = MissesEither m to from
+MissesHandle m (step.Call ctx (guest.Stream (stream_call.BlockingSplice to from len))) = MissesEither m to from
+MissesHandle m (step.Call ctx (guest.Pipe (pipe_call.Contents output))) = pipe_of m (plain_output_at m output) ≡ None
 MissesHandle m (step.Cancel n) = ⊥
 MissesHandle m s = MissesFirst m (written_of s).kinds (written_of s).values
 
 -- the step makes a handle, the two of a connection's streams or of a UDP socket's, those of an accepted connection, or the one of a
 -- stream's error or of a lookup; a poll makes that of a create or of a stream's error, or those of datagram streams
 abbrev pub MakesHandle : Step → Type 0
-MakesHandle (step.Call ctx guest.Network) = ⊤
-MakesHandle (step.Call ctx (guest.TcpCreate family)) = ⊤
-MakesHandle (step.Call ctx (guest.P3TcpCreate family)) = ⊤
-MakesHandle (step.Call ctx (guest.P3TcpSend socket)) = ⊤
-MakesHandle (step.Call ctx (guest.P3TcpReceive socket)) = ⊤
-MakesHandle (step.Call ctx (guest.UdpCreate family)) = ⊤
-MakesHandle (step.Call ctx (guest.P3UdpCreate family)) = ⊤
-MakesHandle (step.Call ctx (guest.UdpStream socket remote)) = ⊤
-MakesHandle (step.Call ctx (guest.TcpFinishConnect socket)) = ⊤
-MakesHandle (step.Call ctx (guest.TcpAccept socket)) = ⊤
-MakesHandle (step.Call ctx (guest.P3TcpListen socket)) = ⊤
-MakesHandle (step.Call ctx (guest.P3Accept listener remaining)) = ⊤
-MakesHandle (step.Call ctx (guest.Resolve network name)) = ⊤
-MakesHandle (step.Call ctx (guest.PipeIn bytes)) = ⊤
-MakesHandle (step.Call ctx (guest.PipeOut capacity)) = ⊤
-MakesHandle (step.Call ctx guest.Sink) = ⊤
-MakesHandle (step.Call ctx guest.ClosedIn) = ⊤
-MakesHandle (step.Call ctx guest.ClosedOut) = ⊤
-MakesHandle (step.Call ctx (guest.Read input len)) = ⊤
-MakesHandle (step.Call ctx (guest.Skip input len)) = ⊤
-MakesHandle (step.Call ctx (guest.CheckWrite output)) = ⊤
-MakesHandle (step.Call ctx (guest.Write output bytes)) = ⊤
-MakesHandle (step.Call ctx (guest.WriteZeroes output len)) = ⊤
-MakesHandle (step.Call ctx (guest.Flush output)) = ⊤
-MakesHandle (step.Call ctx (guest.Splice to from len)) = ⊤
-MakesHandle (step.Call ctx (guest.BlockingRead input len)) = ⊤
-MakesHandle (step.Call ctx (guest.BlockingSkip input len)) = ⊤
-MakesHandle (step.Call ctx (guest.BlockingWrite output bytes)) = ⊤
-MakesHandle (step.Call ctx (guest.BlockingZeroes output len)) = ⊤
-MakesHandle (step.Call ctx (guest.BlockingFlush output)) = ⊤
-MakesHandle (step.Call ctx (guest.BlockingSplice to from len)) = ⊤
-MakesHandle (step.Call ctx (guest.Subscribe handle)) = ⊤
+MakesHandle (step.Call ctx (guest.Names name_call.Network)) = ⊤
+MakesHandle (step.Call ctx (guest.Tcp (tcp_call.Create family))) = ⊤
+MakesHandle (step.Call ctx (guest.P3Tcp (p3_tcp_call.Create family))) = ⊤
+MakesHandle (step.Call ctx (guest.P3Tcp (p3_tcp_call.Send socket))) = ⊤
+MakesHandle (step.Call ctx (guest.P3Tcp (p3_tcp_call.Receive socket))) = ⊤
+MakesHandle (step.Call ctx (guest.Udp (udp_call.Create family))) = ⊤
+MakesHandle (step.Call ctx (guest.P3Udp (p3_udp_call.Create family))) = ⊤
+MakesHandle (step.Call ctx (guest.Udp (udp_call.Stream socket remote))) = ⊤
+MakesHandle (step.Call ctx (guest.Tcp (tcp_call.FinishConnect socket))) = ⊤
+MakesHandle (step.Call ctx (guest.Tcp (tcp_call.Accept socket))) = ⊤
+MakesHandle (step.Call ctx (guest.P3Tcp (p3_tcp_call.Listen socket))) = ⊤
+MakesHandle (step.Call ctx (guest.P3Tcp (p3_tcp_call.Accept listener remaining))) = ⊤
+MakesHandle (step.Call ctx (guest.Names (name_call.Resolve network name))) = ⊤
+MakesHandle (step.Call ctx (guest.Pipe (pipe_call.In bytes))) = ⊤
+MakesHandle (step.Call ctx (guest.Pipe (pipe_call.Out capacity))) = ⊤
+MakesHandle (step.Call ctx (guest.Pipe pipe_call.Sink)) = ⊤
+MakesHandle (step.Call ctx (guest.Pipe pipe_call.ClosedIn)) = ⊤
+MakesHandle (step.Call ctx (guest.Pipe pipe_call.ClosedOut)) = ⊤
+MakesHandle (step.Call ctx (guest.Stream (stream_call.Read input len))) = ⊤
+MakesHandle (step.Call ctx (guest.Stream (stream_call.Skip input len))) = ⊤
+MakesHandle (step.Call ctx (guest.Stream (stream_call.CheckWrite output))) = ⊤
+MakesHandle (step.Call ctx (guest.Stream (stream_call.Write output bytes))) = ⊤
+MakesHandle (step.Call ctx (guest.Stream (stream_call.WriteZeroes output len))) = ⊤
+MakesHandle (step.Call ctx (guest.Stream (stream_call.Flush output))) = ⊤
+MakesHandle (step.Call ctx (guest.Stream (stream_call.Splice to from len))) = ⊤
+MakesHandle (step.Call ctx (guest.Stream (stream_call.BlockingRead input len))) = ⊤
+MakesHandle (step.Call ctx (guest.Stream (stream_call.BlockingSkip input len))) = ⊤
+MakesHandle (step.Call ctx (guest.Stream (stream_call.BlockingWrite output bytes))) = ⊤
+MakesHandle (step.Call ctx (guest.Stream (stream_call.BlockingZeroes output len))) = ⊤
+MakesHandle (step.Call ctx (guest.Stream (stream_call.BlockingFlush output))) = ⊤
+MakesHandle (step.Call ctx (guest.Stream (stream_call.BlockingSplice to from len))) = ⊤
+MakesHandle (step.Call ctx (guest.Pollable (pollable_call.Subscribe handle))) = ⊤
 MakesHandle (step.Poll n) = ⊤
 MakesHandle _ = ⊥
 
 abbrev pub IsWrite : Step → Type 0
-IsWrite (step.Call ctx (guest.Write output bytes)) = ⊤
-IsWrite (step.Call ctx (guest.WriteZeroes output len)) = ⊤
+IsWrite (step.Call ctx (guest.Stream (stream_call.Write output bytes))) = ⊤
+IsWrite (step.Call ctx (guest.Stream (stream_call.WriteZeroes output len))) = ⊤
 IsWrite _ = ⊥

@@ -8,6 +8,7 @@ use Rattle.wasi_steps.specs.declared.reply.Field.{Field}
 use Rattle.wasi_steps.specs.declared.reply.Reply.{Reply}
 use Rattle.wasi_steps.specs.declared.step.Step.{Step}
 use Rattle.wasi_steps.specs.declared.guest_call.GuestCall.TheVariants as guest
+use Rattle.wasi_steps.specs.declared.guest_call.UdpCall.TheVariants as udp_call
 use Rattle.wasi_steps.specs.declared.step.Step.TheVariants as step
 use Rattle.wasi_steps.specs.Reply.{datagram_values}
 use Rattle.wasi_walks.specs.Allowed.{IsSide}
@@ -36,7 +37,7 @@ pub record HandsOutFrom (log : List Entry) (side : OpId) (from upto handle : ℕ
 
 -- the reply to a step hands out the datagrams from the one place to the other: none, but for a receive
 abbrev pub ReplyTakes : List Entry → OpId → ℕ → ℕ → Step → Reply → Type 0
-ReplyTakes log side from upto (step.Call ctx (guest.UdpReceive handle most)) (Reply.Ok fields) = HandsOutFrom log side from upto handle fields
+ReplyTakes log side from upto (step.Call ctx (guest.Udp (udp_call.Receive handle most))) (Reply.Ok fields) = HandsOutFrom log side from upto handle fields
 ReplyTakes log side from upto _ reply = upto ≡ from
 
 -- so do the replies one after another, each to the step of its line

@@ -28,20 +28,20 @@ use Rattle.wasi_tcp.specs.Listener.{Listener}
 use Rattle.wasi_tcp.specs.Socket.{side_in}
 use Rattle.wasi_tcp.specs.Writer.{collected}
 use Rattle.wasi_records.specs.Records.{tcp2_at, udp2_at, open_at}
-use Rattle.wasi_records.specs.declared.tcp_binding.InProgress.{InProgress}
-use Rattle.wasi_records.specs.declared.tcp_binding.InProgress.TheVariants.{Binding}
+use Rattle.tcp_records.specs.declared.tcp_binding.InProgress.{InProgress}
+use Rattle.tcp_records.specs.declared.tcp_binding.InProgress.TheVariants.{Binding}
 use Rattle.host_store.specs.declared.kind.Watched.{Watched}
 use Rattle.host_store.specs.declared.kind.Watched.TheVariants as watched
-use Rattle.wasi_records.specs.declared.tcp_listening.Listening.{Listening}
-use Rattle.wasi_records.specs.declared.tcp_listening.Listening.TheVariants as listening
+use Rattle.tcp_records.specs.declared.tcp_listening.Listening.{Listening}
+use Rattle.tcp_records.specs.declared.tcp_listening.Listening.TheVariants as listening
 use Rattle.host_store.specs.declared.machine.Machine.{Machine}
-use Rattle.wasi_records.specs.declared.socket.Streams.{Streams}
-use Rattle.wasi_records.specs.declared.socket.TcpRecord.{TcpRecord}
-use Rattle.wasi_records.specs.declared.udp.OpenUdp.{OpenUdp}
-use Rattle.wasi_records.specs.declared.udp.UdpRecord.{UdpRecord}
-use Rattle.wasi_records.specs.declared.udp.UdpRecord.TheVariants as udp
-use Rattle.wasi_records.specs.declared.udp.UdpInProgress.{UdpInProgress}
-use Rattle.wasi_records.specs.declared.udp.UdpInProgress.TheVariants as udp_doing
+use Rattle.tcp_records.specs.declared.socket.Streams.{Streams}
+use Rattle.tcp_records.specs.declared.socket.TcpRecord.{TcpRecord}
+use Rattle.udp_records.specs.declared.udp.OpenUdp.{OpenUdp}
+use Rattle.udp_records.specs.declared.udp.UdpRecord.{UdpRecord}
+use Rattle.udp_records.specs.declared.udp.UdpRecord.TheVariants as udp
+use Rattle.udp_records.specs.declared.udp.UdpInProgress.{UdpInProgress}
+use Rattle.udp_records.specs.declared.udp.UdpInProgress.TheVariants as udp_doing
 use Rattle.wasi_udp.specs.Bind.{IsBind as IsUdpBind}
 use Rattle.wasi_udp.specs.Create.{Create}
 use Rattle.host_store.specs.declared.kind.Interface.{Interface}
@@ -49,10 +49,10 @@ use Rattle.host_store.specs.declared.kind.Interface.TheVariants.{P3}
 use Rattle.host_store.specs.declared.store.StandingCall.{StandingCall}
 use Rattle.host_store.specs.declared.store.StandingCall.TheVariants as standing
 use Rattle.host_store.specs.Kinds.{kind_at, watch_of, place_in}
-use Rattle.wasi_records.specs.Datagrams.{sends}
+use Rattle.udp_records.specs.Datagrams.{sends}
 use Rattle.host_store.specs.Machine.{output_at, outgoing_at}
 use Rattle.wasi_host.specs.Pollables.{watched_side}
-use Rattle.wasi_records.specs.InProgress.{is_nothing, is_connect}
+use Rattle.tcp_records.specs.InProgress.{is_nothing, is_connect}
 use Rattle.host_store.specs.Beside.{beside_of, unbeside}
 use Rattle.host_udp.specs.SocketDatagrams.{is_datagram_in}
 use Rattle.host_store.specs.Standing.{call_of, unstood}
@@ -62,6 +62,13 @@ use Rattle.wasi_steps.specs.declared.reply.Reply.{Reply}
 use Rattle.wasi_steps.specs.declared.reply.Reply.TheVariants as reply
 use Rattle.wasi_steps.specs.declared.step.Step.{Step}
 use Rattle.wasi_steps.specs.declared.guest_call.GuestCall.TheVariants as guest
+use Rattle.wasi_steps.specs.declared.guest_call.TcpCall.TheVariants as tcp_call
+use Rattle.wasi_steps.specs.declared.guest_call.UdpCall.TheVariants as udp_call
+use Rattle.wasi_steps.specs.declared.guest_call.StreamCall.TheVariants as stream_call
+use Rattle.wasi_steps.specs.declared.guest_call.PollableCall.TheVariants as pollable_call
+use Rattle.wasi_steps.specs.declared.guest_call.P3TcpCall.TheVariants as p3_tcp_call
+use Rattle.wasi_steps.specs.declared.guest_call.P3UdpCall.TheVariants as p3_udp_call
+use Rattle.wasi_steps.specs.declared.guest_call.P3NameCall.TheVariants as p3_name_call
 use Rattle.wasi_steps.specs.declared.step.Step.TheVariants as step
 use Rattle.wasi_walks.specs.Answered.{AllOf, ConnectsOn, OfStreams, EndsPending, EndsClosing, IsUnfinished, p3_word, word_of_code}
 use Rattle.wasi_walks.specs.Listens.{AcceptWaits, accept_name, AcceptsIn, HasNoListener}
@@ -137,29 +144,29 @@ IsPoll _ = ⊥
 -- of a UDP socket, that of its streams, the drop of an output or of an outgoing datagram stream, and a call that blocks, of a stream or for
 -- pollables, under their line's, and a poll under the one that it polls
 abbrev pub MayStand : Machine → ℕ → Step → ℕ → Type 0
-MayStand m line (step.Call ctx (guest.TcpStartBind socket network a)) n = n ≡ line
-MayStand m line (step.Call ctx (guest.TcpStartListen socket)) n = n ≡ line
-MayStand m line (step.Call ctx (guest.UdpCreate family)) n = n ≡ line
-MayStand m line (step.Call ctx (guest.P3TcpBind socket a)) n = n ≡ line
-MayStand m line (step.Call ctx (guest.P3TcpConnect socket a)) n = n ≡ line
-MayStand m line (step.Call ctx (guest.P3TcpListen socket)) n = n ≡ line
-MayStand m line (step.Call ctx (guest.P3UdpCreate family)) n = n ≡ line
-MayStand m line (step.Call ctx (guest.P3UdpBind socket a)) n = n ≡ line
-MayStand m line (step.Call ctx (guest.P3UdpConnect socket a)) n = n ≡ line
-MayStand m line (step.Call ctx (guest.P3UdpSend socket d)) n = n ≡ line
-MayStand m line (step.Call ctx (guest.P3UdpReceive socket)) n = n ≡ line
-MayStand m line (step.Call ctx (guest.P3Resolve name)) n = n ≡ line
-MayStand m line (step.Call ctx (guest.UdpStartBind socket network a)) n = n ≡ line
-MayStand m line (step.Call ctx (guest.UdpStream socket remote)) n = n ≡ line
-MayStand m line (step.Call ctx (guest.Drop handle)) n = (IsSome (output_at m handle) ⊎ IsSome (outgoing_at m handle)) × (n ≡ line)
-MayStand m line (step.Call ctx (guest.BlockingRead input len)) n = n ≡ line
-MayStand m line (step.Call ctx (guest.BlockingSkip input len)) n = n ≡ line
-MayStand m line (step.Call ctx (guest.BlockingWrite output bytes)) n = n ≡ line
-MayStand m line (step.Call ctx (guest.BlockingZeroes output len)) n = n ≡ line
-MayStand m line (step.Call ctx (guest.BlockingFlush output)) n = n ≡ line
-MayStand m line (step.Call ctx (guest.BlockingSplice to from len)) n = n ≡ line
-MayStand m line (step.Call ctx (guest.Block pollable)) n = n ≡ line
-MayStand m line (step.Call ctx (guest.PollList pollables)) n = n ≡ line
+MayStand m line (step.Call ctx (guest.Tcp (tcp_call.StartBind socket network a))) n = n ≡ line
+MayStand m line (step.Call ctx (guest.Tcp (tcp_call.StartListen socket))) n = n ≡ line
+MayStand m line (step.Call ctx (guest.Udp (udp_call.Create family))) n = n ≡ line
+MayStand m line (step.Call ctx (guest.P3Tcp (p3_tcp_call.Bind socket a))) n = n ≡ line
+MayStand m line (step.Call ctx (guest.P3Tcp (p3_tcp_call.Connect socket a))) n = n ≡ line
+MayStand m line (step.Call ctx (guest.P3Tcp (p3_tcp_call.Listen socket))) n = n ≡ line
+MayStand m line (step.Call ctx (guest.P3Udp (p3_udp_call.Create family))) n = n ≡ line
+MayStand m line (step.Call ctx (guest.P3Udp (p3_udp_call.Bind socket a))) n = n ≡ line
+MayStand m line (step.Call ctx (guest.P3Udp (p3_udp_call.Connect socket a))) n = n ≡ line
+MayStand m line (step.Call ctx (guest.P3Udp (p3_udp_call.Send socket d))) n = n ≡ line
+MayStand m line (step.Call ctx (guest.P3Udp (p3_udp_call.Receive socket))) n = n ≡ line
+MayStand m line (step.Call ctx (guest.P3Names (p3_name_call.Resolve name))) n = n ≡ line
+MayStand m line (step.Call ctx (guest.Udp (udp_call.StartBind socket network a))) n = n ≡ line
+MayStand m line (step.Call ctx (guest.Udp (udp_call.Stream socket remote))) n = n ≡ line
+MayStand m line (step.Call ctx (guest.Pollable (pollable_call.Drop handle))) n = (IsSome (output_at m handle) ⊎ IsSome (outgoing_at m handle)) × (n ≡ line)
+MayStand m line (step.Call ctx (guest.Stream (stream_call.BlockingRead input len))) n = n ≡ line
+MayStand m line (step.Call ctx (guest.Stream (stream_call.BlockingSkip input len))) n = n ≡ line
+MayStand m line (step.Call ctx (guest.Stream (stream_call.BlockingWrite output bytes))) n = n ≡ line
+MayStand m line (step.Call ctx (guest.Stream (stream_call.BlockingZeroes output len))) n = n ≡ line
+MayStand m line (step.Call ctx (guest.Stream (stream_call.BlockingFlush output))) n = n ≡ line
+MayStand m line (step.Call ctx (guest.Stream (stream_call.BlockingSplice to from len))) n = n ≡ line
+MayStand m line (step.Call ctx (guest.Pollable (pollable_call.Block pollable))) n = n ≡ line
+MayStand m line (step.Call ctx (guest.Pollable (pollable_call.PollList pollables))) n = n ≡ line
 MayStand m line (step.Poll call) n = n ≡ call
 MayStand m line _ n = ⊥
 

@@ -11,8 +11,8 @@ use Rattle.wasi_world.specs.declared.call.Call.TheVariants as call
 use Rattle.wasi_world.specs.declared.call.Told.TheVariants as told
 use Rattle.wasi_udp.specs.Send.{IsLeftOfSend, IsSend}
 use Rattle.wasi_udp.specs.Send as send
-use Rattle.wasi_records.specs.declared.datagrams.Incoming.{Incoming}
-use Rattle.wasi_records.specs.declared.udp.OpenUdp.{OpenUdp}
+use Rattle.udp_records.specs.declared.datagrams.Incoming.{Incoming}
+use Rattle.udp_records.specs.declared.udp.OpenUdp.{OpenUdp}
 use Rattle.wasi_causes.proofs.operations.Checks.{by_verdict, stops}
 use Rattle.wasi_causes.proofs.operations.Polls.{EndsFor}
 use Rattle.wasi_causes.proofs.tables.Meets.{Meets, Rows, asks, branch, chain, ends}

@@ -12,6 +12,7 @@ use Rattle.wasi_machine.specs.Machine.{answer_reply_of}
 use Rattle.wasi_steps.specs.Reply.{no_values}
 use Rattle.wasi_steps.specs.declared.reply.Reply.TheVariants as reply
 use Rattle.wasi_steps.specs.declared.guest_call.GuestCall.TheVariants as guest
+use Rattle.wasi_steps.specs.declared.guest_call.PollableCall.TheVariants as pollable_call
 use Rattle.wasi_steps.specs.declared.step.Step.TheVariants as step
 use Rattle.wasi_world.specs.declared.outcome.TrapKind.TheVariants.{EmptyList}
 use Rattle.wasi_world.proofs.Walks.{left_in}
@@ -32,25 +33,25 @@ module _ (contexts : List WasiSocketsCtx) (m : Machine) (line c p : ℕ) (free :
     pub told : truth_reply given ≡ r
     pub did : Left (ready_asks m (first_ids line) p) es (Give (given, after))
 
-  looked : (es : List Entry) (r : Reply) (after : Machine) → Answered contexts m line (step.Call c (guest.Ready p)) es r after → Looked es r after
+  looked : (es : List Entry) (r : Reply) (after : Machine) → Answered contexts m line (step.Call c (guest.Pollable (pollable_call.Ready p))) es r after → Looked es r after
   looked es r after w =
-      of (ended (ready_asks m (first_ids line) p) (λ done. (truth_reply done.0, done.1)) es (r, after) (subst (λ (o : Option Standing). Left (asks_while contexts m line (step.Call c (guest.Ready p)) o) es (Give (r, after))) free w))
+      of (ended (ready_asks m (first_ids line) p) (λ done. (truth_reply done.0, done.1)) es (r, after) (subst (λ (o : Option Standing). Left (asks_while contexts m line (step.Call c (guest.Pollable (pollable_call.Ready p))) o) es (Give (r, after))) free w))
     where
       of : (a : Result Bool Stop × Machine) × Left (ready_asks m (first_ids line) p) es (Give a) × (◌≡◌ {A = Told} (truth_reply a.0, a.1) (r, after)) → Looked es r after
       of k = record { given = k.0.0; told = ap (λ (x : Reply × Machine). x.0) k.2; did = subst (λ (x : Machine). Left (ready_asks m (first_ids line) p) es (Give (k.0.0, x))) (ap (λ (x : Reply × Machine). x.1) k.2) k.1 }
 
   blocks : (es : List Entry) (given : Result Bool Stop) (after : Machine) → Left (ready_asks m (first_ids line) p) es (Give (given, after))
-      → Answered contexts m line (step.Call c (guest.Block p)) es (answer_reply_of no_values line (blocked_on (first_ids line) p (given, after)).0) (blocked_on (first_ids line) p (given, after)).1
+      → Answered contexts m line (step.Call c (guest.Pollable (pollable_call.Block p))) es (answer_reply_of no_values line (blocked_on (first_ids line) p (given, after)).0) (blocked_on (first_ids line) p (given, after)).1
   unfolding bind
   blocks es given after h =
-      answers_part contexts m line (step.Call c (guest.Block p)) (block_by First m (first_ids line) p) (answer_reply_of no_values line) refl free es (blocked_on (first_ids line) p (given, after)).0 (blocked_on (first_ids line) p (given, after)).1
+      answers_part contexts m line (step.Call c (guest.Pollable (pollable_call.Block p))) (block_by First m (first_ids line) p) (answer_reply_of no_values line) refl free es (blocked_on (first_ids line) p (given, after)).0 (blocked_on (first_ids line) p (given, after)).1
       (left_in (λ done. Give (blocked_on (first_ids line) p done)) (ready_asks m (first_ids line) p) (Give (given, after)) es h)
 
   -- the first look of a wait is the step
-  to_step : (es : List Entry) (ready : Bool) (after : Machine) → Finds m (first_ids line) p First es ready after → Answered contexts m line (step.Call c (guest.Ready p)) es (reply.Ok (truth_fields ready)) after
-  to_step _ _ _ (on.FindsFirst es ready after w) = answers_part contexts m line (step.Call c (guest.Ready p)) (ready_asks m (first_ids line) p) truth_reply refl free es (Ok ready) after w
+  to_step : (es : List Entry) (ready : Bool) (after : Machine) → Finds m (first_ids line) p First es ready after → Answered contexts m line (step.Call c (guest.Pollable (pollable_call.Ready p))) es (reply.Ok (truth_fields ready)) after
+  to_step _ _ _ (on.FindsFirst es ready after w) = answers_part contexts m line (step.Call c (guest.Pollable (pollable_call.Ready p))) (ready_asks m (first_ids line) p) truth_reply refl free es (Ok ready) after w
 
-  pub first_so : (es : List Entry) (ready : Bool) (after : Machine) → Finds m (first_ids line) p First es ready after ↔ Answered contexts m line (step.Call c (guest.Ready p)) es (reply.Ok (truth_fields ready)) after
+  pub first_so : (es : List Entry) (ready : Bool) (after : Machine) → Finds m (first_ids line) p First es ready after ↔ Answered contexts m line (step.Call c (guest.Pollable (pollable_call.Ready p))) es (reply.Ok (truth_fields ready)) after
   first_so es ready after = (λ f. to_step es ready after f, λ w. of (looked es (reply.Ok (truth_fields ready)) after w))
     where
       same : (a b : Bool) → truth_fields a ≡ truth_fields b → a ≡ b
@@ -68,42 +69,42 @@ module _ (contexts : List WasiSocketsCtx) (m : Machine) (line c p : ℕ) (free :
       of k = by k.given k.told k.did
 
   -- it is done where the look finds the pollable ready
-  pub done_as : (es : List Entry) (after : Machine) → Answered contexts m line (step.Call c (guest.Ready p)) es (reply.Ok (truth_fields true)) after → Answered contexts m line (step.Call c (guest.Block p)) es (reply.Ok no_fields) after
+  pub done_as : (es : List Entry) (after : Machine) → Answered contexts m line (step.Call c (guest.Pollable (pollable_call.Ready p))) es (reply.Ok (truth_fields true)) after → Answered contexts m line (step.Call c (guest.Pollable (pollable_call.Block p))) es (reply.Ok no_fields) after
   done_as es after w = of (looked es (reply.Ok (truth_fields true)) after w)
     where
-      by : (given : Result Bool Stop) → truth_reply given ≡ reply.Ok (truth_fields true) → Left (ready_asks m (first_ids line) p) es (Give (given, after)) → Answered contexts m line (step.Call c (guest.Block p)) es (reply.Ok no_fields) after
+      by : (given : Result Bool Stop) → truth_reply given ≡ reply.Ok (truth_fields true) → Left (ready_asks m (first_ids line) p) es (Give (given, after)) → Answered contexts m line (step.Call c (guest.Pollable (pollable_call.Block p))) es (reply.Ok no_fields) after
       by (Ok true) e h = blocks es (Ok true) after h
       by (Ok false) e h = absurd (cc)
       by (Err (Trap kind)) e h = absurd (cc)
       by (Err (Code code)) e h = absurd (cc)
 
-      of : Looked es (reply.Ok (truth_fields true)) after → Answered contexts m line (step.Call c (guest.Block p)) es (reply.Ok no_fields) after
+      of : Looked es (reply.Ok (truth_fields true)) after → Answered contexts m line (step.Call c (guest.Pollable (pollable_call.Block p))) es (reply.Ok no_fields) after
       of k = by k.given k.told k.did
 
   -- pending where it doesn't
-  pub waits_as : (es : List Entry) (after : Machine) → Answered contexts m line (step.Call c (guest.Ready p)) es (reply.Ok (truth_fields false)) after → Answered contexts m line (step.Call c (guest.Block p)) es (reply.Pending line) (waiting after (first_ids line) (blocking.Block p))
+  pub waits_as : (es : List Entry) (after : Machine) → Answered contexts m line (step.Call c (guest.Pollable (pollable_call.Ready p))) es (reply.Ok (truth_fields false)) after → Answered contexts m line (step.Call c (guest.Pollable (pollable_call.Block p))) es (reply.Pending line) (waiting after (first_ids line) (blocking.Block p))
   waits_as es after w = of (looked es (reply.Ok (truth_fields false)) after w)
     where
-      by : (given : Result Bool Stop) → truth_reply given ≡ reply.Ok (truth_fields false) → Left (ready_asks m (first_ids line) p) es (Give (given, after)) → Answered contexts m line (step.Call c (guest.Block p)) es (reply.Pending line) (waiting after (first_ids line) (blocking.Block p))
+      by : (given : Result Bool Stop) → truth_reply given ≡ reply.Ok (truth_fields false) → Left (ready_asks m (first_ids line) p) es (Give (given, after)) → Answered contexts m line (step.Call c (guest.Pollable (pollable_call.Block p))) es (reply.Pending line) (waiting after (first_ids line) (blocking.Block p))
       by (Ok false) e h = blocks es (Ok false) after h
       by (Ok true) e h = absurd (cc)
       by (Err (Trap kind)) e h = absurd (cc)
       by (Err (Code code)) e h = absurd (cc)
 
-      of : Looked es (reply.Ok (truth_fields false)) after → Answered contexts m line (step.Call c (guest.Block p)) es (reply.Pending line) (waiting after (first_ids line) (blocking.Block p))
+      of : Looked es (reply.Ok (truth_fields false)) after → Answered contexts m line (step.Call c (guest.Pollable (pollable_call.Block p))) es (reply.Pending line) (waiting after (first_ids line) (blocking.Block p))
       of k = by k.given k.told k.did
 
   -- and it traps as the look does
-  pub traps_as : (es : List Entry) (kind : TrapKind) (after : Machine) → Answered contexts m line (step.Call c (guest.Ready p)) es (reply.Trap kind) after → Answered contexts m line (step.Call c (guest.Block p)) es (reply.Trap kind) after
+  pub traps_as : (es : List Entry) (kind : TrapKind) (after : Machine) → Answered contexts m line (step.Call c (guest.Pollable (pollable_call.Ready p))) es (reply.Trap kind) after → Answered contexts m line (step.Call c (guest.Pollable (pollable_call.Block p))) es (reply.Trap kind) after
   traps_as es kind after w = of (looked es (reply.Trap kind) after w)
     where
-      by : (given : Result Bool Stop) → truth_reply given ≡ reply.Trap kind → Left (ready_asks m (first_ids line) p) es (Give (given, after)) → Answered contexts m line (step.Call c (guest.Block p)) es (reply.Trap kind) after
+      by : (given : Result Bool Stop) → truth_reply given ≡ reply.Trap kind → Left (ready_asks m (first_ids line) p) es (Give (given, after)) → Answered contexts m line (step.Call c (guest.Pollable (pollable_call.Block p))) es (reply.Trap kind) after
       by (Ok true) e h = absurd (cc)
       by (Ok false) e h = absurd (cc)
-      by (Err (Trap its)) e h = subst (λ (r : Reply). Answered contexts m line (step.Call c (guest.Block p)) es r after) e (blocks es (Err (Trap its)) after h)
+      by (Err (Trap its)) e h = subst (λ (r : Reply). Answered contexts m line (step.Call c (guest.Pollable (pollable_call.Block p))) es r after) e (blocks es (Err (Trap its)) after h)
       by (Err (Code code)) e h = absurd (cc)
 
-      of : Looked es (reply.Trap kind) after → Answered contexts m line (step.Call c (guest.Block p)) es (reply.Trap kind) after
+      of : Looked es (reply.Trap kind) after → Answered contexts m line (step.Call c (guest.Pollable (pollable_call.Block p))) es (reply.Trap kind) after
       of k = by k.given k.told k.did
 
 -- == what is pending

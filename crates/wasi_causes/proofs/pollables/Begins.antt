@@ -18,22 +18,24 @@ use Rattle.wasi_tcp.specs.declared.accept.AcceptStage.TheVariants as stage
 use Rattle.wasi_udp.specs.Receive.{wanting}
 use Rattle.wasi_udp.specs.Socket.{bound_asks}
 use Rattle.wasi_world.specs.Operation.{Connection, Datagram}
-use Rattle.wasi_records.specs.Datagrams.{turn_outgoing, turn_sending}
-use Rattle.wasi_records.specs.Looks.{accept_looked, ready_idle, ready_listening, ready_reader, ready_socket}
-use Rattle.wasi_records.specs.Looks.{ready_socket_by, ready_writer, socket_begins}
-use Rattle.wasi_records.specs.Names.{next_name}
-use Rattle.wasi_records.specs.NameLookup.{turn_lookup, turn_lookup_at}
-use Rattle.wasi_records.specs.Receiving.{fetch_asks, has_none, look_incoming, receive_left, turn_incoming}
-use Rattle.wasi_records.specs.Receiving.{turn_receiving, would_receive}
-use Rattle.wasi_records.specs.Records.{lookup_at, lookup_put, open_at, open_of, open_put, tcp2_at, udp2_at}
-use Rattle.wasi_records.specs.declared.datagrams.Incoming.{Incoming}
-use Rattle.wasi_records.specs.declared.datagrams.Outgoing.{Outgoing}
-use Rattle.wasi_records.specs.declared.datagrams.Receiving.{Receiving}
-use Rattle.wasi_records.specs.declared.name_lookup.Lookup.{Lookup}
+use Rattle.udp_records.specs.Datagrams.{turn_outgoing, turn_sending}
+use Rattle.tcp_records.specs.Looks.{accept_looked, ready_idle, ready_listening, ready_reader, ready_socket}
+use Rattle.tcp_records.specs.Looks.{ready_socket_by, ready_writer, socket_begins}
+use Rattle.record_common.specs.Names.{next_name}
+use Rattle.lookup_records.specs.NameLookup.{turn_lookup}
+use Rattle.wasi_records.specs.Records.{turn_lookup_at}
+use Rattle.udp_records.specs.Receiving.{fetch_asks, has_none, look_incoming, receive_left, turn_incoming}
+use Rattle.udp_records.specs.Receiving.{turn_receiving, would_receive}
+use Rattle.wasi_records.specs.Records.{lookup_at, lookup_put, open_at, open_put, tcp2_at, udp2_at}
+use Rattle.udp_records.specs.Udp.{open_of}
+use Rattle.udp_records.specs.declared.datagrams.Incoming.{Incoming}
+use Rattle.udp_records.specs.declared.datagrams.Outgoing.{Outgoing}
+use Rattle.udp_records.specs.declared.datagrams.Receiving.{Receiving}
+use Rattle.lookup_records.specs.declared.name_lookup.Lookup.{Lookup}
 use Rattle.wasi_records.specs.declared.records.Record.{Record}
-use Rattle.wasi_records.specs.declared.udp.OpenUdp.{OpenUdp}
-use Rattle.wasi_records.specs.declared.udp.UdpRecord.{UdpRecord}
-use Rattle.wasi_records.specs.declared.udp.UdpRecord.TheVariants.{Open}
+use Rattle.udp_records.specs.declared.udp.OpenUdp.{OpenUdp}
+use Rattle.udp_records.specs.declared.udp.UdpRecord.{UdpRecord}
+use Rattle.udp_records.specs.declared.udp.UdpRecord.TheVariants.{Open}
 use Rattle.wasi_jobs.specs.declared.job.HostJob.{HostJob}
 use Rattle.wasi_jobs.specs.declared.job.HostJob.TheVariants as job
 use Rattle.host_udp.specs.DatagramCalls.{begins_receive, ready_incoming_at}

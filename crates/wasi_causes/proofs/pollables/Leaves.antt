@@ -13,13 +13,13 @@ use Rattle.wasi_tcp.specs.Listener.{begun, ready_end}
 use Rattle.wasi_tcp.specs.declared.accept.AcceptStage.TheVariants as stage
 use Rattle.wasi_udp.specs.Receive.{receive_start, wanting}
 use Rattle.wasi_udp.specs.Shape.{Socket}
-use Rattle.wasi_records.specs.Looks.{accept_looked, connect_looked, ready_idle, ready_listening, ready_socket_by}
-use Rattle.wasi_records.specs.Names.{next_name}
-use Rattle.wasi_records.specs.Receiving.{fetch_asks, look_incoming, poll_receive_asks, receive_left, with_receiving}
+use Rattle.tcp_records.specs.Looks.{accept_looked, connect_looked, ready_idle, ready_listening, ready_socket_by}
+use Rattle.record_common.specs.Names.{next_name}
+use Rattle.udp_records.specs.Receiving.{fetch_asks, look_incoming, poll_receive_asks, receive_left, with_receiving}
 use Rattle.wasi_records.specs.Records.{open_at, open_put, tcp2_at}
-use Rattle.wasi_records.specs.declared.datagrams.Incoming.{Incoming}
-use Rattle.wasi_records.specs.declared.datagrams.Receiving.{Receiving}
-use Rattle.wasi_records.specs.declared.udp.OpenUdp.{OpenUdp}
+use Rattle.udp_records.specs.declared.datagrams.Incoming.{Incoming}
+use Rattle.udp_records.specs.declared.datagrams.Receiving.{Receiving}
+use Rattle.udp_records.specs.declared.udp.OpenUdp.{OpenUdp}
 use Rattle.host_udp.specs.DatagramCalls.{begins_receive, incoming_looked, ready_incoming_at}
 use Rattle.host_store.specs.Readiness.{ready_at, ready_put}
 use Rattle.host_store.specs.declared.kind.Watched.TheVariants as watched

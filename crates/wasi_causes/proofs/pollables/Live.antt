@@ -8,6 +8,7 @@ use Rattle.wasi_host.specs.declared.polling.Look.TheVariants.{First}
 use Rattle.wasi_host.specs.Polling.{Found}
 use Rattle.wasi_steps.specs.declared.reply.Reply.TheVariants as reply
 use Rattle.wasi_steps.specs.declared.guest_call.GuestCall.TheVariants as guest
+use Rattle.wasi_steps.specs.declared.guest_call.PollableCall.TheVariants as pollable_call
 use Rattle.wasi_steps.specs.declared.step.Step.TheVariants as step
 use Rattle.wasi_walks.specs.Missing.{MissesOneOf, MissesWatched}
 use Rattle.wasi_causes.proofs.pollables.Looks.{LookKeeps, ReadyRow, begins_there, keeps_same, keeps_then, missed_before, missed_one, ready_facts, stay_same}
@@ -34,11 +35,11 @@ module _ (contexts : List WasiSocketsCtx) (m : Machine) (line c p : ℕ) where
   kept_so es (Err (Trap NoSuchHandle), after) k = (subst (LookKeeps m) (sym k.1.2) (keeps_same m), inl refl)
   kept_so es (Err _, after) k = absurd k.1
 
-  ready_kept : m.store.standing ≡ None → (es : List Entry) (r : Reply) (after : Machine) → Answered contexts m line (step.Call c (guest.Ready p)) es r after → KeptBy r after
+  ready_kept : m.store.standing ≡ None → (es : List Entry) (r : Reply) (after : Machine) → Answered contexts m line (step.Call c (guest.Pollable (pollable_call.Ready p))) es r after → KeptBy r after
   ready_kept free es r after w =
-      met {Row = λ gs done. KeptBy done.0 done.1} {a = (r, after)} (onto _ (widen kept_so (ready_facts m (first_ids line) p))) (subst (λ (o : Option Standing). Left (asks_while contexts m line (step.Call c (guest.Ready p)) o) es (Give (r, after))) free w)
+      met {Row = λ gs done. KeptBy done.0 done.1} {a = (r, after)} (onto _ (widen kept_so (ready_facts m (first_ids line) p))) (subst (λ (o : Option Standing). Left (asks_while contexts m line (step.Call c (guest.Pollable (pollable_call.Ready p))) o) es (Give (r, after))) free w)
 
-  pub ready_free : m.store.standing ≡ None → (es : List Entry) (r : Reply) (after : Machine) → Answered contexts m line (step.Call c (guest.Ready p)) es r after → after.store.standing ≡ None
+  pub ready_free : m.store.standing ≡ None → (es : List Entry) (r : Reply) (after : Machine) → Answered contexts m line (step.Call c (guest.Pollable (pollable_call.Ready p))) es r after → after.store.standing ≡ None
   ready_free free es r after w = (ready_kept free es r after w).0.standing ∙ free
 
   look_kept : m.store.standing ≡ None → {look : Look} (es : List Entry) (r : Reply) (after : Machine) → r ≢ reply.Trap NoSuchHandle → LooksAs contexts m c line p look es r after → LookKeeps m after × (MissesWatched m (watch_of (kind_at m.table p)) → ⊥)

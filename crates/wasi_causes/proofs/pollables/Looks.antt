@@ -7,19 +7,20 @@ use Rattle.wasi_tcp.specs.Reader.{reader_ready_asks}
 use Rattle.wasi_tcp.specs.Writer.{look_asks}
 use Rattle.wasi_jobs.specs.declared.job.HostJob.TheVariants.{Receive}
 use Rattle.host_store.specs.declared.kind.Watched.TheVariants as watched
-use Rattle.wasi_records.specs.declared.tcp_listening.Listening.TheVariants as listening
+use Rattle.tcp_records.specs.declared.tcp_listening.Listening.TheVariants as listening
 use Rattle.wasi_host.specs.declared.polling.Look.{Look}
 use Rattle.wasi_host.specs.declared.polling.Look.TheVariants.{First, Later}
 use Rattle.wasi_records.specs.declared.records.Record.{Record}
-use Rattle.wasi_records.specs.declared.udp.OpenUdp.{OpenUdp}
-use Rattle.wasi_records.specs.declared.udp.UdpRecord.{UdpRecord}
-use Rattle.wasi_records.specs.declared.udp.UdpRecord.TheVariants.{Open}
+use Rattle.udp_records.specs.declared.udp.OpenUdp.{OpenUdp}
+use Rattle.udp_records.specs.declared.udp.UdpRecord.{UdpRecord}
+use Rattle.udp_records.specs.declared.udp.UdpRecord.TheVariants.{Open}
 use Rattle.host_udp.specs.DatagramCalls.{begins_receive, ready_incoming_at}
 use Rattle.wasi_host.specs.Polling.{begins_at, begins_on, look_at_pollable, look_later, tcp_begins, udp_begins}
 use Rattle.host_store.specs.Readiness.{ready_at, ready_put, ready_record}
-use Rattle.wasi_records.specs.Looks.{ready_idle, ready_listening, ready_reader, ready_socket, ready_socket_by, ready_writer}
-use Rattle.wasi_records.specs.Receiving.{look_incoming}
-use Rattle.wasi_records.specs.Records.{open_at, open_of, open_put, tcp2_at, tcp2_put, udp2_at}
+use Rattle.tcp_records.specs.Looks.{ready_idle, ready_listening, ready_reader, ready_socket, ready_socket_by, ready_writer}
+use Rattle.udp_records.specs.Receiving.{look_incoming}
+use Rattle.wasi_records.specs.Records.{open_at, open_put, tcp2_at, tcp2_put, udp2_at}
+use Rattle.udp_records.specs.Udp.{open_of}
 use Rattle.host_store.specs.Store.{with_open_udp}
 use Rattle.wasi_walks.proofs.walks.Udp.{open_is}
 use Rattle.wasi_walks.specs.Missing.{MissesOneOf, MissesRecord, MissesWatched}

@@ -5,14 +5,15 @@ use Rattle.wasi_causes.proofs.Words.{Option}
 use Rattle.wasi_causes.proofs.Words.{Some, TcpRecord}
 use Rattle.wasi_causes.proofs.Words.{ap, inl, inr}
 use Rattle.wasi_causes.proofs.Words.{refl, subst, sym}
-use Rattle.wasi_records.specs.Looks.{socket_begins}
+use Rattle.tcp_records.specs.Looks.{socket_begins}
 use Rattle.wasi_causes.proofs.Words.{None, [], slice_get, suc, zero, ◌∷◌, ◌⊎◌}
 use Rattle.wasi_records.specs.Numbered.{record_gone}
-use Rattle.wasi_records.specs.Records.{open_at, open_of, open_put, tcp2_at, tcp2_of, tcp2_put, udp2_at, udp2_of}
+use Rattle.wasi_records.specs.Records.{open_at, open_put, tcp2_at, tcp2_of, tcp2_put, udp2_at, udp2_of}
+use Rattle.udp_records.specs.Udp.{open_of}
 use Rattle.wasi_records.specs.declared.records.Record.{Record}
-use Rattle.wasi_records.specs.declared.udp.OpenUdp.{OpenUdp}
-use Rattle.wasi_records.specs.declared.udp.UdpRecord.{UdpRecord}
-use Rattle.wasi_records.specs.declared.udp.UdpRecord.TheVariants.{Open}
+use Rattle.udp_records.specs.declared.udp.OpenUdp.{OpenUdp}
+use Rattle.udp_records.specs.declared.udp.UdpRecord.{UdpRecord}
+use Rattle.udp_records.specs.declared.udp.UdpRecord.TheVariants.{Open}
 use Rattle.wasi_host.specs.Polling.{tcp_begins, udp_begins}
 use Rattle.wasi_walks.proofs.Places.{other_put, put_either, tcp_sort, udp_sort}
 use Rattle.wasi_walks.proofs.fits.Records.{FitListening}

@@ -5,27 +5,27 @@ use Rattle.wasi_world.specs.declared.ids.Ids.{Ids}
 use Rattle.wasi_tcp.specs.declared.listener.Accepting.{Accepting}
 use Rattle.wasi_tcp.specs.declared.listener.Accepting.TheVariants as accepting
 use Rattle.wasi_tcp.specs.Listener.{has_accept, ids_after}
-use Rattle.wasi_records.specs.declared.tcp_binding.AsyncOperation.TheVariants as operation
-use Rattle.wasi_records.specs.declared.tcp_binding.InProgress.TheVariants as doing
-use Rattle.wasi_records.specs.declared.datagrams.Incoming.{Incoming}
-use Rattle.wasi_records.specs.declared.datagrams.Receiving.{Receiving}
-use Rattle.wasi_records.specs.declared.datagrams.Receiving.TheVariants as receiving
+use Rattle.tcp_records.specs.declared.tcp_binding.AsyncOperation.TheVariants as operation
+use Rattle.tcp_records.specs.declared.tcp_binding.InProgress.TheVariants as doing
+use Rattle.udp_records.specs.declared.datagrams.Incoming.{Incoming}
+use Rattle.udp_records.specs.declared.datagrams.Receiving.{Receiving}
+use Rattle.udp_records.specs.declared.datagrams.Receiving.TheVariants as receiving
 use Rattle.host_store.specs.declared.kind.Watched.TheVariants as watched
-use Rattle.wasi_records.specs.declared.tcp_listening.Listening.{Listening}
-use Rattle.wasi_records.specs.declared.tcp_listening.Listening.TheVariants as listening
+use Rattle.tcp_records.specs.declared.tcp_listening.Listening.{Listening}
+use Rattle.tcp_records.specs.declared.tcp_listening.Listening.TheVariants as listening
 use Rattle.wasi_host.specs.declared.polling.Look.{Look}
-use Rattle.wasi_records.specs.declared.udp.OpenUdp.{OpenUdp}
+use Rattle.udp_records.specs.declared.udp.OpenUdp.{OpenUdp}
 use Rattle.host_udp.specs.DatagramCalls.{incoming_names}
-use Rattle.wasi_records.specs.Listening.{ids_of}
+use Rattle.tcp_records.specs.Listening.{ids_of}
 use Rattle.wasi_host.specs.Pollables.{ids_after_ready, ready_ids_on}
-use Rattle.wasi_records.specs.Names.{names_after}
-use Rattle.wasi_records.specs.Looks.{begins_accept}
-use Rattle.wasi_records.specs.Receiving.{would_receive, has_none}
+use Rattle.record_common.specs.Names.{names_after}
+use Rattle.tcp_records.specs.Looks.{begins_accept}
+use Rattle.udp_records.specs.Receiving.{would_receive, has_none}
 use Rattle.wasi_host.specs.Polling.{Found, begins_at, begins_on, found_of, is_ready, ready_places, tcp_begins, udp_begins}
-use Rattle.wasi_records.specs.Looks.{idle_ids, socket_ids}
+use Rattle.tcp_records.specs.Looks.{idle_ids, socket_ids}
 use Rattle.host_store.specs.Readiness.{ready_ids, ready_ids_at}
 use Rattle.wasi_records.specs.Records.{open_at, tcp2_at}
-use Rattle.wasi_records.specs.Receiving.{fetch_names, look_names}
+use Rattle.udp_records.specs.Receiving.{fetch_names, look_names}
 use Rattle.wasi_world.specs.declared.call.Entry.{Entry}
 use Rattle.wasi_causes.specs.PollableCalls.{AreDifferent, LooksInTurn, NoMore, OneMore, RisesFrom, different, is_among, not_among, pollables_of}
 

@@ -4,7 +4,7 @@ use Rattle.wasi_world.specs.declared.ids.Ids.{Ids}
 use Rattle.host_store.specs.declared.store.BlockingCall.{BlockingCall}
 use Rattle.host_store.specs.declared.store.BlockingCall.TheVariants as blocking
 use Rattle.wasi_host.specs.declared.polling.Look.TheVariants.{Later}
-use Rattle.wasi_records.specs.Names.{first_ids}
+use Rattle.record_common.specs.Names.{first_ids}
 use Rattle.wasi_host.specs.Pending.{gone_on, places_on, unblock_asks}
 use Rattle.wasi_steps.specs.declared.reply.Reply.TheVariants as reply
 use Rattle.wasi_steps.specs.Reply.{numbers_fields}

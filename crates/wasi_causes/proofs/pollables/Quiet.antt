@@ -15,13 +15,14 @@ use Rattle.wasi_host.specs.Polling.{Found, begins_at}
 use Rattle.wasi_steps.specs.Steps.{context_of}
 use Rattle.wasi_steps.specs.declared.reply.Reply.TheVariants as reply
 use Rattle.wasi_steps.specs.declared.guest_call.GuestCall.TheVariants as guest
+use Rattle.wasi_steps.specs.declared.guest_call.PollableCall.TheVariants as pollable_call
 use Rattle.wasi_steps.specs.declared.step.Step.TheVariants as step
 use Rattle.wasi_walks.proofs.Lists.{has_front}
 use Rattle.wasi_walks.proofs.fits.Law.{Fit, whatever}
 use Rattle.wasi_causes.proofs.Fitted.{Fitted, beside_fits, first_fitted, line_fitted}
 use Rattle.wasi_walks.proofs.fits.Datagrams.{FitBeside}
-use Rattle.wasi_records.specs.Records.{open_of}
-use Rattle.wasi_records.specs.declared.udp.OpenUdp.{OpenUdp}
+use Rattle.udp_records.specs.Udp.{open_of}
+use Rattle.udp_records.specs.declared.udp.OpenUdp.{OpenUdp}
 use Rattle.host_store.specs.Beside.{beside_of}
 use Rattle.host_store.specs.declared.beside.Beside.{Beside}
 use Rattle.host_store.specs.declared.beside.BesideCall.{BesideCall}
@@ -197,10 +198,10 @@ module _ (contexts : List WasiSocketsCtx) (m : Machine) (c : ℕ) (p : ℕ) (fit
       after × (begins_at after p ≡ false)
   looks_so line may b e (on.LooksFirst es r after w) = finds_none m fits (first_ids line) p {look = First} tt es b after
       ((first_so contexts m line c p free es b after).1
-      (subst (λ (x : Reply). Answered contexts m line (step.Call c (guest.Ready p)) es x after) e w))
+      (subst (λ (x : Reply). Answered contexts m line (step.Call c (guest.Pollable (pollable_call.Ready p))) es x after) e w))
   looks_so line may b e (on.LooksAgain es r after none w) = finds_none m fits (first_ids line) p {look = First} tt es b
       after ((first_so contexts m line c p free es b after).1
-      (subst (λ (x : Reply). Answered contexts m line (step.Call c (guest.Ready p)) es x after) e w))
+      (subst (λ (x : Reply). Answered contexts m line (step.Call c (guest.Pollable (pollable_call.Ready p))) es x after) e w))
   looks_so line may b e (on.WouldBegin begins) = absurd (let none = may p (inl refl) in cc)
 
   block_quiet : (ids : Ids) {look : Look} → MayBegin look m (p ∷ []) → {es : List Entry} {r : Reply} {after : Machine} →
@@ -357,13 +358,13 @@ module _ (contexts : List WasiSocketsCtx) (m : Machine) (line : ℕ) (fits : Acc
     quiet_after step.Turn free w row = turn_quiet es r after w row
     quiet_after (step.Poll n) free w row = poll_quiet n es r after free w row m.store.standing refl
     quiet_after (step.Cancel n) free w row = cancel_quiet n es r after row
-    quiet_after (step.Call c (guest.Ready p)) free w row = free_quiet after (ready_free contexts m line c p
-        (nothing_pending (step.Call c (guest.Ready p)) refl free m.store.standing refl) es r after w)
-    quiet_after (step.Call c (guest.Block p)) free w row =
-        let none = nothing_pending (step.Call c (guest.Block p)) refl free m.store.standing refl in block_quiet contexts
+    quiet_after (step.Call c (guest.Pollable (pollable_call.Ready p))) free w row = free_quiet after (ready_free contexts m line c p
+        (nothing_pending (step.Call c (guest.Pollable (pollable_call.Ready p))) refl free m.store.standing refl) es r after w)
+    quiet_after (step.Call c (guest.Pollable (pollable_call.Block p))) free w row =
+        let none = nothing_pending (step.Call c (guest.Pollable (pollable_call.Block p))) refl free m.store.standing refl in block_quiet contexts
         m c p fits none (first_ids line) {look = First} tt (row.0 none)
-    quiet_after (step.Call c (guest.PollList ps)) free w row = begun_quiet m fits
-        (nothing_pending (step.Call c (guest.PollList ps)) refl free m.store.standing refl) line ps row.0
+    quiet_after (step.Call c (guest.Pollable (pollable_call.PollList ps))) free w row = begun_quiet m fits
+        (nothing_pending (step.Call c (guest.Pollable (pollable_call.PollList ps))) refl free m.store.standing refl) line ps row.0
     quiet_after s free w row = by_guest s refl (λ k. k) free es r after w
 
   by_answer : (s : Step) (es : List Entry) (r : Reply) (after : Machine) → Answered contexts m line s es r after →

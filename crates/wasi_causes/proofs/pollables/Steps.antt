@@ -6,6 +6,7 @@ use Rattle.wasi_host.specs.Polling.{are_pollables, block_by, poll_asks, poll_whe
 use Rattle.wasi_machine.specs.Machine.{answer_reply_of}
 use Rattle.wasi_steps.specs.Reply.{numbers_fields, no_values}
 use Rattle.wasi_steps.specs.declared.guest_call.GuestCall.TheVariants as guest
+use Rattle.wasi_steps.specs.declared.guest_call.PollableCall.TheVariants as pollable_call
 use Rattle.wasi_steps.specs.declared.step.Step.TheVariants as step
 use Rattle.wasi_walks.specs.Missing.{MissesOneOf, MissesWatched}
 use Rattle.wasi_causes.proofs.pollables.Waits.{BlockRow, WaitRow, blocks_on, waits_on}
@@ -38,7 +39,7 @@ module _ (contexts : List WasiSocketsCtx) (m : Machine) (line c : ℕ) where
   -- == for one
   module _ (p : ℕ) where
     abbrev OneRow : Rows (Result (Answer (Unit {0})) Stop × Machine)
-    OneRow es done = Outcome contexts m line (step.Call c (guest.Block p)) es (answer_reply_of no_values line done.0) done.1
+    OneRow es done = Outcome contexts m line (step.Call c (guest.Pollable (pollable_call.Block p))) es (answer_reply_of no_values line done.0) done.1
 
     said : (es : List Entry) (done : Result (Answer (Unit {0})) Stop × Machine) → BlockRow contexts m c (first_ids line) p First es done → OneRow es done
     said es (Ok (Ready given), after) k = (k.0, (tt, tt))
@@ -46,13 +47,13 @@ module _ (contexts : List WasiSocketsCtx) (m : Machine) (line c : ℕ) where
     said es (Err (Trap NoSuchHandle), after) k = (k.0, (k.1, (k.2, k.3)))
     said es (Err _, after) k = absurd k
 
-    pub block : Meets (Says contexts m line (step.Call c (guest.Block p))) [] (bind (block_by First m (first_ids line) p) (λ done. Give (answer_reply_of no_values line done.0, done.1)))
+    pub block : Meets (Says contexts m line (step.Call c (guest.Pollable (pollable_call.Block p)))) [] (bind (block_by First m (first_ids line) p) (λ done. Give (answer_reply_of no_values line done.0, done.1)))
     block = onto _ (widen said (blocks_on contexts m c (first_ids line) p First))
 
   -- == for several
   module _ (ps : List ℕ) where
     abbrev SeveralRow : Rows (Result (Answer (List ℕ)) Stop × Machine)
-    SeveralRow es done = Outcome contexts m line (step.Call c (guest.PollList ps)) es (answer_reply_of numbers_fields line done.0) done.1
+    SeveralRow es done = Outcome contexts m line (step.Call c (guest.Pollable (pollable_call.PollList ps))) es (answer_reply_of numbers_fields line done.0) done.1
 
     module _ (some : ps ≢ []) where
       told : are_pollables m ps ≡ true → (es : List Entry) (done : Result (Answer (List ℕ)) Stop × Machine) → WaitRow First m (first_ids line) ps es done → SeveralRow es done
@@ -69,5 +70,5 @@ module _ (contexts : List WasiSocketsCtx) (m : Machine) (line c : ℕ) where
   by_list [] = ends (ForNone refl, (refl, (refl, refl)))
   by_list (p ∷ ps) = by_handles (p ∷ ps) (λ e. cc) (are_pollables m (p ∷ ps)) refl
 
-  pub poll_list : (ps : List ℕ) → Meets (Says contexts m line (step.Call c (guest.PollList ps))) [] (bind (poll_asks m (first_ids line) ps) (λ done. Give (answer_reply_of numbers_fields line done.0, done.1)))
+  pub poll_list : (ps : List ℕ) → Meets (Says contexts m line (step.Call c (guest.Pollable (pollable_call.PollList ps)))) [] (bind (poll_asks m (first_ids line) ps) (λ done. Give (answer_reply_of numbers_fields line done.0, done.1)))
   poll_list ps = onto _ (by_list ps)

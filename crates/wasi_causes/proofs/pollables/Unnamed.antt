@@ -4,21 +4,21 @@ use Rattle.wasi_world.specs.declared.ids.Ids.{Ids}
 use Rattle.wasi_tcp.specs.Listener.{accept_asks, begun, has_accept}
 use Rattle.wasi_tcp.specs.declared.listener.Accepting.{Accepting}
 use Rattle.wasi_tcp.specs.declared.listener.Accepting.TheVariants as accepting
-use Rattle.wasi_records.specs.declared.datagrams.Incoming.{Incoming}
-use Rattle.wasi_records.specs.declared.datagrams.Receiving.{Receiving}
-use Rattle.wasi_records.specs.declared.datagrams.Receiving.TheVariants as receiving
+use Rattle.udp_records.specs.declared.datagrams.Incoming.{Incoming}
+use Rattle.udp_records.specs.declared.datagrams.Receiving.{Receiving}
+use Rattle.udp_records.specs.declared.datagrams.Receiving.TheVariants as receiving
 use Rattle.host_store.specs.declared.kind.Watched.TheVariants as watched
-use Rattle.wasi_records.specs.declared.tcp_listening.Listening.TheVariants as listening
-use Rattle.wasi_records.specs.declared.udp.OpenUdp.{OpenUdp}
+use Rattle.tcp_records.specs.declared.tcp_listening.Listening.TheVariants as listening
+use Rattle.udp_records.specs.declared.udp.OpenUdp.{OpenUdp}
 use Rattle.wasi_udp.specs.Shape.{Socket}
 use Rattle.host_udp.specs.DatagramCalls.{incoming_looked, ready_incoming_at}
-use Rattle.wasi_records.specs.Names.{next_name}
-use Rattle.wasi_records.specs.Looks.{begins_accept, socket_begins}
-use Rattle.wasi_records.specs.Receiving.{would_receive, has_none}
+use Rattle.record_common.specs.Names.{next_name}
+use Rattle.tcp_records.specs.Looks.{begins_accept, socket_begins}
+use Rattle.udp_records.specs.Receiving.{would_receive, has_none}
 use Rattle.wasi_host.specs.Polling.{begins_at, begins_on, tcp_begins, udp_begins}
-use Rattle.wasi_records.specs.Looks.{accept_looked, ready_idle, ready_listening, ready_socket_by}
+use Rattle.tcp_records.specs.Looks.{accept_looked, ready_idle, ready_listening, ready_socket_by}
 use Rattle.host_store.specs.Readiness.{ready_at, ready_put}
-use Rattle.wasi_records.specs.Receiving.{fetch_asks, look_incoming, with_incoming}
+use Rattle.udp_records.specs.Receiving.{fetch_asks, look_incoming, with_incoming}
 use Rattle.wasi_records.specs.Records.{open_at, tcp2_at}
 use Rattle.host_store.specs.Store.{Records}
 

@@ -7,6 +7,7 @@ use Rattle.wasi_host.specs.declared.polling.Look.TheVariants.{First, Later}
 use Rattle.wasi_host.specs.Polling.{Found, begins_at, block_by, blocked_on, look_later, places_given, poll_by, polled_each, ready_places}
 use Rattle.wasi_steps.specs.declared.reply.Reply.TheVariants as reply
 use Rattle.wasi_steps.specs.declared.guest_call.GuestCall.TheVariants as guest
+use Rattle.wasi_steps.specs.declared.guest_call.PollableCall.TheVariants as pollable_call
 use Rattle.wasi_steps.specs.declared.step.Step.TheVariants as step
 use Rattle.wasi_steps.specs.Reply.{numbers_fields}
 use Rattle.wasi_walks.specs.Missing.{MissesOneOf, MissesWatched}
@@ -35,9 +36,9 @@ module _ (contexts : List WasiSocketsCtx) (m : Machine) (c : ℕ) (ids : Ids) (p
     BlockRow es (Err (Trap NoSuchHandle), after) = Comes es (reply.Trap NoSuchHandle) after × MissesWatched m (watch_of (kind_at m.table p)) × (es ≡ []) × (after ≡ m)
     BlockRow es (Err _, after) = ⊥
 
-    module _ (its : (es : List Entry) (r : Reply) (after : Machine) → Answered contexts m ids.line (step.Call c (guest.Ready p)) es r after → LooksAs contexts m c ids.line p look es r after) where
-      did : (es : List Entry) (given : Result Bool Stop) (after : Machine) → Left (ready_asks m (first_ids ids.line) p) es (Give (given, after)) → m.store.standing ≡ None → Answered contexts m ids.line (step.Call c (guest.Ready p)) es (truth_reply given) after
-      did es given after w free = answers_part contexts m ids.line (step.Call c (guest.Ready p)) (ready_asks m (first_ids ids.line) p) truth_reply refl free es given after w
+    module _ (its : (es : List Entry) (r : Reply) (after : Machine) → Answered contexts m ids.line (step.Call c (guest.Pollable (pollable_call.Ready p))) es r after → LooksAs contexts m c ids.line p look es r after) where
+      did : (es : List Entry) (given : Result Bool Stop) (after : Machine) → Left (ready_asks m (first_ids ids.line) p) es (Give (given, after)) → m.store.standing ≡ None → Answered contexts m ids.line (step.Call c (guest.Pollable (pollable_call.Ready p))) es (truth_reply given) after
+      did es given after w free = answers_part contexts m ids.line (step.Call c (guest.Pollable (pollable_call.Ready p))) (ready_asks m (first_ids ids.line) p) truth_reply refl free es given after w
 
       looked : (es : List Entry) (done : Result Bool Stop × Machine) → ReadyRow m (first_ids ids.line) p es done → BlockRow es (blocked_on (first_ids ids.line) p done)
       looked es (Ok true, after) k = (λ free. IsReady es after (its es (reply.Ok (truth_fields true)) after (did es (Ok true) after k.0 free)), k.1.0)
@@ -45,7 +46,7 @@ module _ (contexts : List WasiSocketsCtx) (m : Machine) (c : ℕ) (ids : Ids) (p
       looked es (Err (Trap NoSuchHandle), after) k =
           (λ free. missing (did es (Err (Trap NoSuchHandle)) after k.0 free), k.1.0, k.1.1, k.1.2)
         where
-          missing : Answered contexts m ids.line (step.Call c (guest.Ready p)) es (reply.Trap NoSuchHandle) after → BlocksOn contexts m c ids p look es (reply.Trap NoSuchHandle) after
+          missing : Answered contexts m ids.line (step.Call c (guest.Pollable (pollable_call.Ready p))) es (reply.Trap NoSuchHandle) after → BlocksOn contexts m c ids p look es (reply.Trap NoSuchHandle) after
           missing a = subst (λ (x : Machine). BlocksOn contexts m c ids p look es (reply.Trap NoSuchHandle) x) (sym k.1.2) (subst (λ (xs : List Entry). BlocksOn contexts m c ids p look xs (reply.Trap NoSuchHandle) m) (sym k.1.1)
               (IsMissing k.1.0 (subst (λ (x : Machine). LooksAs contexts m c ids.line p look [] (reply.Trap NoSuchHandle) x) k.1.2 (subst (λ (xs : List Entry). LooksAs contexts m c ids.line p look xs (reply.Trap NoSuchHandle) after) k.1.1 (its es (reply.Trap NoSuchHandle) after a)))))
       looked es (Err _, after) k = absurd k.1

@@ -16,8 +16,8 @@ use Rattle.host_tcp.specs.Listens.{relistens}
 use Rattle.host_udp.specs.SocketDatagrams.{drop_datagram, drop_udp, is_udp_held, polled as block_polled, without_udp_handle}
 use Rattle.host_store.specs.Store.{with_open_udp}
 use Rattle.host_udp.specs.UdpCreates.{udp_side_at}
-use Rattle.wasi_records.specs.Holding.{drop_listener_asks}
-use Rattle.wasi_records.specs.declared.tcp_listening.Listening.TheVariants.{Not}
+use Rattle.tcp_records.specs.Holding.{drop_listener_asks}
+use Rattle.tcp_records.specs.declared.tcp_listening.Listening.TheVariants.{Not}
 use Rattle.host_tcp.specs.Binds.{stands_of}
 use Rattle.host_udp.specs.UdpBinds.{udp_stands_of}
 use Rattle.host_store.specs.BaseStops.{trap_of}
@@ -30,28 +30,29 @@ use Rattle.wasi_world.specs.declared.ids.Ids.{Ids}
 use Rattle.wasi_world.specs.declared.outcome.Answer.TheVariants.{Pending, Ready}
 use Rattle.wasi_jobs.specs.declared.job.HostJob.{HostJob}
 use Rattle.wasi_jobs.specs.declared.job.HostJob.TheVariants as host_job
-use Rattle.wasi_records.specs.Datagrams.{poll_udp_connecting, turn_outgoing, turn_sending, udp_reconnecting}
-use Rattle.wasi_records.specs.Ends.{shut_half}
-use Rattle.wasi_records.specs.Holding.{let_go_asks, let_go_by, is_held}
-use Rattle.wasi_records.specs.NameLookup.{turn_lookup, turn_lookup_at}
-use Rattle.wasi_records.specs.Receiving.{turn_incoming, turn_receiving}
-use Rattle.wasi_records.specs.Looks.{wait_writer}
+use Rattle.udp_records.specs.Datagrams.{poll_udp_connecting, turn_outgoing, turn_sending, udp_reconnecting}
+use Rattle.tcp_records.specs.Ends.{shut_half}
+use Rattle.tcp_records.specs.Holding.{let_go_asks, let_go_by, is_held}
+use Rattle.lookup_records.specs.NameLookup.{turn_lookup}
+use Rattle.wasi_records.specs.Records.{turn_lookup_at}
+use Rattle.udp_records.specs.Receiving.{turn_incoming, turn_receiving}
+use Rattle.tcp_records.specs.Looks.{wait_writer}
 use Rattle.wasi_records.specs.Records.{lookup_at, open_at, tcp2_at, udp2_at}
-use Rattle.wasi_records.specs.Udp.{close_udp_asks, poll_create_asks, poll_udp_binding}
-use Rattle.wasi_records.specs.declared.datagrams.Incoming.{Incoming}
-use Rattle.wasi_records.specs.declared.datagrams.Outgoing.{Outgoing}
-use Rattle.wasi_records.specs.declared.datagrams.Receiving.{Receiving}
-use Rattle.wasi_records.specs.declared.datagrams.Receiving.TheVariants as receiving
-use Rattle.wasi_records.specs.declared.datagrams.Sending.{Sending}
-use Rattle.wasi_records.specs.declared.datagrams.Sending.TheVariants as sending
-use Rattle.wasi_records.specs.declared.name_lookup.Lookup.{Lookup}
-use Rattle.wasi_records.specs.declared.name_lookup.Lookup.TheVariants as lookup
+use Rattle.udp_records.specs.Udp.{close_udp_asks, poll_create_asks, poll_udp_binding}
+use Rattle.udp_records.specs.declared.datagrams.Incoming.{Incoming}
+use Rattle.udp_records.specs.declared.datagrams.Outgoing.{Outgoing}
+use Rattle.udp_records.specs.declared.datagrams.Receiving.{Receiving}
+use Rattle.udp_records.specs.declared.datagrams.Receiving.TheVariants as receiving
+use Rattle.udp_records.specs.declared.datagrams.Sending.{Sending}
+use Rattle.udp_records.specs.declared.datagrams.Sending.TheVariants as sending
+use Rattle.lookup_records.specs.declared.name_lookup.Lookup.{Lookup}
+use Rattle.lookup_records.specs.declared.name_lookup.Lookup.TheVariants as lookup
 use Rattle.wasi_records.specs.declared.records.Record.{Record}
-use Rattle.wasi_records.specs.declared.udp.OpenUdp.{OpenUdp}
-use Rattle.wasi_records.specs.declared.udp.UdpInProgress.{UdpInProgress}
-use Rattle.wasi_records.specs.declared.udp.UdpInProgress.TheVariants as udp_doing
-use Rattle.wasi_records.specs.declared.udp.UdpRecord.{UdpRecord}
-use Rattle.wasi_records.specs.declared.udp.UdpRecord.TheVariants as udp
+use Rattle.udp_records.specs.declared.udp.OpenUdp.{OpenUdp}
+use Rattle.udp_records.specs.declared.udp.UdpInProgress.{UdpInProgress}
+use Rattle.udp_records.specs.declared.udp.UdpInProgress.TheVariants as udp_doing
+use Rattle.udp_records.specs.declared.udp.UdpRecord.{UdpRecord}
+use Rattle.udp_records.specs.declared.udp.UdpRecord.TheVariants as udp
 use Rattle.wasi_udp.specs.Shape.{Socket as UdpShape}
 use Rattle.host_tcp.specs.ConnectionEnds.{end_goes, open_in, shut_at}
 use Rattle.host_udp.specs.DatagramCalls.{mark_streams_of, outgoing_made, streams_so}
@@ -76,7 +77,7 @@ use Rattle.wasi_udp.specs.Receive.{wanting}
 use Rattle.wasi_udp.specs.Send.{at_remote}
 use Rattle.host_udp.specs.SocketDatagrams.{receive_polls, send_polls}
 use Rattle.host_udp.specs.SocketDatagrams.{received_answer}
-use Rattle.wasi_records.specs.Binding.{bind_answer}
+use Rattle.record_common.specs.Binding.{bind_answer}
 use Rattle.wasi_causes.proofs.reads.Unread.{Unread, and_gives, and_then, asks_one, calls, gives, looks_up, polled}
 use Rattle.wasi_causes.proofs.reads.Sockets.{binds_on, finishes_connect, gives_up, listens_closed, looks, marks, releases, shuts, turns}
 

@@ -28,13 +28,14 @@ use Rattle.wasi_tcp.specs.Halves.{read_asks}
 use Rattle.wasi_tcp.specs.Reader.{read_end_asks}
 use Rattle.wasi_tcp.specs.declared.reader.ReadState.TheVariants as reading
 use Rattle.wasi_records.specs.Records.{tcp2_at}
-use Rattle.wasi_records.specs.Stops.{Code}
+use Rattle.record_common.specs.Stops.{Code}
 use Rattle.host_store.specs.CallStops.{Closed, Failed, Traps}
 use Rattle.host_store.specs.Kinds.{plain_input_of}
 use Rattle.host_streams.specs.StreamCalls.{convert_asks, read_by}
 use Rattle.host_store.specs.declared.kind.Kind.TheVariants.{PlainInput}
 use Rattle.host_store.specs.declared.kind.PlainInput.{PlainInput as APlainInput}
 use Rattle.wasi_steps.specs.declared.guest_call.GuestCall.TheVariants as guest
+use Rattle.wasi_steps.specs.declared.guest_call.StreamCall.TheVariants as stream_call
 use Rattle.wasi_steps.specs.declared.step.Step.TheVariants as step
 use Rattle.wasi_walks.proofs.licence.Runs.{Fine, begun_licensed, runs_fine}
 use Rattle.wasi_walks.proofs.remotes.Along.{same_self, same_true}
@@ -196,7 +197,7 @@ module _ (contexts : List WasiSocketsCtx) (steps : List Step) (log : List Entry)
         one_half : (half : TcpReceiveStream) → IsSide log input half.side → half.side ≡ side
         one_half half t = one_side contexts steps log licensed input half.side side t s
 
-    its_while : IsSide log input side → (o : Option Standing) → Hears side (Its true) (asks_while contexts m line (step.Call ctx (guest.Read input len)) o)
+    its_while : IsSide log input side → (o : Option Standing) → Hears side (Its true) (asks_while contexts m line (step.Call ctx (guest.Stream (stream_call.Read input len))) o)
     its_while s None = its_plain s (plain_input_of (kind_at m.table input)) refl
     its_while s (Some c) = refl
 
@@ -210,13 +211,13 @@ module _ (contexts : List WasiSocketsCtx) (steps : List Step) (log : List Entry)
         by_test half t false e = e
         by_test half t true e = absurd (n (subst (IsSide log input) (same_true half.side side e) t))
 
-    other_while : (IsSide log input side → ⊥) → (o : Option Standing) → Hears side (Its false) (asks_while contexts m line (step.Call ctx (guest.Read input len)) o)
+    other_while : (IsSide log input side → ⊥) → (o : Option Standing) → Hears side (Its false) (asks_while contexts m line (step.Call ctx (guest.Stream (stream_call.Read input len))) o)
     other_while n None = other_plain n (plain_input_of (kind_at m.table input))
     other_while n (Some c) = refl
 
-    module _ (es : List Entry) (r : Reply) (after : Machine) (a : Answered contexts m line (step.Call ctx (guest.Read input len)) es r after) where
+    module _ (es : List Entry) (r : Reply) (after : Machine) (a : Answered contexts m line (step.Call ctx (guest.Stream (stream_call.Read input len))) es r after) where
       pub its_told : IsSide log input side → told_in side es ≡ handed_out r
-      its_told s = hears_left side (Its true) (asks_while contexts m line (step.Call ctx (guest.Read input len)) m.store.standing) es (r, after) (its_while s m.store.standing) a
+      its_told s = hears_left side (Its true) (asks_while contexts m line (step.Call ctx (guest.Stream (stream_call.Read input len))) m.store.standing) es (r, after) (its_while s m.store.standing) a
 
       pub others_told : (IsSide log input side → ⊥) → told_in side es ≡ []
-      others_told n = hears_left side (Its false) (asks_while contexts m line (step.Call ctx (guest.Read input len)) m.store.standing) es (r, after) (other_while n m.store.standing) a
+      others_told n = hears_left side (Its false) (asks_while contexts m line (step.Call ctx (guest.Stream (stream_call.Read input len))) m.store.standing) es (r, after) (other_while n m.store.standing) a

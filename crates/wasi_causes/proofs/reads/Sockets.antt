@@ -21,12 +21,12 @@ use Rattle.wasi_tcp.specs.declared.listener.Accepting.TheVariants as accepting
 use Rattle.wasi_tcp.specs.declared.reader.ReadState.TheVariants as reading
 use Rattle.wasi_tcp.specs.declared.socket.TcpState.TheVariants as state
 use Rattle.wasi_tcp.specs.declared.writer.WriteState.TheVariants as writing
-use Rattle.wasi_records.specs.Binding.{bind_begun, poll_binding}
-use Rattle.wasi_records.specs.Listening.{accept_listening, closed_listening, listen_begun, listen_bound}
-use Rattle.wasi_records.specs.declared.tcp_listening.Listening.TheVariants as listening
-use Rattle.wasi_records.specs.declared.tcp_binding.InProgress.TheVariants as doing
-use Rattle.wasi_records.specs.Shutdowns.{shut_record}
-use Rattle.wasi_records.specs.Sockets.{poll_connect_asks}
+use Rattle.tcp_records.specs.Binding.{bind_begun, poll_binding}
+use Rattle.tcp_records.specs.Listening.{accept_listening, closed_listening, listen_begun, listen_bound}
+use Rattle.tcp_records.specs.declared.tcp_listening.Listening.TheVariants as listening
+use Rattle.tcp_records.specs.declared.tcp_binding.InProgress.TheVariants as doing
+use Rattle.tcp_records.specs.Shutdowns.{shut_record}
+use Rattle.tcp_records.specs.Sockets.{poll_connect_asks}
 use Rattle.wasi_causes.proofs.reads.Unread.{Unread, and_gives, and_then, asks_one, by_if, gives, polled}
 
 -- == a handle, and a socket

@@ -20,13 +20,17 @@ use Rattle.host_store.specs.Limits.{most_of}
 use Rattle.host_tcp.specs.Creates.{with_room}
 use Rattle.host_store.specs.Machine.{with_table}
 use Rattle.host_streams.specs.StreamCalls.{failed_made}
-use Rattle.wasi_records.specs.Sockets.{poll_connect_asks}
+use Rattle.tcp_records.specs.Sockets.{poll_connect_asks}
 use Rattle.wasi_addr.specs.declared.p2.ErrorCode.TheVariants.{NotInProgress}
 use Rattle.host_tcp.specs.Creates.{code_told, same_told}
 use Rattle.host_streams.specs.StreamCalls.{check_by, convert_asks, plain_output_at, write_by}
 use Rattle.host_store.specs.declared.kind.PlainOutput.{PlainOutput}
 use Rattle.wasi_p2.specs.Tcp.{accept_on, accepted_asks, finish_connect, make_streams}
 use Rattle.wasi_steps.specs.declared.guest_call.GuestCall.TheVariants as guest
+use Rattle.wasi_steps.specs.declared.guest_call.TcpCall.TheVariants as tcp_call
+use Rattle.wasi_steps.specs.declared.guest_call.NameCall.TheVariants as name_call
+use Rattle.wasi_steps.specs.declared.guest_call.StreamCall.TheVariants as stream_call
+use Rattle.wasi_steps.specs.declared.guest_call.PollableCall.TheVariants as pollable_call
 use Rattle.wasi_steps.specs.declared.step.Step.TheVariants as step
 use Rattle.wasi_causes.specs.ToldBytes.{ReadsNothing, told_by, told_in}
 use Rattle.wasi_causes.proofs.reads.Unread.{NoRead, Unasked, Unread, and_gives, and_then, by_if, calls, gives, looks_up}
@@ -167,19 +171,19 @@ write_of m own output bytes None = writes_on (λ r w. write_state_asks own w byt
 -- == steps
 module _ (contexts : List WasiSocketsCtx) (m : Machine) (line : ℕ) where
   step_unread : (s : Step) → ReadsNothing s → Unread (step_asks contexts m line s)
-  step_unread (step.Call ctx guest.Network) n = and_gives _ (and_gives _ (marks m.table (own_of line) Network None None))
-  step_unread (step.Call ctx (guest.TcpCreate family)) n = and_gives _ (creates same_told code_told Tcp2 (with_room m (context_at contexts ctx)) (own_of line) (context_at contexts ctx) family)
-  step_unread (step.Call ctx (guest.TcpStartBind s network a)) n = and_gives _ (by_if (is_network (kind_at m.table network)) _ _ (bind_on m (first_ids line) a (socket_at m s)) (gives _))
-  step_unread (step.Call ctx (guest.TcpFinishBind s)) n = gives _
-  step_unread (step.Call ctx (guest.TcpStartConnect s network a)) n = and_gives _ (by_if (is_network (kind_at m.table network)) _ _ (connect_on m (own_of line) a (socket_at m s)) (gives _))
-  step_unread (step.Call ctx (guest.TcpFinishConnect s)) n = and_gives _ (connects (own_of line) s m)
-  step_unread (step.Call ctx (guest.TcpStartListen s)) n = and_gives _ (listen_on m (first_ids line) (socket_at m s))
-  step_unread (step.Call ctx (guest.TcpFinishListen s)) n = gives _
-  step_unread (step.Call ctx (guest.TcpAccept s)) n = and_gives _ (accepts m (first_ids line) s (socket_at m s))
-  step_unread (step.Call ctx (guest.TcpShutdown s how)) n = and_gives _ (shut_on m (own_of line) how (socket_at m s))
-  step_unread (step.Call ctx (guest.CheckWrite output)) n = and_gives _ (check_of m (own_of line) output (plain_output_at m output))
-  step_unread (step.Call ctx (guest.Write output bytes)) n = and_gives _ (write_of m (own_of line) output bytes (plain_output_at m output))
-  step_unread (step.Call ctx (guest.Drop h)) n = and_gives _ (drops_taken m (first_ids line) _)
+  step_unread (step.Call ctx (guest.Names name_call.Network)) n = and_gives _ (and_gives _ (marks m.table (own_of line) Network None None))
+  step_unread (step.Call ctx (guest.Tcp (tcp_call.Create family))) n = and_gives _ (creates same_told code_told Tcp2 (with_room m (context_at contexts ctx)) (own_of line) (context_at contexts ctx) family)
+  step_unread (step.Call ctx (guest.Tcp (tcp_call.StartBind s network a))) n = and_gives _ (by_if (is_network (kind_at m.table network)) _ _ (bind_on m (first_ids line) a (socket_at m s)) (gives _))
+  step_unread (step.Call ctx (guest.Tcp (tcp_call.FinishBind s))) n = gives _
+  step_unread (step.Call ctx (guest.Tcp (tcp_call.StartConnect s network a))) n = and_gives _ (by_if (is_network (kind_at m.table network)) _ _ (connect_on m (own_of line) a (socket_at m s)) (gives _))
+  step_unread (step.Call ctx (guest.Tcp (tcp_call.FinishConnect s))) n = and_gives _ (connects (own_of line) s m)
+  step_unread (step.Call ctx (guest.Tcp (tcp_call.StartListen s))) n = and_gives _ (listen_on m (first_ids line) (socket_at m s))
+  step_unread (step.Call ctx (guest.Tcp (tcp_call.FinishListen s))) n = gives _
+  step_unread (step.Call ctx (guest.Tcp (tcp_call.Accept s))) n = and_gives _ (accepts m (first_ids line) s (socket_at m s))
+  step_unread (step.Call ctx (guest.Tcp (tcp_call.Shutdown s how))) n = and_gives _ (shut_on m (own_of line) how (socket_at m s))
+  step_unread (step.Call ctx (guest.Stream (stream_call.CheckWrite output))) n = and_gives _ (check_of m (own_of line) output (plain_output_at m output))
+  step_unread (step.Call ctx (guest.Stream (stream_call.Write output bytes))) n = and_gives _ (write_of m (own_of line) output bytes (plain_output_at m output))
+  step_unread (step.Call ctx (guest.Pollable (pollable_call.Drop h))) n = and_gives _ (drops_taken m (first_ids line) _)
   step_unread step.Turn n = and_gives _ (machine_turns m)
   step_unread _ n = absurd n
 

@@ -6,7 +6,7 @@ use Rattle.wasi_world.specs.Asks.{Ask}
 use Rattle.wasi_world.specs.Operation.{Given, LastAsk, NothingLast}
 use Rattle.wasi_world.specs.declared.call.Call.TheVariants as call
 use Rattle.wasi_world.proofs.Allowed.{allows_then}
-use Rattle.wasi_records.specs.Stops.{StopOf}
+use Rattle.record_common.specs.Stops.{StopOf}
 use Rattle.host_store.specs.Block.{Does, after_call, or_stop, or_trap}
 use Rattle.wasi_walks.proofs.Fronts.{AsksBy, Checks, PollLaw, polls_by}
 

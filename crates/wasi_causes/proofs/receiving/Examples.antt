@@ -10,6 +10,7 @@ use Rattle.wasi_steps.specs.declared.reply.Field.{Field}
 use Rattle.wasi_steps.specs.Reply.{datagram_values, received_values}
 use Rattle.wasi_steps.specs.declared.reply.Reply.{Reply}
 use Rattle.wasi_steps.specs.declared.guest_call.GuestCall.{GuestCall}
+use Rattle.wasi_steps.specs.declared.guest_call.UdpCall.{UdpCall}
 use Rattle.wasi_steps.specs.declared.step.Step.{Step}
 use Rattle.std.specs.Prelude.{flat_map}
 use Rattle.wasi_causes.specs.ReceivedApart.{NoneInBoth}
@@ -95,7 +96,7 @@ is_replaced k = let p : Some _ ≡ None = k.1.0 in absurd (cc)
 -- == replies
 -- on handle 3, among those of another stream: one, then none yet, then the other
 abbrev steps : List Step
-steps = Step.Call 0 (GuestCall.UdpReceive 3 8) ∷ Step.Call 0 (GuestCall.UdpReceive 5 8) ∷ Step.Call 0 (GuestCall.UdpReceive 3 8) ∷ Step.Turn ∷ Step.Call 0 (GuestCall.UdpReceive 3 8) ∷ []
+steps = Step.Call 0 (GuestCall.Udp (UdpCall.Receive 3 8)) ∷ Step.Call 0 (GuestCall.Udp (UdpCall.Receive 5 8)) ∷ Step.Call 0 (GuestCall.Udp (UdpCall.Receive 3 8)) ∷ Step.Turn ∷ Step.Call 0 (GuestCall.Udp (UdpCall.Receive 3 8)) ∷ []
 
 abbrev replies : List Reply
 replies = Reply.Ok (datagram_values (datagram 3 70 ∷ [])) ∷ Reply.Ok (datagram_values (datagram 9 70 ∷ [])) ∷ Reply.Ok (datagram_values []) ∷ Reply.Ok [] ∷ Reply.Ok (datagram_values (datagram 4 70 ∷ [])) ∷ []
@@ -165,7 +166,7 @@ by_two_apart op h l = elim h [ inl e ↦ elim l [ inl f ↦ none_of op e f | inr
 
 -- == wrong replies
 -- the one datagram twice in a reply, where one was received
-pub not_handed_out_twice : (ds : List IncomingDatagram) → HandedOut 3 (Step.Call 0 (GuestCall.UdpReceive 3 8) ∷ []) (Reply.Ok (datagram_values (datagram 3 70 ∷ datagram 3 70 ∷ [])) ∷ []) ds → ds ≡ datagram 3 70 ∷ [] → ⊥
+pub not_handed_out_twice : (ds : List IncomingDatagram) → HandedOut 3 (Step.Call 0 (GuestCall.Udp (UdpCall.Receive 3 8)) ∷ []) (Reply.Ok (datagram_values (datagram 3 70 ∷ datagram 3 70 ∷ [])) ∷ []) ds → ds ≡ datagram 3 70 ∷ [] → ⊥
 not_handed_out_twice ds k e =
     let p : flat_map received_values (datagram 3 70 ∷ datagram 3 70 ∷ []) ≡ flat_map received_values (datagram 3 70 ∷ []) = k ∙ ap (λ (xs : List IncomingDatagram). flat_map received_values xs) e in
     absurd (let q = ap (λ (fields : List Field). length fields) p in omega (arith, q))

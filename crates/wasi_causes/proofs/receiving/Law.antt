@@ -14,18 +14,18 @@ use Rattle.wasi_udp.specs.Create.{Create, after_create as udp_after_create, crea
 use Rattle.wasi_udp.specs.Receive.{receive_start}
 use Rattle.wasi_udp.specs.Send.{at_remote}
 use Rattle.wasi_world.specs.declared.datagram.IncomingDatagram.{IncomingDatagram}
-use Rattle.wasi_records.specs.Datagrams.{udp_connect_left, udp_reconnect_left, with_sending}
+use Rattle.udp_records.specs.Datagrams.{udp_connect_left, udp_reconnect_left, with_sending}
 use Rattle.host_store.specs.Kinds.{udp_kind, udp_of}
-use Rattle.wasi_records.specs.Receiving.{with_receiving}
+use Rattle.udp_records.specs.Receiving.{with_receiving}
 use Rattle.wasi_records.specs.Records.{tcp2_at, tcp2_put, udp2_at, udp2_put}
-use Rattle.wasi_records.specs.Udp.{udp_bind_progress, udp_create_left, udp_side, with_udp_progress}
+use Rattle.udp_records.specs.Udp.{udp_bind_progress, udp_create_left, udp_side, with_udp_progress}
 use Rattle.host_udp.specs.UdpCreates.{udp_side_at}
-use Rattle.wasi_records.specs.declared.datagrams.Incoming.{Incoming as IncomingStream}
-use Rattle.wasi_records.specs.declared.datagrams.Receiving.{Receiving}
+use Rattle.udp_records.specs.declared.datagrams.Incoming.{Incoming as IncomingStream}
+use Rattle.udp_records.specs.declared.datagrams.Receiving.{Receiving}
 use Rattle.host_store.specs.declared.kind.Kind.TheVariants.{Incoming, Listen3, Result3, Tcp3, Udp3}
-use Rattle.wasi_records.specs.declared.tcp_listening.Listening.TheVariants as listening
-use Rattle.wasi_records.specs.declared.udp.OpenUdp.{OpenUdp}
-use Rattle.wasi_records.specs.declared.udp.UdpRecord.{UdpRecord}
+use Rattle.tcp_records.specs.declared.tcp_listening.Listening.TheVariants as listening
+use Rattle.udp_records.specs.declared.udp.OpenUdp.{OpenUdp}
+use Rattle.udp_records.specs.declared.udp.UdpRecord.{UdpRecord}
 use Rattle.wasi_walks.proofs.Words.{Fits, told_addr}
 use Rattle.wasi_walks.proofs.fits.Polls.{Anything}
 use Rattle.wasi_walks.proofs.fits.Records.{FitConnecting, FitListening, FitProgress, FitSending, FitReceiving, FitUdpProgress, SendOn, UdpBindOn, UdpConnectOn}
@@ -57,6 +57,7 @@ use Rattle.wasi_causes.proofs.receiving.Polls.{Mine, Rest, apart_of, begun_none,
 use Rattle.wasi_causes.proofs.receiving.Unmarked.{Unmarked, polls_unmarked, cancels_unmarked, creates_unmarked, releases_unmarked, turns_unmarked}
 use Rattle.wasi_causes.proofs.receiving.Streams.{Becomes, IsElse, IsFresh, Knows, StreamAt, StreamIs, at_more, fresh_with, mark_else, put_at, stays_so, stream_more, stream_push, stream_push_tcp, stream_put, stream_put_tcp, stream_same, stream_stays, stream_with, stream_without, tcp_at}
 use Rattle.wasi_walks.proofs.Places.{put_finds, udp_sort}
+use Rattle.wasi_steps.specs.declared.guest_call.UdpCall.{UdpCall}
 
 -- a call that is polled so is a datagram of this socket
 polls_datagram : {k : ℕ} {o : OpenUdp} {was : BesideCall} {call : Operation → BesideCall} {op polls : Operation} → walk.PollsDatagram k o was call op polls → is_datagram_of k was ≡ true
@@ -93,13 +94,13 @@ module _ (handle : ℕ) (list : List IncomingDatagram) (contexts : List WasiSock
       absurd (cc)
 
   -- the line receives on another handle
-  module _ (other : (ctx most : ℕ) → origin ≡ Step.Call ctx (GuestCall.UdpReceive handle most) → ⊥) where
+  module _ (other : (ctx most : ℕ) → origin ≡ Step.Call ctx (GuestCall.Udp (UdpCall.Receive handle most)) → ⊥) where
     taken_other : (es : List Entry) (h : Here) (b : B es h) (k : ℕ) → walk.TakesFrom origin h.machine.table k → kind_at h.machine.table handle ≡ Some (Incoming k) → ⊥
     taken_other es h b k takes live =
         let s : SlotOf h.machine.table.live handle (Incoming k) = slot_of h.machine.table.live handle (Incoming k) live in
         let t : SlotOf h.machine.table.live takes.handle (Incoming k) = slot_of h.machine.table.live takes.handle (Incoming k) takes.of in
         let same : takes.handle ≡ handle = sym t.its ∙ ((apart_of handle list contexts line origin es h b.1.0).single t.slot s.slot k t.live_one s.live_one t.value s.value ∙ s.its) in
-        other takes.ctx takes.most (takes.is ∙ ap (λ (n : ℕ). Step.Call takes.ctx (GuestCall.UdpReceive n takes.most)) same)
+        other takes.ctx takes.most (takes.is ∙ ap (λ (n : ℕ). Step.Call takes.ctx (GuestCall.Udp (UdpCall.Receive n takes.most))) same)
 
     changes : (es : List Entry) (h : Here) (b : B es h) (k : ℕ) (o now : OpenUdp) → FoundUdp h k (UdpRecord.Open o) → UdpPlain o now → StreamMoves origin h k o.incoming now.incoming → Move line origin h (put_udp h k (UdpRecord.Open now)) → kind_at h.machine.table handle ≡ Some (Incoming k) → Becomes handle list es (UdpRecord.Open o) (UdpRecord.Open now)
     changes es h b k o now g p stream m live = by_move o.incoming now.incoming stream refl refl

@@ -3,12 +3,12 @@
 use Rattle.wasi_causes.proofs.Words.{Done, End, Given, Item, List, None, OpId, Operation, Option, Refused, Some, Streams, TcpRecord, Waits, WriteState, ap, collected, inl, inr, refl, subst, sym, ℕ, ⊤, ◌∙◌, ◌≡◌, ◌⊎◌}
 use Rattle.wasi_walks.proofs.Words.{closed_by, written_by, ◌≤◌}
 use Rattle.wasi_world.specs.Operation as item
-use Rattle.wasi_records.specs.Receiving.{receive_left}
+use Rattle.udp_records.specs.Receiving.{receive_left}
 use Rattle.wasi_records.specs.Numbered.{record_gone}
 use Rattle.wasi_records.specs.Records.{tcp2_at, tcp2_of, tcp2_put, tcp2_pushed, udp2_at, udp2_of, udp2_put, udp2_pushed}
-use Rattle.wasi_records.specs.declared.name_lookup.LookupOp.{LookupOp}
+use Rattle.lookup_records.specs.declared.name_lookup.LookupOp.{LookupOp}
 use Rattle.wasi_records.specs.declared.records.Record.{Record}
-use Rattle.wasi_records.specs.declared.udp.UdpRecord.{UdpRecord}
+use Rattle.udp_records.specs.declared.udp.UdpRecord.{UdpRecord}
 use Rattle.wasi_walks.proofs.GoneLists.{was_there}
 use Rattle.wasi_walks.proofs.walks.Here.{Grows, IsOlder}
 pub use Rattle.wasi_walks.proofs.walks.Later.{GivesLater}

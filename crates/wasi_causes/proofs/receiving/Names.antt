@@ -2,12 +2,12 @@
 use Rattle.wasi_walks.proofs.walks.Law.{BeginsWrites, InCall, Rests}
 use Rattle.wasi_causes.proofs.Words.{Allows, Done, End, Entry, Err, ErrorCode, Item, Job, List, None, Ok, Operation, Option, Refused, Result, Some, Step, TcpRecord, Waits, WasiSocketsCtx, WriteState, allows_then, ap, arith, inl, inr, job_asks, job_in, own_of, poll_asks, refl, subst, sym, turn_asks, with_writer, ℕ, ⊤, ◌+◌, ◌∙◌, ◌≡◌}
 use Rattle.wasi_udp.specs.Create.{Create, after_create as udp_after_create}
-use Rattle.wasi_records.specs.Datagrams.{udp_connect_left, udp_reconnect_left}
-use Rattle.wasi_records.specs.Receiving.{receive_left, with_receiving}
-use Rattle.wasi_records.specs.Udp.{udp_create_left}
-use Rattle.wasi_records.specs.declared.datagrams.Receiving.{Receiving}
-use Rattle.wasi_records.specs.declared.udp.OpenUdp.{OpenUdp}
-use Rattle.wasi_records.specs.declared.udp.UdpRecord.{UdpRecord}
+use Rattle.udp_records.specs.Datagrams.{udp_connect_left, udp_reconnect_left}
+use Rattle.udp_records.specs.Receiving.{receive_left, with_receiving}
+use Rattle.udp_records.specs.Udp.{udp_create_left}
+use Rattle.udp_records.specs.declared.datagrams.Receiving.{Receiving}
+use Rattle.udp_records.specs.declared.udp.OpenUdp.{OpenUdp}
+use Rattle.udp_records.specs.declared.udp.UdpRecord.{UdpRecord}
 use Rattle.wasi_walks.proofs.Words.{allows_weaker}
 use Rattle.wasi_walks.proofs.fits.Law.{whatever}
 use Rattle.wasi_walks.proofs.fits.Polls.{Anything}
@@ -20,7 +20,7 @@ use Rattle.wasi_walks.proofs.walks.OfState.{UdpGivenUp, UdpIsClosed, UdpLearnt, 
 use Rattle.wasi_records.specs.Records.{tcp2_pushed}
 use Rattle.wasi_causes.proofs.Words.{Streams}
 use Rattle.wasi_walks.proofs.PipeLists.{slot_push_same}
-use Rattle.wasi_records.specs.Ends.{ends_of}
+use Rattle.tcp_records.specs.Ends.{ends_of}
 
 module _ (contexts : List WasiSocketsCtx) (line : ℕ) (origin : Step) where
   abbrev pub Apart : Here → Type 0

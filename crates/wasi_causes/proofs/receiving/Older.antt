@@ -18,11 +18,11 @@ use Rattle.wasi_world.specs.Operation.{LastAsk, NothingLast, Who, last_ask}
 use Rattle.wasi_world.specs.Operation.{Given}
 use Rattle.host_store.specs.Kinds.{udp_kind}
 use Rattle.wasi_records.specs.Records.{tcp2_at, udp2_at}
-use Rattle.wasi_records.specs.Udp.{udp_side}
+use Rattle.udp_records.specs.Udp.{udp_side}
 use Rattle.host_udp.specs.UdpCreates.{udp_side_at}
-use Rattle.wasi_records.specs.declared.udp.UdpRecord.{UdpRecord}
-use Rattle.wasi_records.specs.declared.datagrams.Incoming.{Incoming as IncomingStream}
-use Rattle.wasi_records.specs.declared.datagrams.Receiving.{Receiving}
+use Rattle.udp_records.specs.declared.udp.UdpRecord.{UdpRecord}
+use Rattle.udp_records.specs.declared.datagrams.Incoming.{Incoming as IncomingStream}
+use Rattle.udp_records.specs.declared.datagrams.Receiving.{Receiving}
 use Rattle.wasi_walks.specs.Allowed.{Has}
 use Rattle.wasi_walks.proofs.Words.{allows_weaker, told_done, ◌≤◌}
 use Rattle.wasi_walks.proofs.Fronts.{PollLaw, polls_by}
@@ -36,7 +36,7 @@ use Rattle.wasi_walks.proofs.walks.Moves as walk
 use Rattle.wasi_walks.proofs.fits.Datagrams.{DatagramOn, FitBeside}
 use Rattle.wasi_records.specs.Records.{udp2_at}
 use Rattle.wasi_records.specs.declared.records.Record.{Record}
-use Rattle.wasi_records.specs.declared.udp.OpenUdp.{OpenUdp}
+use Rattle.udp_records.specs.declared.udp.OpenUdp.{OpenUdp}
 use Rattle.host_store.specs.declared.beside.BesideCall.{BesideCall}
 use Rattle.wasi_causes.proofs.Beside.{find_has}
 use Rattle.wasi_causes.proofs.Words.{HandleTable}

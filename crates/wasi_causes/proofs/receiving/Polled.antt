@@ -5,8 +5,8 @@ use Rattle.wasi_world.specs.declared.asks.Verdict.{Verdict}
 use Rattle.wasi_world.specs.declared.datagram.IncomingDatagram.{IncomingDatagram}
 use Rattle.wasi_world.specs.Operation.{Again, CheckPeer, Datagram, Goes, Receive, is_wanted, received_front}
 use Rattle.wasi_udp.specs.Receive.{Ended, IsLeftOfReceive, IsReceive, Received, ToRefuse, Unreceived, wanted_in, wanting}
-use Rattle.wasi_records.specs.Receiving.{is_receiving, receive_left}
-use Rattle.wasi_records.specs.declared.datagrams.Receiving.{Receiving}
+use Rattle.udp_records.specs.Receiving.{is_receiving, receive_left}
+use Rattle.udp_records.specs.declared.datagrams.Receiving.{Receiving}
 use Rattle.wasi_walks.proofs.fits.Polls.{Anything}
 use Rattle.wasi_walks.proofs.received.Wanted.{IsLeft, LeftOver, LeftToCheck, LeftToReceive, LeftToRefuse, is_left}
 use Rattle.wasi_walks.specs.Allowed.{Has}

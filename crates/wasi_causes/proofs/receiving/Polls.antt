@@ -3,14 +3,14 @@ use Rattle.wasi_causes.proofs.Words.{Allows, Asks, End, Entry, Item, List, None,
 use Rattle.wasi_udp.specs.Create.{Create}
 use Rattle.wasi_udp.specs.Receive.{receive_first, receive_left as left_of_receive, wanting}
 use Rattle.wasi_world.specs.declared.datagram.IncomingDatagram.{IncomingDatagram}
-use Rattle.wasi_records.specs.Receiving.{receive_left, with_receiving}
+use Rattle.udp_records.specs.Receiving.{receive_left, with_receiving}
 use Rattle.wasi_records.specs.Records.{tcp2_put, udp2_put}
-use Rattle.wasi_records.specs.declared.datagrams.Incoming.{Incoming as IncomingStream}
-use Rattle.wasi_records.specs.declared.datagrams.Receiving.{Receiving}
+use Rattle.udp_records.specs.declared.datagrams.Incoming.{Incoming as IncomingStream}
+use Rattle.udp_records.specs.declared.datagrams.Receiving.{Receiving}
 use Rattle.host_store.specs.declared.kind.Kind.TheVariants.{Incoming}
 use Rattle.wasi_records.specs.declared.records.Record.{Record}
-use Rattle.wasi_records.specs.declared.udp.OpenUdp.{OpenUdp}
-use Rattle.wasi_records.specs.declared.udp.UdpRecord.{UdpRecord}
+use Rattle.udp_records.specs.declared.udp.OpenUdp.{OpenUdp}
+use Rattle.udp_records.specs.declared.udp.UdpRecord.{UdpRecord}
 use Rattle.wasi_walks.proofs.Words.{allows_weaker}
 use Rattle.wasi_walks.proofs.claims.Law.{Base}
 use Rattle.wasi_walks.proofs.fits.Polls.{Anything}

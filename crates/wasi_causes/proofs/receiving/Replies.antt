@@ -5,23 +5,24 @@ use Rattle.std.proofs.lemmas.Bool.{eqb-true}
 use Rattle.wasi_world.specs.declared.datagram.IncomingDatagram.{IncomingDatagram}
 use Rattle.host_udp.specs.DatagramCalls.{begins_receive, receive_datagrams_at, with_receive}
 use Rattle.wasi_world.specs.declared.outcome.TrapKind.TheVariants.{NoSuchHandle}
-use Rattle.wasi_records.specs.Stops.{Code}
+use Rattle.record_common.specs.Stops.{Code}
 use Rattle.host_store.specs.Jobs.{with_job}
 use Rattle.host_store.specs.Machine.{incoming_at}
-use Rattle.wasi_records.specs.Receiving.{receive_datagrams_asks}
+use Rattle.udp_records.specs.Receiving.{receive_datagrams_asks}
 use Rattle.wasi_records.specs.Records.{open_at, udp2_at, udp2_put}
 use Rattle.host_store.specs.Store.{Records}
 use Rattle.host_store.specs.Store.{with_open_udp}
-use Rattle.wasi_records.specs.declared.datagrams.Incoming.{Incoming as IncomingStream}
-use Rattle.wasi_records.specs.declared.datagrams.Receiving.{Receiving}
+use Rattle.udp_records.specs.declared.datagrams.Incoming.{Incoming as IncomingStream}
+use Rattle.udp_records.specs.declared.datagrams.Receiving.{Receiving}
 use Rattle.wasi_jobs.specs.declared.job.HostJob.TheVariants.{Receive}
 use Rattle.host_store.specs.declared.kind.Kind.TheVariants.{Incoming}
-use Rattle.wasi_records.specs.declared.udp.OpenUdp.{OpenUdp}
-use Rattle.wasi_records.specs.declared.udp.UdpRecord.{UdpRecord}
+use Rattle.udp_records.specs.declared.udp.OpenUdp.{OpenUdp}
+use Rattle.udp_records.specs.declared.udp.UdpRecord.{UdpRecord}
 use Rattle.wasi_p2.specs.Udp.{receive_datagrams_on}
 use Rattle.wasi_machine.specs.Machine.{reply_of}
 use Rattle.wasi_steps.specs.Reply.{datagram_values, received_values}
 use Rattle.wasi_steps.specs.declared.guest_call.GuestCall.TheVariants as guest
+use Rattle.wasi_steps.specs.declared.guest_call.UdpCall.TheVariants as udp_call
 use Rattle.wasi_steps.specs.declared.step.Step.TheVariants as step
 use Rattle.wasi_walks.proofs.Words.{allows_weaker}
 use Rattle.wasi_walks.proofs.Lists.{cut_more}
@@ -103,16 +104,16 @@ module _ (handle : ℕ) where
   none_more list line es m k = subst (λ (ds : List IncomingDatagram). StreamBetween ds line es m) (sym (append-nil list)) k
 
   -- == a line that doesn't receive on the handle
-  none_by : (s : Step) (r : Reply) → ((ctx most : ℕ) → s ≡ Step.Call ctx (guest.UdpReceive handle most) → ⊥) → handed_by handle s r ≡ []
-  none_by (step.Call ctx (guest.UdpReceive incoming most)) (Reply.Ok fields) other = by_test (handle == incoming) refl
+  none_by : (s : Step) (r : Reply) → ((ctx most : ℕ) → s ≡ Step.Call ctx (guest.Udp (udp_call.Receive handle most)) → ⊥) → handed_by handle s r ≡ []
+  none_by (step.Call ctx (guest.Udp (udp_call.Receive incoming most))) (Reply.Ok fields) other = by_test (handle == incoming) refl
     where
       by_test : (b : Bool) → (handle == incoming) ≡ b → (if b then without_count fields else []) ≡ []
-      by_test true e = absurd (other ctx most (ap (λ (n : ℕ). Step.Call ctx (guest.UdpReceive n most)) (sym (eqb-true handle incoming e))))
+      by_test true e = absurd (other ctx most (ap (λ (n : ℕ). Step.Call ctx (guest.Udp (udp_call.Receive n most))) (sym (eqb-true handle incoming e))))
       by_test false e = refl
-  none_by (step.Call ctx (guest.UdpReceive incoming most)) _ other = refl
+  none_by (step.Call ctx (guest.Udp (udp_call.Receive incoming most))) _ other = refl
   none_by _ r other = refl
 
-  line_other : (contexts : List WasiSocketsCtx) (list : List IncomingDatagram) (line : ℕ) (s : Step) (m : Machine) (es : List Entry) → ((ctx most : ℕ) → s ≡ Step.Call ctx (guest.UdpReceive handle most) → ⊥) → StreamBetween list line es m → Allows Anything (λ fs done. Takes list line s fs done) es (machine_asks contexts m line s)
+  line_other : (contexts : List WasiSocketsCtx) (list : List IncomingDatagram) (line : ℕ) (s : Step) (m : Machine) (es : List Entry) → ((ctx most : ℕ) → s ≡ Step.Call ctx (guest.Udp (udp_call.Receive handle most)) → ⊥) → StreamBetween list line es m → Allows Anything (λ fs done. Takes list line s fs done) es (machine_asks contexts m line s)
   line_other contexts list line s m es other k =
       allows_weaker Anything (λ fs done. Fronts list fs × (RestBetween (line + 1) fs done.1 × (StreamIs handle list fs done.1.table done.1.store.records × IsFresh handle list done.1.table))) (λ fs done. Takes list line s fs done)
       (λ fs done x. record { new = []; gives = none_by s done.0 other; between = none_more list (line + 1) fs done.1 (record { rest = x.1.0; stream = x.1.1.0; fresh = x.1.1.1; fronts = x.0 }) }) es (machine_asks contexts m line s)
@@ -124,12 +125,12 @@ module _ (handle : ℕ) where
     -- What its call leaves of the stream.
     record Says (t : HandleTable) (es : List Entry) (done : Result (List IncomingDatagram) Stop × Records) : Type 0 where
       pub new : List IncomingDatagram
-      pub gives : handed_by handle (step.Call ctx (guest.UdpReceive handle most)) (reply_of datagram_values done.0) ≡ flat_map received_values new
+      pub gives : handed_by handle (step.Call ctx (guest.Udp (udp_call.Receive handle most))) (reply_of datagram_values done.0) ≡ flat_map received_values new
       pub stream : StreamIs handle (list ++ new) es t done.1.records
       pub fresh : IsFresh handle (list ++ new) t
       pub fronts : Fronts (list ++ new) es
 
-    gives_so : (r : Result (List IncomingDatagram) Stop) (new : List IncomingDatagram) (side : OpId) (kept : Option IpSocketAddress) → IsGiven handle side kept r new → handed_by handle (step.Call ctx (guest.UdpReceive handle most)) (reply_of datagram_values r) ≡ flat_map received_values new
+    gives_so : (r : Result (List IncomingDatagram) Stop) (new : List IncomingDatagram) (side : OpId) (kept : Option IpSocketAddress) → IsGiven handle side kept r new → handed_by handle (step.Call ctx (guest.Udp (udp_call.Receive handle most))) (reply_of datagram_values r) ≡ flat_map received_values new
     gives_so (Ok ds) new side kept e = ap (λ (b : Bool). if b then flat_map received_values ds else []) (eq-eqb handle handle refl) ∙ ap (λ (xs : List IncomingDatagram). flat_map received_values xs) e
     gives_so (Err (Code c)) new side kept e = sym (ap (λ (xs : List IncomingDatagram). flat_map received_values xs) e)
     gives_so (Err (Trap kind)) new side kept e = sym (ap (λ (xs : List IncomingDatagram). flat_map received_values xs) e)
@@ -144,7 +145,7 @@ module _ (handle : ℕ) where
 
     module _ (m : Machine) (es : List Entry) (k : StreamBetween list line es m) where
       -- nothing is asked, and nothing changes
-      nothing : (r : Result (List IncomingDatagram) Stop) → handed_by handle (step.Call ctx (guest.UdpReceive handle most)) (reply_of datagram_values r) ≡ [] → Says m.table es (r, m.store)
+      nothing : (r : Result (List IncomingDatagram) Stop) → handed_by handle (step.Call ctx (guest.Udp (udp_call.Receive handle most))) (reply_of datagram_values r) ≡ [] → Says m.table es (r, m.store)
       nothing r e = let n = none_more list line es m k in record { new = []; gives = e; stream = n.stream; fresh = n.fresh; fronts = n.fronts }
 
       open_says : (place : ℕ) (live : kind_at m.table handle ≡ Some (Incoming place)) (s : StreamAt handle list es m.store.records place) (o : OpenUdp) → o ≡ s.socket → (inc : Option IncomingStream) → o.incoming ≡ inc
@@ -179,9 +180,9 @@ module _ (handle : ℕ) where
 
       -- the line, but for what it keeps of the rest
       abbrev Leaving : List Entry → Reply × Machine → Type 0
-      Leaving es done = (new : List IncomingDatagram) × ((handed_by handle (step.Call ctx (guest.UdpReceive handle most)) done.0 ≡ flat_map received_values new) × (StreamIs handle (list ++ new) es done.1.table done.1.store.records × (IsFresh handle (list ++ new) done.1.table × Fronts (list ++ new) es)))
+      Leaving es done = (new : List IncomingDatagram) × ((handed_by handle (step.Call ctx (guest.Udp (udp_call.Receive handle most))) done.0 ≡ flat_map received_values new) × (StreamIs handle (list ++ new) es done.1.table done.1.store.records × (IsFresh handle (list ++ new) done.1.table × Fronts (list ++ new) es)))
 
-      leaving_none : (r : Reply) → handed_by handle (step.Call ctx (guest.UdpReceive handle most)) r ≡ [] → Leaving es (r, m)
+      leaving_none : (r : Reply) → handed_by handle (step.Call ctx (guest.Udp (udp_call.Receive handle most))) r ≡ [] → Leaving es (r, m)
       leaving_none r e = let n = none_more list line es m k in ([], (e, (n.stream, (n.fresh, n.fronts))))
 
       handle_says : (o : Option ℕ) → incoming_at m handle ≡ o → Allows Anything (λ fs done. Leaving fs (reply_of datagram_values done.0, done.1)) es (receive_datagrams_on m (first_ids line) most o)
@@ -190,33 +191,33 @@ module _ (handle : ℕ) where
           allows_then Anything (λ fs done. Says m.table fs done) (λ fs done. Leaving fs (reply_of datagram_values done.0, done.1)) es (receive_datagrams_at m.store (first_ids line) place most (open_at m.store.records place)) _
           (socket_says place (incoming_kind (kind_at m.table handle) place e) (open_at m.store.records place) refl) (λ fs done x. (x.new, (x.gives, (x.stream, (x.fresh, x.fronts)))))
 
-      call_says : (contexts : List WasiSocketsCtx) (standing : Option Standing) → Allows Anything (λ fs done. Leaving fs done) es (asks_while contexts m line (step.Call ctx (guest.UdpReceive handle most)) standing)
+      call_says : (contexts : List WasiSocketsCtx) (standing : Option Standing) → Allows Anything (λ fs done. Leaving fs done) es (asks_while contexts m line (step.Call ctx (guest.Udp (udp_call.Receive handle most))) standing)
       call_says contexts (Some c) = leaving_none Reply.Busy refl
       call_says contexts None =
           allows_then Anything (λ fs done. Leaving fs (reply_of datagram_values done.0, done.1)) (λ fs done. Leaving fs done) es (receive_datagrams_on m (first_ids line) most (incoming_at m handle)) _
           (handle_says (incoming_at m handle) refl) (λ fs done x. x)
 
-      line_receives : (contexts : List WasiSocketsCtx) → Allows Anything (λ fs done. Takes list line (step.Call ctx (guest.UdpReceive handle most)) fs done) es (machine_asks contexts m line (step.Call ctx (guest.UdpReceive handle most)))
+      line_receives : (contexts : List WasiSocketsCtx) → Allows Anything (λ fs done. Takes list line (step.Call ctx (guest.Udp (udp_call.Receive handle most))) fs done) es (machine_asks contexts m line (step.Call ctx (guest.Udp (udp_call.Receive handle most))))
       line_receives contexts =
-          allows_weaker Anything (λ fs done. RestBetween (line + 1) fs done.1 × Leaving fs done) (λ fs done. Takes list line (step.Call ctx (guest.UdpReceive handle most)) fs done)
-          (λ fs done x. record { new = x.1.0; gives = x.1.1.0; between = record { rest = x.0; stream = x.1.1.1.0; fresh = x.1.1.1.1.0; fronts = x.1.1.1.1.1 } }) es (machine_asks contexts m line (step.Call ctx (guest.UdpReceive handle most)))
-          (allows_both Anything Anything (λ fs done. RestBetween (line + 1) fs done.1) (λ fs done. Leaving fs done) es (machine_asks contexts m line (step.Call ctx (guest.UdpReceive handle most))) (line_rest contexts line (step.Call ctx (guest.UdpReceive handle most)) m es k.rest) (call_says contexts m.store.standing))
+          allows_weaker Anything (λ fs done. RestBetween (line + 1) fs done.1 × Leaving fs done) (λ fs done. Takes list line (step.Call ctx (guest.Udp (udp_call.Receive handle most))) fs done)
+          (λ fs done x. record { new = x.1.0; gives = x.1.1.0; between = record { rest = x.0; stream = x.1.1.1.0; fresh = x.1.1.1.1.0; fronts = x.1.1.1.1.1 } }) es (machine_asks contexts m line (step.Call ctx (guest.Udp (udp_call.Receive handle most))))
+          (allows_both Anything Anything (λ fs done. RestBetween (line + 1) fs done.1) (λ fs done. Leaving fs done) es (machine_asks contexts m line (step.Call ctx (guest.Udp (udp_call.Receive handle most)))) (line_rest contexts line (step.Call ctx (guest.Udp (udp_call.Receive handle most))) m es k.rest) (call_says contexts m.store.standing))
 
   -- == any line
   -- it receives on the handle, or doesn't
   abbrev IsReceive : Step → Type 0
-  IsReceive s = (ctx : ℕ) × ((most : ℕ) × (s ≡ Step.Call ctx (guest.UdpReceive handle most)))
+  IsReceive s = (ctx : ℕ) × ((most : ℕ) × (s ≡ Step.Call ctx (guest.Udp (udp_call.Receive handle most))))
 
-  receives_or_not : (s : Step) → IsReceive s ⊎ ((ctx most : ℕ) → s ≡ Step.Call ctx (guest.UdpReceive handle most) → ⊥)
-  receives_or_not (step.Call ctx (guest.UdpReceive incoming most)) = elim (same_place incoming handle) [ inl same ↦ inl (ctx, (most, ap (λ (n : ℕ). Step.Call ctx (guest.UdpReceive n most)) same)) | inr not ↦ inr (λ c k e. not (handles ctx incoming most c k e)) ]
+  receives_or_not : (s : Step) → IsReceive s ⊎ ((ctx most : ℕ) → s ≡ Step.Call ctx (guest.Udp (udp_call.Receive handle most)) → ⊥)
+  receives_or_not (step.Call ctx (guest.Udp (udp_call.Receive incoming most))) = elim (same_place incoming handle) [ inl same ↦ inl (ctx, (most, ap (λ (n : ℕ). Step.Call ctx (guest.Udp (udp_call.Receive n most))) same)) | inr not ↦ inr (λ c k e. not (handles ctx incoming most c k e)) ]
     where
-      handles : (ctx incoming most c k : ℕ) → Step.Call ctx (guest.UdpReceive incoming most) ≡ Step.Call c (guest.UdpReceive handle k) → incoming ≡ handle
+      handles : (ctx incoming most c k : ℕ) → Step.Call ctx (guest.Udp (udp_call.Receive incoming most)) ≡ Step.Call c (guest.Udp (udp_call.Receive handle k)) → incoming ≡ handle
       handles ctx incoming most c k e = cc
   receives_or_not _ = inr (λ c k e. absurd (cc))
 
   pub line_takes : (contexts : List WasiSocketsCtx) (list : List IncomingDatagram) (line : ℕ) (s : Step) (m : Machine) (es : List Entry) → StreamBetween list line es m → Allows Anything (λ fs done. Takes list line s fs done) es (machine_asks contexts m line s)
   line_takes contexts list line s m es k = by_step (receives_or_not s)
     where
-      by_step : IsReceive s ⊎ ((ctx most : ℕ) → s ≡ Step.Call ctx (guest.UdpReceive handle most) → ⊥) → Allows Anything (λ fs done. Takes list line s fs done) es (machine_asks contexts m line s)
+      by_step : IsReceive s ⊎ ((ctx most : ℕ) → s ≡ Step.Call ctx (guest.Udp (udp_call.Receive handle most)) → ⊥) → Allows Anything (λ fs done. Takes list line s fs done) es (machine_asks contexts m line s)
       by_step (inl is) = subst (λ (x : Step). Allows Anything (λ fs done. Takes list line x fs done) es (machine_asks contexts m line x)) (sym is.1.1) (line_receives is.0 is.1.0 line list m es k contexts)
       by_step (inr not) = line_other contexts list line s m es not k

@@ -6,7 +6,7 @@ use Rattle.wasi_addr.specs.declared.address.IpSocketAddress.{IpSocketAddress}
 use Rattle.wasi_world.specs.declared.datagram.IncomingDatagram.{IncomingDatagram}
 use Rattle.wasi_world.specs.declared.ids.OpId.{OpId}
 use Rattle.wasi_world.proofs.Allowed.{reached}
-use Rattle.wasi_records.specs.Records.{open_of}
+use Rattle.udp_records.specs.Udp.{open_of}
 use Rattle.host_store.specs.declared.kind.Kind.TheVariants.{Incoming}
 use Rattle.wasi_steps.specs.Reply.{received_values}
 use Rattle.wasi_steps.specs.declared.reply.Field.{Field}

@@ -1,7 +1,7 @@
 -- Trees that mark no handle: a poll, a writer's turn, a create that is asked or given up, and a listening that is released.
 use Rattle.wasi_causes.proofs.Words.{Accepting, Allows, Ask, AskWrite, Asks, Bool, Call, End, Entry, Give, IpSocketAddress, Job, List, Listening, None, OpId, Operation, Option, SocketAddressFamily, Some, Waits, WasiSocketsCtx, Who, WriteState, allows_if, allows_then, bind, false, give_up_asks, give_up_in, if◌then◌else◌, in_hand, is_over, job_asks, job_in, marked_by, new_asks, poll_asks, refl, refuse_in, true, turn_asks, ⊤, ◌≡◌}
 use Rattle.wasi_walks.proofs.Words.{ask_close}
-use Rattle.wasi_records.specs.declared.tcp_listening.Listening.TheVariants as listening
+use Rattle.tcp_records.specs.declared.tcp_listening.Listening.TheVariants as listening
 use Rattle.socket_common.specs.Rounds.{is_going}
 use Rattle.wasi_udp.specs.Create.{Create, create_cancel_asks}
 use Rattle.wasi_causes.proofs.operations.Marks.{poll_unmarked}

@@ -11,16 +11,17 @@ use Rattle.wasi_world.specs.Fits.{IsNames}
 use Rattle.wasi_world.specs.Typed.{told_names}
 use Rattle.wasi_world.specs.declared.call.Told.TheVariants as told
 use Rattle.host_store.specs.GivingBack.{given_back}
-use Rattle.wasi_records.specs.NameLookup.{lookup_told}
+use Rattle.lookup_records.specs.NameLookup.{lookup_told}
 use Rattle.host_lookups.specs.NameLookupCalls.{lookup_handle, resolve_host, resolved, with_lookup}
 use Rattle.host_store.specs.declared.kind.Kind.TheVariants as kind
-use Rattle.wasi_records.specs.declared.name_lookup.Lookup.{Lookup}
-use Rattle.wasi_records.specs.declared.name_lookup.Lookup.TheVariants.{InProgress, Found}
-use Rattle.wasi_records.specs.declared.name_lookup.LookupOp.{LookupOp}
+use Rattle.lookup_records.specs.declared.name_lookup.Lookup.{Lookup}
+use Rattle.lookup_records.specs.declared.name_lookup.Lookup.TheVariants.{InProgress, Found}
+use Rattle.lookup_records.specs.declared.name_lookup.LookupOp.{LookupOp}
 use Rattle.wasi_p2.specs.Lookup.{resolve_asks, resolved_host}
 use Rattle.wasi_steps.specs.declared.reply.CodeWord.TheVariants as word
 use Rattle.wasi_steps.specs.declared.reply.Reply.TheVariants as reply
 use Rattle.wasi_steps.specs.declared.guest_call.GuestCall.TheVariants as guest
+use Rattle.wasi_steps.specs.declared.guest_call.NameCall.TheVariants as name_call
 use Rattle.wasi_steps.specs.declared.step.Step.TheVariants as step
 use Rattle.wasi_causes.proofs.tables.Meets.{Meets, Rows, asks, branch, ends, onto}
 use Rattle.wasi_causes.proofs.tables.Routes.{Replied, Says, apart, full_so, makes}
@@ -35,7 +36,7 @@ module _ (contexts : List WasiSocketsCtx) (m : Machine) (line c network : ℕ) (
   ctx = context_at contexts c
 
   abbrev ResolveRow : Rows (Result ℕ Stop × Machine)
-  ResolveRow = Replied contexts m line (step.Call c (guest.Resolve network name)) handle_reply
+  ResolveRow = Replied contexts m line (step.Call c (guest.Names (name_call.Resolve network name))) handle_reply
 
   -- it marks none before its handle
   unmarked : (es : List Entry) (l : Lookup) → BeginsLookup own name es l → marks_in es ≡ 0
@@ -45,7 +46,7 @@ module _ (contexts : List WasiSocketsCtx) (m : Machine) (line c network : ℕ) (
 
   module _ (may : ctx.ip_name_lookup ≡ true) (host : HostName) (is : name_is name ≡ Some host) where
     -- neither word refuses it
-    allowed : (es : List Entry) (r : Reply) (after : Machine) → r ≢ reply.Err word.PermanentResolverFailure → r ≢ reply.Err word.InvalidArgument → Always contexts m line (step.Call c (guest.Resolve network name)) es r after
+    allowed : (es : List Entry) (r : Reply) (after : Machine) → r ≢ reply.Err word.PermanentResolverFailure → r ≢ reply.Err word.InvalidArgument → Always contexts m line (step.Call c (guest.Names (name_call.Resolve network name))) es r after
     allowed es r after one two = (λ denied. absurd (cc), λ its. record { forbidden = apart one (λ denied. cc); unnamed = apart two (λ k. let none = k.1 in cc) })
 
     -- it is there, and gets its handle
@@ -78,7 +79,7 @@ module _ (contexts : List WasiSocketsCtx) (m : Machine) (line c network : ℕ) (
   by_name true may None is = ends ((λ denied. absurd (cc), λ its. record { forbidden = apart (λ e. cc) (λ denied. cc); unnamed = (λ e. (may, is), λ k. refl) }), (inr (inl refl), (NoName may is, refl)))
   by_name false denied o is = ends ((λ e. (refl, refl), λ its. record { forbidden = (λ e. denied, λ k. refl); unnamed = apart (λ e. cc) (λ k. let allows = k.0 in cc) }), (inl refl, (LookupNotAllowed denied, refl)))
 
-  pub resolve : Meets (Says contexts m line (step.Call c (guest.Resolve network name))) [] (bind (resolve_asks m own ctx network name) (λ done. Give (handle_reply done.0, done.1)))
+  pub resolve : Meets (Says contexts m line (step.Call c (guest.Names (name_call.Resolve network name)))) [] (bind (resolve_asks m own ctx network name) (λ done. Give (handle_reply done.0, done.1)))
   resolve =
       onto _ (branch (is_network (kind_at m.table network)) (λ its. by_name ctx.ip_name_lookup refl (name_is name) refl)
       (λ none. ends ((λ denied. (refl, refl), λ its. absurd (cc)), (none, (refl, refl)))))

@@ -6,11 +6,11 @@ use Rattle.wasi_addr.specs.declared.address.IpAddress.{IpAddress}
 use Rattle.wasi_addr.specs.declared.address.IpAddress.TheVariants as ip
 use Rattle.host_store.specs.Kinds.{is_error}
 use Rattle.host_store.specs.Machine.{lookup_number}
-use Rattle.wasi_records.specs.NameLookup.{next_of}
+use Rattle.lookup_records.specs.NameLookup.{next_of}
 use Rattle.host_lookups.specs.NameLookupCalls.{next_at, next_told}
 use Rattle.wasi_records.specs.Records.{lookup_at}
-use Rattle.wasi_records.specs.declared.name_lookup.Lookup.{Lookup}
-use Rattle.wasi_records.specs.declared.name_lookup.Lookup.TheVariants.{InProgress, Found, Failed}
+use Rattle.lookup_records.specs.declared.name_lookup.Lookup.{Lookup}
+use Rattle.lookup_records.specs.declared.name_lookup.Lookup.TheVariants.{InProgress, Found, Failed}
 use Rattle.wasi_records.specs.declared.records.Record.{Record}
 use Rattle.wasi_machine.specs.Machine.{reply_of, without_code}
 use Rattle.wasi_p2.specs.Lookup.{error_code_on, next_address_on}
@@ -19,6 +19,7 @@ use Rattle.wasi_steps.specs.declared.reply.Field.{Field}
 use Rattle.wasi_steps.specs.declared.reply.Reply.{Reply}
 use Rattle.wasi_steps.specs.declared.reply.Reply.TheVariants as reply
 use Rattle.wasi_steps.specs.declared.guest_call.GuestCall.TheVariants as guest
+use Rattle.wasi_steps.specs.declared.guest_call.NameCall.TheVariants as name_call
 use Rattle.wasi_steps.specs.declared.step.Step.TheVariants as step
 use Rattle.wasi_walks.specs.Answered.{lookup_in}
 use Rattle.wasi_causes.proofs.tables.Meets.{Meets, Rows, ends}
@@ -58,7 +59,7 @@ put_lookup_back P m place l at h =
 
 module _ (contexts : List WasiSocketsCtx) (m : Machine) (line c handle : ℕ) where
   abbrev NextRow : Rows (Result (Option IpAddress) Stop × Machine)
-  NextRow = Replied contexts m line (step.Call c (guest.ResolveNext handle)) (reply_of found_values)
+  NextRow = Replied contexts m line (step.Call c (guest.Names (name_call.ResolveNext handle))) (reply_of found_values)
 
   missing : found_lookup m handle ≡ None → NextRow [] (Err (Trap NoSuchHandle), m)
   missing none = (subst (λ (o : Option Lookup). TellsNext o [] (reply.Trap NoSuchHandle)) (sym none) tells_none, (none, (refl, refl)))
@@ -82,7 +83,7 @@ module _ (contexts : List WasiSocketsCtx) (m : Machine) (line c handle : ℕ) wh
   by_number None names = missing (ap (lookup_in m) names)
   by_number (Some place) names = by_place place names (lookup_at m.store.records place) refl
 
-  pub resolve_next : Meets (Says contexts m line (step.Call c (guest.ResolveNext handle))) [] (let done = next_address_on m (lookup_number m handle) in Give (reply_of found_values done.0, done.1))
+  pub resolve_next : Meets (Says contexts m line (step.Call c (guest.Names (name_call.ResolveNext handle)))) [] (let done = next_address_on m (lookup_number m handle) in Give (reply_of found_values done.0, done.1))
   resolve_next = ends (by_number (lookup_number m handle) refl)
 
   -- == one less is left
@@ -102,11 +103,11 @@ module _ (contexts : List WasiSocketsCtx) (m : Machine) (line c handle : ℕ) wh
 -- == an error's code
 module _ (contexts : List WasiSocketsCtx) (m : Machine) (line c handle : ℕ) where
   abbrev CodeSays : Reply → Type 0
-  CodeSays r = Says contexts m line (step.Call c (guest.NetworkErrorCode handle)) [] (r, m)
+  CodeSays r = Says contexts m line (step.Call c (guest.Names (name_call.NetworkErrorCode handle))) [] (r, m)
 
   by_error : (b : Bool) → is_error (kind_at m.table handle) ≡ b → CodeSays (reply_of absent_values (without_code (if b then Ok None else Err (Trap NoSuchHandle))))
   by_error true is = ((refl, refl), ((tt, tt), refl))
   by_error false other = ((refl, refl), (other, (refl, refl)))
 
-  pub network_error_code : Meets (Says contexts m line (step.Call c (guest.NetworkErrorCode handle))) [] (Give (reply_of absent_values (without_code (error_code_on m handle)), m))
+  pub network_error_code : Meets (Says contexts m line (step.Call c (guest.Names (name_call.NetworkErrorCode handle)))) [] (Give (reply_of absent_values (without_code (error_code_on m handle)), m))
   network_error_code = ends (by_error (is_error (kind_at m.table handle)) refl)

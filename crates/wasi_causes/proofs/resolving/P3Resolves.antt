@@ -20,6 +20,7 @@ use Rattle.wasi_p3.specs.Lookup as p3
 use Rattle.wasi_steps.specs.declared.reply.CodeWord.TheVariants as word
 use Rattle.wasi_steps.specs.declared.reply.Reply.TheVariants as reply
 use Rattle.wasi_steps.specs.declared.guest_call.GuestCall.TheVariants as guest
+use Rattle.wasi_steps.specs.declared.guest_call.P3NameCall.TheVariants as p3_name_call
 use Rattle.wasi_steps.specs.declared.step.Step.TheVariants as step
 use Rattle.wasi_causes.proofs.Beside.{found_last}
 use Rattle.wasi_causes.proofs.tables.Meets.{Meets, Rows, asks, ends, onto}
@@ -36,11 +37,11 @@ module _ (contexts : List WasiSocketsCtx) (m : Machine) (line c : ℕ) (name : L
   ctx = context_at contexts c
 
   abbrev ResolveRow : Rows (Resolved × Machine)
-  ResolveRow = Replied contexts m line (step.Call c (guest.P3Resolve name)) (lookup_reply line)
+  ResolveRow = Replied contexts m line (step.Call c (guest.P3Names (p3_name_call.Resolve name))) (lookup_reply line)
 
   -- neither word of a name that isn't looked up refuses it
   allowed : ctx.ip_name_lookup ≡ true → (host : HostName) → name_is name ≡ Some host → (es : List Entry) (r : Reply) (after : Machine) → r ≢ reply.Err word.PermanentResolverFailure → r ≢ reply.Err word.InvalidArgument
-      → Always contexts m line (step.Call c (guest.P3Resolve name)) es r after
+      → Always contexts m line (step.Call c (guest.P3Names (p3_name_call.Resolve name))) es r after
   allowed may host is es r after one two = (λ denied. absurd (cc), record { forbidden = apart one (λ denied. cc); unnamed = apart two (λ k. let none = k.1 in cc) })
 
   -- the network was asked for a domain
@@ -64,5 +65,5 @@ module _ (contexts : List WasiSocketsCtx) (m : Machine) (line c : ℕ) (name : L
   by_name true may None is = ends ((λ denied. absurd (cc), record { forbidden = apart (λ e. cc) (λ denied. cc); unnamed = (λ e. (may, is), λ k. refl) }), (inr (inl refl), (NoName may is, refl)))
   by_name false denied o is = ends ((λ e. (refl, refl), record { forbidden = (λ e. denied, λ k. refl); unnamed = apart (λ e. cc) (λ k. let allows = k.0 in cc) }), (inl refl, (LookupNotAllowed denied, refl)))
 
-  pub p3_resolve : Meets (Says contexts m line (step.Call c (guest.P3Resolve name))) [] (bind (p3.resolve line ctx name m) (λ done. Give (lookup_reply line done.0, done.1)))
+  pub p3_resolve : Meets (Says contexts m line (step.Call c (guest.P3Names (p3_name_call.Resolve name)))) [] (bind (p3.resolve line ctx name m) (λ done. Give (lookup_reply line done.0, done.1)))
   p3_resolve = onto _ (by_name ctx.ip_name_lookup refl (name_is name) refl)

@@ -26,9 +26,9 @@ use Rattle.host_tcp.specs.Binds.{bind_told}
 use Rattle.host_store.specs.Block.{Call, Read, after_call, give, goes_on, ◌>>=◌}
 use Rattle.host_store.specs.Kinds.{make_asks}
 use Rattle.host_store.specs.declared.kind.Interface.TheVariants.{P3}
-use Rattle.wasi_records.specs.Stops.{Code}
+use Rattle.record_common.specs.Stops.{Code}
 use Rattle.wasi_walks.specs.Waiting.{HoldsCall}
-use Rattle.wasi_records.specs.declared.tcp_listening.Listening.TheVariants as listening
+use Rattle.tcp_records.specs.declared.tcp_listening.Listening.TheVariants as listening
 use Rattle.wasi_host.specs.declared.pending.Outcome.{Outcome as Given}
 use Rattle.host_store.specs.declared.store.StandingCall.TheVariants.{Listen}
 use Rattle.wasi_steps.specs.declared.reply.Reply.TheVariants as reply

@@ -5,6 +5,7 @@ use Rattle.wasi_causes.specs.Datagrams.{PendingHandleIsLive}
 use Rattle.wasi_causes.specs.Outcomes.{Outcome}
 use Rattle.wasi_causes.specs.P3Listens.{BeganBefore, ListenFails, ListenTold, NotInFirstState, OperationGoesOn}
 use Rattle.wasi_steps.specs.declared.guest_call.GuestCall.TheVariants as guest
+use Rattle.wasi_steps.specs.declared.guest_call.P3TcpCall.TheVariants as p3_tcp_call
 use Rattle.wasi_steps.specs.declared.reply.Reply.TheVariants as reply
 use Rattle.wasi_steps.specs.declared.step.Step.TheVariants as step
 use Rattle.wasi_world.specs.declared.outcome.TrapKind.TheVariants as trap
@@ -20,7 +21,7 @@ module _ (contexts : List WasiSocketsCtx) (m : Machine) (line c handle : ℕ) (e
   free_of : (after : Machine) → m.store.standing ≡ None → after.store.standing ≡ m.store.standing → PendingHandleIsLive after
   free_of after none same = free_well after (same ∙ none)
 
-  pub listen_live : (r : Reply) (after : Machine) → m.store.standing ≡ None → Outcome contexts m line (step.Call c (guest.P3TcpListen handle)) es r after → PendingHandleIsLive after
+  pub listen_live : (r : Reply) (after : Machine) → m.store.standing ≡ None → Outcome contexts m line (step.Call c (guest.P3Tcp (p3_tcp_call.Listen handle))) es r after → PendingHandleIsLive after
   listen_live (reply.Ok fields) after none row = free_of after none (ap (λ (x : Machine). x.store.standing) row.1.1.holds.left)
   listen_live (reply.Err w) after none row =
       let k = row.1.1 in free_of after none (refused_free m (own_of line) k.place k.found es k.holds.code after k.holds.cause)

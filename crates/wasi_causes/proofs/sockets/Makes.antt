@@ -25,10 +25,10 @@ use Rattle.host_tcp.specs.Creates.{code_told, same_told, with_room}
 use Rattle.wasi_causes.specs.Outcomes.{FullAfter, LeavesSocket, OnlyWhere, Outcome}
 use Rattle.wasi_causes.specs.Reached.{Finishes, FinishesAt, MayFinish}
 use Rattle.wasi_records.specs.Records.{tcp2_at, tcp2_put, tcp2_pushed}
-use Rattle.wasi_records.specs.declared.tcp_listening.Listening.TheVariants as listening
+use Rattle.tcp_records.specs.declared.tcp_listening.Listening.TheVariants as listening
 use Rattle.wasi_addr.specs.declared.p2.ErrorCode.TheVariants as word_p2
 use Rattle.wasi_causes.proofs.Words.{Code, record_in, socket_at, if◌then◌else◌}
-use Rattle.wasi_records.specs.Sockets.{poll_connect_asks}
+use Rattle.tcp_records.specs.Sockets.{poll_connect_asks}
 use Rattle.host_store.specs.Block.{Read, last, need, ◌>>=◌, ◌>>◌}
 use Rattle.host_store.specs.Lines.{in_store, done_by, finish_connect_of}
 use Rattle.wasi_p2.specs.Tcp.{accept_asks, finish_connect, make_streams}
@@ -36,6 +36,8 @@ use Rattle.wasi_walks.specs.Answered.{ConnectsOn, StillConnects, WasClosed}
 use Rattle.wasi_steps.specs.declared.reply.CodeWord.TheVariants as word
 use Rattle.wasi_steps.specs.declared.reply.Reply.TheVariants as reply
 use Rattle.wasi_steps.specs.declared.guest_call.GuestCall.TheVariants as guest
+use Rattle.wasi_steps.specs.declared.guest_call.TcpCall.TheVariants as tcp_call
+use Rattle.wasi_steps.specs.declared.guest_call.NameCall.TheVariants as name_call
 use Rattle.wasi_steps.specs.declared.step.Step.TheVariants as step
 use Rattle.wasi_tcp.specs.declared.listener.Accepting.TheVariants as accepting
 use Rattle.wasi_tcp.specs.declared.socket.TcpState.TheVariants as state
@@ -46,7 +48,7 @@ use Rattle.wasi_walks.proofs.Places.{push_finds, tcp_sort}
 
 -- == a network, and a create
 module _ (contexts : List WasiSocketsCtx) (m : Machine) (line c : ℕ) where
-  pub network : Meets (Says contexts m line (step.Call c guest.Network)) [] (bind (network_asks m (own_of line)) (λ done. Give (handle_reply done.0, done.1)))
+  pub network : Meets (Says contexts m line (step.Call c (guest.Names name_call.Network))) [] (bind (network_asks m (own_of line)) (λ done. Give (handle_reply done.0, done.1)))
   network = onto _ (onto _ (makes m.table (own_of line) Network None None (λ full. (tt, (tt, full_so m m [] full refl refl, tt))) (tt, ((tt, tt), tt))))
 
   module _ (family : SocketAddressFamily) where
@@ -95,7 +97,7 @@ module _ (contexts : List WasiSocketsCtx) (m : Machine) (line c : ℕ) where
 
 -- a create of 0.2, for whose context room is made first
 pub create : (contexts : List WasiSocketsCtx) (m : Machine) (line c : ℕ) (family : SocketAddressFamily)
-    → Meets (Says contexts m line (step.Call c (guest.TcpCreate family))) [] (bind (create_asks m (own_of line) (context_at contexts c) family) (λ done. Give (handle_reply done.0, done.1)))
+    → Meets (Says contexts m line (step.Call c (guest.Tcp (tcp_call.Create family)))) [] (bind (create_asks m (own_of line) (context_at contexts c) family) (λ done. Give (handle_reply done.0, done.1)))
 create contexts m line c family =
     let now : Machine = with_room m (context_at contexts c) in
     onto _ (creates contexts now line c family same_told code_told Tcp2
@@ -109,7 +111,7 @@ module _ (contexts : List WasiSocketsCtx) (m : Machine) (line c handle : ℕ) wh
 
   -- == the finish of a connect
   abbrev FinishSays : Rows (Result (ℕ × ℕ) Stop × Machine)
-  FinishSays es done = Outcome contexts m line (step.Call c (guest.TcpFinishConnect handle)) es (pair_reply done.0) done.1
+  FinishSays es done = Outcome contexts m line (step.Call c (guest.Tcp (tcp_call.FinishConnect handle))) es (pair_reply done.0) done.1
 
   abbrev PollRow : Rows (Result (Unit {0}) Stop × Records)
   PollRow es (Ok done, store) = (HasNoConnectInProgress (record_at m handle) → ⊥) × (marks_in es ≡ 0)
@@ -179,7 +181,7 @@ module _ (contexts : List WasiSocketsCtx) (m : Machine) (line c handle : ℕ) wh
   connected place es store k =
       makes_streams (record m { store = store }) es own handle place (side_at (tcp2_at store.records place)) m.table.next (let none = k.1 in omega arith) (λ fs table full count. (apart (λ e. cc) k.0, (tt, (full, count), tt))) (apart (λ e. cc) k.0, ((tt, (tt, tt)), tt))
 
-  pub finish_connect_row : Meets (Says contexts m line (step.Call c (guest.TcpFinishConnect handle))) [] (bind (finish_connect own handle m) (λ done. Give (pair_reply done.0, done.1)))
+  pub finish_connect_row : Meets (Says contexts m line (step.Call c (guest.Tcp (tcp_call.FinishConnect handle)))) [] (bind (finish_connect own handle m) (λ done. Give (pair_reply done.0, done.1)))
   finish_connect_row =
       onto _ (finds (λ place. in_store (finish_connect_of place) >> (Read (λ m. side_at (tcp2_at m.store.records place)) >>= λ side. make_streams own handle place side)) (socket_at m handle)
       (λ none. missing (ap (record_in m) none))
@@ -196,7 +198,7 @@ module _ (contexts : List WasiSocketsCtx) (m : Machine) (line c handle : ℕ) wh
 
   -- == an accept
   abbrev AcceptSays : Rows (Result (ℕ × ℕ × ℕ) Stop × Machine)
-  AcceptSays es done = Outcome contexts m line (step.Call c (guest.TcpAccept handle)) es (triple_reply done.0) done.1
+  AcceptSays es done = Outcome contexts m line (step.Call c (guest.Tcp (tcp_call.Accept handle))) es (triple_reply done.0) done.1
 
   -- the records, where this connection was taken from the listener
   abbrev taking : ℕ → TcpRecord → Listener → OpId → IpSocketAddress → Records
@@ -255,7 +257,7 @@ module _ (contexts : List WasiSocketsCtx) (m : Machine) (line c handle : ℕ) wh
 
     by_listening : (o : Listening) → r.listening ≡ o → Meets TakingRow [] (accept_listening (first_ids line) r o)
     by_listening (listening.Accepts l) e = onto _ (accepts line l (accept_end l) (made_of_it l e))
-    by_listening _ e = ends (put_back (λ (after : Machine). Outcome contexts m line (step.Call c (guest.TcpAccept handle)) [] (triple_reply (Err (code_stop InvalidState))) after) m place r n.at (tt, (inr (code_word InvalidState), λ holds. here n (NoListener (rw e tt) refl))))
+    by_listening _ e = ends (put_back (λ (after : Machine). Outcome contexts m line (step.Call c (guest.Tcp (tcp_call.Accept handle))) [] (triple_reply (Err (code_stop InvalidState))) after) m place r n.at (tt, (inr (code_word InvalidState), λ holds. here n (NoListener (rw e tt) refl))))
 
   -- == the (with_handle two (Output place) (Some next)) handles
   module _ (es : List Entry) (place : ℕ) (store : Records) (t : Took es place store) where
@@ -316,7 +318,7 @@ module _ (contexts : List WasiSocketsCtx) (m : Machine) (line c handle : ℕ) wh
   accepted es (Ok place, store) t = subst (λ (o : Option OpId). Meets AcceptSays es (accepted_handles (record m { store = store }) own handle place o)) (sym t.its_side) (handles es place store t)
   accepted es (Err stop, store) k = ends k
 
-  pub accept : Meets (Says contexts m line (step.Call c (guest.TcpAccept handle))) [] (bind (accept_asks m (first_ids line) handle) (λ done. Give (triple_reply done.0, done.1)))
+  pub accept : Meets (Says contexts m line (step.Call c (guest.Tcp (tcp_call.Accept handle)))) [] (bind (accept_asks m (first_ids line) handle) (λ done. Give (triple_reply done.0, done.1)))
   accept =
       onto _ (through_record m handle (accept_on m (first_ids line) handle) (λ place o. accept_at m.store (first_ids line) place o) (λ place done. accepted_asks own handle done) (λ place. refl) (λ place. refl) (λ none. ends (tt, (none, (refl, refl)))) (λ none place. ends (tt, (none, (refl, refl))))
       (λ place r n. widen accepted (onto _ (by_listening place r n r.listening refl))))

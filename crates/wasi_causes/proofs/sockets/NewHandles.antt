@@ -8,7 +8,7 @@ use Rattle.std.specs.Prelude.{◌^◌, ◌||◌}
 use Rattle.wasi_addr.specs.declared.address.SocketAddressFamily.{SocketAddressFamily}
 use Rattle.wasi_world.specs.declared.ids.Ids.{Ids}
 use Rattle.wasi_records.specs.Records.{tcp2_at}
-use Rattle.wasi_records.specs.Stops.{Code, StopOf, Trap}
+use Rattle.record_common.specs.Stops.{Code, StopOf, Trap}
 use Rattle.host_store.specs.Block as block
 use Rattle.host_store.specs.Block.{Does, after_call, or_stop, or_trap}
 use Rattle.host_store.specs.Lines.{finish_connect_of, in_store, makes, same_stop, storing, tabling}
@@ -17,6 +17,7 @@ use Rattle.host_tcp.specs.Creates.{same_told, with_room}
 use Rattle.host_store.specs.Machine.{with_table}
 use Rattle.wasi_p2.specs.Tcp.{accept_on, accepted_asks, finish_connect, make_streams, socket_with_streams}
 use Rattle.wasi_steps.specs.declared.guest_call.GuestCall.TheVariants as guest
+use Rattle.wasi_steps.specs.declared.guest_call.TcpCall.TheVariants as tcp_call
 use Rattle.wasi_steps.specs.declared.reply.Field.{Field}
 use Rattle.wasi_steps.specs.declared.reply.Reply.TheVariants as reply
 use Rattle.wasi_steps.specs.declared.step.Step.TheVariants as step
@@ -181,24 +182,24 @@ module _ (contexts : List WasiSocketsCtx) (m : Machine) (line ctx : ℕ) where
   three es (Err (Trap kind)) h = tt
 
   module _ (family : SocketAddressFamily) where
-    create_while : (o : Option Standing) → Gives (λ fs done. OneReplied fs done.0) [] (asks_while contexts m line (step.Call ctx (guest.TcpCreate family)) o)
+    create_while : (o : Option Standing) → Gives (λ fs done. OneReplied fs done.0) [] (asks_while contexts m line (step.Call ctx (guest.Tcp (tcp_call.Create family))) o)
     create_while None = gives_then (λ fs done. One (own_of line) fs done.0) (λ fs done. OneReplied fs done.0) [] (create_asks m (own_of line) (context_at contexts ctx) family) (λ done. Give (reply_of number_fields done.0, done.1)) (creates (own_of line) m (context_at contexts ctx) family []) (λ fs done k. one fs done.0 k)
     create_while (Some c) = tt
 
-    pub create_gives : (es : List Entry) (fields : List Field) (after : Machine) → Answered contexts m line (step.Call ctx (guest.TcpCreate family)) es (reply.Ok fields) after → GivesOne (own_of line) es fields
-    create_gives es fields after a = given (λ fs done. OneReplied fs done.0) (asks_while contexts m line (step.Call ctx (guest.TcpCreate family)) m.store.standing) es (reply.Ok fields, after) (create_while m.store.standing) a
+    pub create_gives : (es : List Entry) (fields : List Field) (after : Machine) → Answered contexts m line (step.Call ctx (guest.Tcp (tcp_call.Create family))) es (reply.Ok fields) after → GivesOne (own_of line) es fields
+    create_gives es fields after a = given (λ fs done. OneReplied fs done.0) (asks_while contexts m line (step.Call ctx (guest.Tcp (tcp_call.Create family))) m.store.standing) es (reply.Ok fields, after) (create_while m.store.standing) a
 
   module _ (socket : ℕ) where
-    finish_while : (o : Option Standing) → Gives (λ fs done. TwoReplied fs done.0) [] (asks_while contexts m line (step.Call ctx (guest.TcpFinishConnect socket)) o)
+    finish_while : (o : Option Standing) → Gives (λ fs done. TwoReplied fs done.0) [] (asks_while contexts m line (step.Call ctx (guest.Tcp (tcp_call.FinishConnect socket))) o)
     finish_while None = gives_then (λ fs done. Two (own_of line) fs done.0) (λ fs done. TwoReplied fs done.0) [] (finish_connect (own_of line) socket m) (λ done. Give (reply_of pair_values done.0, done.1)) (finished (own_of line) socket m []) (λ fs done k. two fs done.0 k)
     finish_while (Some c) = tt
 
-    pub finish_gives : (es : List Entry) (fields : List Field) (after : Machine) → Answered contexts m line (step.Call ctx (guest.TcpFinishConnect socket)) es (reply.Ok fields) after → GivesTwo (own_of line) es fields
-    finish_gives es fields after a = given (λ fs done. TwoReplied fs done.0) (asks_while contexts m line (step.Call ctx (guest.TcpFinishConnect socket)) m.store.standing) es (reply.Ok fields, after) (finish_while m.store.standing) a
+    pub finish_gives : (es : List Entry) (fields : List Field) (after : Machine) → Answered contexts m line (step.Call ctx (guest.Tcp (tcp_call.FinishConnect socket))) es (reply.Ok fields) after → GivesTwo (own_of line) es fields
+    finish_gives es fields after a = given (λ fs done. TwoReplied fs done.0) (asks_while contexts m line (step.Call ctx (guest.Tcp (tcp_call.FinishConnect socket))) m.store.standing) es (reply.Ok fields, after) (finish_while m.store.standing) a
 
-    accept_while : (o : Option Standing) → Gives (λ fs done. ThreeReplied fs done.0) [] (asks_while contexts m line (step.Call ctx (guest.TcpAccept socket)) o)
+    accept_while : (o : Option Standing) → Gives (λ fs done. ThreeReplied fs done.0) [] (asks_while contexts m line (step.Call ctx (guest.Tcp (tcp_call.Accept socket))) o)
     accept_while None = gives_then (λ fs done. Three (own_of line) fs done.0) (λ fs done. ThreeReplied fs done.0) [] (accept_on m (first_ids line) socket (socket_at m socket)) (λ done. Give (reply_of triple_values done.0, done.1)) (accepts (own_of line) m (first_ids line) refl socket (socket_at m socket) []) (λ fs done k. three fs done.0 k)
     accept_while (Some c) = tt
 
-    pub accept_gives : (es : List Entry) (fields : List Field) (after : Machine) → Answered contexts m line (step.Call ctx (guest.TcpAccept socket)) es (reply.Ok fields) after → GivesThree (own_of line) es fields
-    accept_gives es fields after a = given (λ fs done. ThreeReplied fs done.0) (asks_while contexts m line (step.Call ctx (guest.TcpAccept socket)) m.store.standing) es (reply.Ok fields, after) (accept_while m.store.standing) a
+    pub accept_gives : (es : List Entry) (fields : List Field) (after : Machine) → Answered contexts m line (step.Call ctx (guest.Tcp (tcp_call.Accept socket))) es (reply.Ok fields) after → GivesThree (own_of line) es fields
+    accept_gives es fields after a = given (λ fs done. ThreeReplied fs done.0) (asks_while contexts m line (step.Call ctx (guest.Tcp (tcp_call.Accept socket))) m.store.standing) es (reply.Ok fields, after) (accept_while m.store.standing) a

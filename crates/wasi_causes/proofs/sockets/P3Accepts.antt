@@ -23,13 +23,14 @@ use Rattle.wasi_machine.specs.Machine.{stream_result_reply}
 use Rattle.wasi_p3.specs.Listening.{Polled, accept_by, hand_over, handed, looked}
 use Rattle.wasi_p3.specs.Listening as listening3
 use Rattle.wasi_p3.specs.Stops.{P3Stop}
-use Rattle.wasi_records.specs.declared.slot.StreamResult.TheVariants.{Completed}
-use Rattle.wasi_records.specs.declared.tcp_listening.Listening.TheVariants as listening
-use Rattle.wasi_records.specs.Listening.{accept_record_asks, look_accept_asks, look_listening}
+use Rattle.tcp_records.specs.declared.slot.StreamResult.TheVariants.{Completed}
+use Rattle.tcp_records.specs.declared.tcp_listening.Listening.TheVariants as listening
+use Rattle.tcp_records.specs.Listening.{accept_record_asks, look_accept_asks, look_listening}
 use Rattle.wasi_records.specs.Records.{tcp2_at, tcp2_put}
-use Rattle.wasi_records.specs.Sockets.{new_record}
-use Rattle.wasi_records.specs.Stops.{Code}
+use Rattle.tcp_records.specs.Sockets.{new_record}
+use Rattle.record_common.specs.Stops.{Code}
 use Rattle.wasi_steps.specs.declared.guest_call.GuestCall.TheVariants as guest
+use Rattle.wasi_steps.specs.declared.guest_call.P3TcpCall.TheVariants as p3_tcp_call
 use Rattle.wasi_steps.specs.declared.step.Step.TheVariants as step
 use Rattle.wasi_steps.specs.Reply.{handed_fields, number_fields}
 use Rattle.wasi_steps.specs.Steps.{ANumber, kinds_of}
@@ -49,7 +50,7 @@ some n = ne_eqb (suc n) 0 (λ e. cc)
 
 module _ (contexts : List WasiSocketsCtx) (m : Machine) (line c handle : ℕ) where
   abbrev Said : ℕ → Rows (Result Polled P3Stop × Machine)
-  Said remaining = Replied contexts m line (step.Call c (guest.P3Accept handle remaining)) (stream_result_reply handed_fields)
+  Said remaining = Replied contexts m line (step.Call c (guest.P3Tcp (p3_tcp_call.Accept handle remaining))) (stream_result_reply handed_fields)
 
   module _ (place : ℕ) (names : listen3_at m handle ≡ Some place) where
     of_listener : {P : ℕ → TcpRecord → Type 0} (r : TcpRecord) → tcp2_at m.store.records place ≡ Some r → P place r → OfListener m handle P
@@ -151,7 +152,7 @@ module _ (contexts : List WasiSocketsCtx) (m : Machine) (line c handle : ℕ) wh
           its_side : side_at (tcp2_at left.store.records its) ≡ side_of socket
           its_side = ap side_at (push_finds tcp_sort (tcp2_put m.store.records place (with_listening r (listening.Accepts (with_accept l accepting.Idle)))) (new_record socket))
 
-          a_number : AreLike (kinds_of (step.Call c (guest.P3Accept handle (suc rest)))) (number_fields left.table.next)
+          a_number : AreLike (kinds_of (step.Call c (guest.P3Tcp (p3_tcp_call.Accept handle (suc rest))))) (number_fields left.table.next)
           a_number = subst (λ (b : Bool). EachLike (if b then [] else ANumber ∷ []) (number_fields left.table.next)) (sym (some rest)) (tt, tt)
 
           named : (side : Option OpId) → side ≡ side_of socket → Meets (Said (suc rest)) es (goes_on (Call trap_of (λ m. m.table) tabling (λ t. make_asks t (own_of line) (Tcp3 its) (Some handle) side)) (λ socket. give (Ready (Completed (Some socket)))) left)
@@ -172,7 +173,7 @@ module _ (contexts : List WasiSocketsCtx) (m : Machine) (line c handle : ℕ) wh
         subst (λ (b : Bool). Meets (Said (suc rest)) [] (accept_by (first_ids line) true handle place b m)) (sym (some rest))
         (calls {Mid = TakeRow rest} _ (takes_so rest) (λ es why store row. ends row) (after_store rest))
 
-  pub p3_accept : (remaining : ℕ) → Meets (Says contexts m line (step.Call c (guest.P3Accept handle remaining))) [] (bind (listening3.accept (first_ids line) true remaining handle m) (λ done. Give (stream_result_reply handed_fields done.0, done.1)))
+  pub p3_accept : (remaining : ℕ) → Meets (Says contexts m line (step.Call c (guest.P3Tcp (p3_tcp_call.Accept handle remaining)))) [] (bind (listening3.accept (first_ids line) true remaining handle m) (λ done. Give (stream_result_reply handed_fields done.0, done.1)))
   p3_accept remaining =
       onto _ (finds (λ place. accept_by (first_ids line) true handle place (remaining == 0)) (listen3_at m handle) (λ none. (tt, (ap (tcp_in m) none, (refl, refl))))
       (λ place names. by_remaining place names remaining))

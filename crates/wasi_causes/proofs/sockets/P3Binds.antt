@@ -39,14 +39,16 @@ use Rattle.wasi_p3.specs.Lines.{in_base, udp_in}
 use Rattle.wasi_p3.specs.Stops.{P3Stop}
 use Rattle.wasi_p3.specs.Tcp as p3
 use Rattle.wasi_p3.specs.Udp as udp3
-use Rattle.wasi_records.specs.Binding.{left_of}
-use Rattle.wasi_records.specs.declared.tcp_binding.InProgress.TheVariants as doing
-use Rattle.wasi_records.specs.declared.udp.OpenUdp.{OpenUdp}
-use Rattle.wasi_records.specs.declared.udp.UdpInProgress.TheVariants as udp_doing
+use Rattle.record_common.specs.Binding.{left_of}
+use Rattle.tcp_records.specs.declared.tcp_binding.InProgress.TheVariants as doing
+use Rattle.udp_records.specs.declared.udp.OpenUdp.{OpenUdp}
+use Rattle.udp_records.specs.declared.udp.UdpInProgress.TheVariants as udp_doing
 use Rattle.wasi_records.specs.Records.{open_at, tcp2_at}
-use Rattle.wasi_records.specs.Stops.{Code}
-use Rattle.wasi_records.specs.Udp.{udp_bind_begun, udp_bind_ended, with_udp_progress}
+use Rattle.record_common.specs.Stops.{Code}
+use Rattle.udp_records.specs.Udp.{udp_bind_begun, udp_bind_ended, with_udp_progress}
 use Rattle.wasi_steps.specs.declared.guest_call.GuestCall.TheVariants as guest
+use Rattle.wasi_steps.specs.declared.guest_call.P3TcpCall.TheVariants as p3_tcp_call
+use Rattle.wasi_steps.specs.declared.guest_call.P3UdpCall.TheVariants as p3_udp_call
 use Rattle.wasi_steps.specs.declared.step.Step.TheVariants as step
 use Rattle.wasi_steps.specs.Reply.{no_values}
 use Rattle.wasi_tcp.specs.Socket.{bind_start}
@@ -184,7 +186,7 @@ module _ (m : Machine) (line place : ℕ) (o : OpenUdp) (at : open_at m.store.re
 -- == the steps
 module _ (contexts : List WasiSocketsCtx) (m : Machine) (line c handle : ℕ) (a : IpSocketAddress) where
   abbrev TcpSaid : Rows (Result (Answer (Unit {0})) P3Stop × Machine)
-  TcpSaid = Replied contexts m line (step.Call c (guest.P3TcpBind handle a)) (p3_answer_reply no_values line)
+  TcpSaid = Replied contexts m line (step.Call c (guest.P3Tcp (p3_tcp_call.Bind handle a))) (p3_answer_reply no_values line)
 
   module _ (place : ℕ) (names : tcp3_at m handle ≡ Some place) where
     of_tcp : {P : ℕ → TcpRecord → Type 0} (r : TcpRecord) → tcp2_at m.store.records place ≡ Some r → P place r → OfTcp3 m handle P
@@ -201,14 +203,14 @@ module _ (contexts : List WasiSocketsCtx) (m : Machine) (line c handle : ℕ) (a
         (λ none. (tt, (ap (tcp_in m) names ∙ none, (refl, refl))))
         (λ r at. calls _ (begins m line place r at a) (λ es code now h. ends (tt, (p3_code code, of_tcp r at (record { code = code; is = refl; cause = h })))) (tcp_kept r at))
 
-  pub p3_tcp_bind : Meets (Says contexts m line (step.Call c (guest.P3TcpBind handle a))) [] (bind (p3.bind_to (first_ids line) handle a m) (λ done. Give (p3_answer_reply no_values line done.0, done.1)))
+  pub p3_tcp_bind : Meets (Says contexts m line (step.Call c (guest.P3Tcp (p3_tcp_call.Bind handle a)))) [] (bind (p3.bind_to (first_ids line) handle a m) (λ done. Give (p3_answer_reply no_values line done.0, done.1)))
   p3_tcp_bind =
       onto _ (finds (λ place. last (in_base (bind_of (first_ids line) place a))) (tcp3_at m handle) (λ none. (tt, (ap (tcp_in m) none, (refl, refl))))
       (λ place names. calls _ (tcp_binds place names) (λ es why store row. ends row) (λ es answer store row. ends row)))
 
   -- == of a UDP socket
   abbrev UdpSaid : Rows (Result (Answer (Unit {0})) P3Stop × Machine)
-  UdpSaid = Replied contexts m line (step.Call c (guest.P3UdpBind handle a)) (p3_answer_reply no_values line)
+  UdpSaid = Replied contexts m line (step.Call c (guest.P3Udp (p3_udp_call.Bind handle a))) (p3_answer_reply no_values line)
 
   module _ (place : ℕ) (names : udp3_at m handle ≡ Some place) where
     of_udp : {P : ℕ → OpenUdp → Type 0} (o : OpenUdp) → open_at m.store.records place ≡ Some o → P place o → OfUdp3 m handle P
@@ -225,7 +227,7 @@ module _ (contexts : List WasiSocketsCtx) (m : Machine) (line c handle : ℕ) (a
         (λ none. (tt, (ap (udp_in m) names ∙ none, (refl, refl))))
         (λ o at. calls _ (udp_begins m line place o at a) (λ es code now h. ends (tt, (p3_code code, of_udp o at (record { code = code; is = refl; cause = h })))) (udp_kept o at))
 
-  pub p3_udp_bind : Meets (Says contexts m line (step.Call c (guest.P3UdpBind handle a))) [] (bind (udp3.bind_to (first_ids line) handle a m) (λ done. Give (p3_answer_reply no_values line done.0, done.1)))
+  pub p3_udp_bind : Meets (Says contexts m line (step.Call c (guest.P3Udp (p3_udp_call.Bind handle a)))) [] (bind (udp3.bind_to (first_ids line) handle a m) (λ done. Give (p3_answer_reply no_values line done.0, done.1)))
   p3_udp_bind =
       onto _ (finds (λ place. last (in_base (udp_bind_of (first_ids line) place a))) (udp3_at m handle) (λ none. (tt, (ap (udp_in m) none, (refl, refl))))
       (λ place names. calls _ (udp_binds_so place names) (λ es why store row. ends row) (λ es answer store row. ends row)))

@@ -5,7 +5,7 @@ use Rattle.wasi_causes.proofs.Words.{InvalidArgument, InvalidState, IpSocketAddr
 use Rattle.wasi_causes.proofs.Words.{OpId, Operation, Refused, Socket, TcpRecord, TcpState, Told, Waits}
 use Rattle.wasi_causes.proofs.Words.{WasiSocketsCtx, bind, Done, End, entry, is_connectable, is_nothing, own_of, p3_word, putting}
 use Rattle.wasi_causes.proofs.Words.{connect_ended, connect_start, in_socket, with_inner, with_state, start_connect_in}
-use Rattle.wasi_records.specs.Sockets.{inner_answered}
+use Rattle.tcp_records.specs.Sockets.{inner_answered}
 use Rattle.wasi_addr.specs.Code.{p3_of_code}
 use Rattle.wasi_causes.proofs.Beside.{found_last}
 use Rattle.wasi_causes.proofs.operations.ConnectEnds.{ConnectEnd, connect_ends_so}
@@ -33,8 +33,9 @@ use Rattle.wasi_causes.proofs.Words.{if◌then◌else◌}
 use Rattle.wasi_p3.specs.Stops.{P3Stop}
 use Rattle.wasi_p3.specs.Tcp as p3
 use Rattle.wasi_records.specs.Records.{tcp2_at}
-use Rattle.wasi_records.specs.Stops.{Code}
+use Rattle.record_common.specs.Stops.{Code}
 use Rattle.wasi_steps.specs.declared.guest_call.GuestCall.TheVariants as guest
+use Rattle.wasi_steps.specs.declared.guest_call.P3TcpCall.TheVariants as p3_tcp_call
 use Rattle.wasi_steps.specs.declared.step.Step.TheVariants as step
 use Rattle.wasi_steps.specs.Reply.{no_values}
 use Rattle.wasi_tcp.specs.Connect.{IsConnect, Unbound, Unchecked}
@@ -109,7 +110,7 @@ module _ (m : Machine) (line place : ℕ) (r : TcpRecord) (at : tcp2_at m.store.
 -- == the step
 module _ (contexts : List WasiSocketsCtx) (m : Machine) (line c handle : ℕ) (a : IpSocketAddress) where
   abbrev Said : Rows (Result (Answer (Unit {0})) P3Stop × Machine)
-  Said = Replied contexts m line (step.Call c (guest.P3TcpConnect handle a)) (p3_answer_reply no_values line)
+  Said = Replied contexts m line (step.Call c (guest.P3Tcp (p3_tcp_call.Connect handle a))) (p3_answer_reply no_values line)
 
   module _ (place : ℕ) (names : tcp3_at m handle ≡ Some place) where
     abbrev its_call : Beside
@@ -141,7 +142,7 @@ module _ (contexts : List WasiSocketsCtx) (m : Machine) (line c handle : ℕ) (a
         (λ none. (tt, (ap (tcp_in m) names ∙ none, (refl, refl))))
         (λ r at. by_progress r at (is_nothing r.in_progress) refl))
 
-  pub p3_tcp_connect : Meets (Says contexts m line (step.Call c (guest.P3TcpConnect handle a))) [] (bind (p3.connect_to line handle a m) (λ done. Give (p3_answer_reply no_values line done.0, done.1)))
+  pub p3_tcp_connect : Meets (Says contexts m line (step.Call c (guest.P3Tcp (p3_tcp_call.Connect handle a)))) [] (bind (p3.connect_to line handle a m) (λ done. Give (p3_answer_reply no_values line done.0, done.1)))
   p3_tcp_connect =
       onto _ (finds (λ place. last (in_base (connect_of line place a))) (tcp3_at m handle) (λ none. (tt, (ap (tcp_in m) none, (refl, refl))))
       (λ place names. calls _ (connects_so place names) (λ es why store row. ends row) (λ es answer store row. ends row)))

@@ -4,7 +4,7 @@ use Rattle.wasi_causes.proofs.Words.{Answered, Done, End, Entry, Field, InvalidS
 use Rattle.std.specs.Prelude.{◌≢◌}
 use Rattle.wasi_world.specs.Operation as item
 use Rattle.wasi_udp.specs.Send.{at_remote}
-use Rattle.wasi_records.specs.declared.udp.OpenUdp.{OpenUdp}
+use Rattle.udp_records.specs.declared.udp.OpenUdp.{OpenUdp}
 use Rattle.wasi_records.specs.Records.{open_at}
 use Rattle.host_store.specs.declared.beside.Beside.{Beside}
 use Rattle.host_store.specs.declared.beside.BesideCall.{BesideCall}

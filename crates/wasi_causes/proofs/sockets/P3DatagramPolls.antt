@@ -6,10 +6,10 @@ use Rattle.wasi_world.specs.declared.datagram.IncomingDatagram.{IncomingDatagram
 use Rattle.wasi_world.specs.Operation.{Datagram}
 use Rattle.wasi_udp.specs.Receive.{wanted_in}
 use Rattle.wasi_udp.specs.Send.{at_remote}
-use Rattle.wasi_records.specs.Binding.{bind_answer, left_of}
-use Rattle.wasi_records.specs.declared.udp.OpenUdp.{OpenUdp}
+use Rattle.record_common.specs.Binding.{bind_answer, left_of}
+use Rattle.udp_records.specs.declared.udp.OpenUdp.{OpenUdp}
 use Rattle.wasi_records.specs.Records.{open_at}
-use Rattle.wasi_records.specs.Stops.{Code}
+use Rattle.record_common.specs.Stops.{Code}
 use Rattle.host_store.specs.declared.beside.Beside.{Beside}
 use Rattle.host_store.specs.declared.beside.BesideCall.{BesideCall}
 use Rattle.host_store.specs.declared.beside.BesideCall.TheVariants.{Receive, Send}

@@ -18,11 +18,11 @@ use Rattle.wasi_udp.specs.Receive.{receive_operation, receive_start}
 use Rattle.wasi_udp.specs.Send.{at_remote, is_sendable, send_first, send_operation, where_to}
 use Rattle.wasi_udp.specs.Shape.{Socket}
 use Rattle.wasi_udp.specs.Socket.{asker_of}
-use Rattle.wasi_records.specs.declared.udp.OpenUdp.{OpenUdp}
+use Rattle.udp_records.specs.declared.udp.OpenUdp.{OpenUdp}
 use Rattle.wasi_records.specs.Records.{open_at}
-use Rattle.wasi_records.specs.Stops.{Code}
-use Rattle.wasi_records.specs.Udp.{with_udp_inner}
-use Rattle.wasi_records.specs.Binding.{bind_answer, left_of}
+use Rattle.record_common.specs.Stops.{Code}
+use Rattle.udp_records.specs.Udp.{with_udp_inner}
+use Rattle.record_common.specs.Binding.{bind_answer, left_of}
 use Rattle.host_store.specs.BaseStops.{BaseStop, told_as}
 use Rattle.host_store.specs.Beside.{beside_as}
 use Rattle.host_store.specs.Block.{Call, after_call, goes_on, last}
@@ -34,6 +34,7 @@ use Rattle.wasi_machine.specs.Machine.{p3_answer_reply}
 use Rattle.wasi_p3.specs.Lines.{in_base, udp_in}
 use Rattle.wasi_p3.specs.Udp as udp3
 use Rattle.wasi_steps.specs.declared.guest_call.GuestCall.TheVariants as guest
+use Rattle.wasi_steps.specs.declared.guest_call.P3UdpCall.TheVariants as p3_udp_call
 use Rattle.wasi_steps.specs.declared.step.Step.TheVariants as step
 use Rattle.wasi_steps.specs.Reply.{no_values, received_values}
 use Rattle.wasi_causes.proofs.Beside.{found_last}
@@ -77,7 +78,7 @@ module _ (contexts : List WasiSocketsCtx) (m : Machine) (line c handle place : �
   -- == a send
   module _ (d : OutgoingDatagram) where
     abbrev SendRow : Rows (Result (Answer (Unit {0})) BaseStop × Records)
-    SendRow es done = Replied contexts m line (step.Call c (guest.P3UdpSend handle d)) (p3_answer_reply no_values line) es (told_as p3_of_code done.0, record m { store = done.1 })
+    SendRow es done = Replied contexts m line (step.Call c (guest.P3Udp (p3_udp_call.Send handle d))) (p3_answer_reply no_values line) es (told_as p3_of_code done.0, record m { store = done.1 })
 
     -- its poll ended, and what follows
     abbrev sent_so : Socket → Operation → Asks (Result (Answer (Unit {0})) BaseStop × Records)
@@ -158,7 +159,7 @@ module _ (contexts : List WasiSocketsCtx) (m : Machine) (line c handle place : �
 
   -- == a receive
   abbrev ReceiveRow : Rows (Result (Answer IncomingDatagram) BaseStop × Records)
-  ReceiveRow es done = Replied contexts m line (step.Call c (guest.P3UdpReceive handle)) (p3_answer_reply received_values line) es (told_as p3_of_code done.0, record m { store = done.1 })
+  ReceiveRow es done = Replied contexts m line (step.Call c (guest.P3Udp (p3_udp_call.Receive handle))) (p3_answer_reply received_values line) es (told_as p3_of_code done.0, record m { store = done.1 })
 
   -- its poll ended, and what follows
   abbrev received_so : Socket → Operation → Asks (Result (Answer IncomingDatagram) BaseStop × Records)
@@ -222,25 +223,25 @@ module _ (contexts : List WasiSocketsCtx) (m : Machine) (line c handle place : �
 
 -- == the steps
 module _ (contexts : List WasiSocketsCtx) (m : Machine) (line c handle : ℕ) where
-  pub p3_udp_send : (d : OutgoingDatagram) → Meets (Says contexts m line (step.Call c (guest.P3UdpSend handle d))) [] (bind (udp3.send line handle d m) (λ done. Give (p3_answer_reply no_values line done.0, done.1)))
+  pub p3_udp_send : (d : OutgoingDatagram) → Meets (Says contexts m line (step.Call c (guest.P3Udp (p3_udp_call.Send handle d)))) [] (bind (udp3.send line handle d m) (λ done. Give (p3_answer_reply no_values line done.0, done.1)))
   p3_udp_send d =
       onto _ (finds (λ place. last (in_base (send_of line place d))) (udp3_at m handle) (λ none. (tt, (ap (udp_in m) none, (refl, refl))))
       (λ place names. calls _ (on_place place names) (λ es why store row. ends row) (λ es answer store row. ends row)))
     where
       on_place : (place : ℕ) → udp3_at m handle ≡ Some place
-          → Meets (λ es done. Replied contexts m line (step.Call c (guest.P3UdpSend handle d)) (p3_answer_reply no_values line) es (told_as p3_of_code done.0, record m { store = done.1 })) [] (send_of line place d m.store)
+          → Meets (λ es done. Replied contexts m line (step.Call c (guest.P3Udp (p3_udp_call.Send handle d))) (p3_answer_reply no_values line) es (told_as p3_of_code done.0, record m { store = done.1 })) [] (send_of line place d m.store)
       on_place place names =
           finds (λ o. goes_on (Call Code (λ store. o) (λ store now. with_open_udp store place now) (send_begins (own_of line) d)) (λ begun. goes_on (polled (send_polls begun.1 begun.0)) (begun_so bind_answer line (Send place) begun.0))) (open_at m.store.records place)
           (λ none. (tt, (ap (udp_in m) names ∙ none, (refl, refl))))
           (λ o at. sends_so contexts m line c handle place names o at d)
 
-  pub p3_udp_receive : Meets (Says contexts m line (step.Call c (guest.P3UdpReceive handle))) [] (bind (udp3.receive line handle m) (λ done. Give (p3_answer_reply received_values line done.0, done.1)))
+  pub p3_udp_receive : Meets (Says contexts m line (step.Call c (guest.P3Udp (p3_udp_call.Receive handle)))) [] (bind (udp3.receive line handle m) (λ done. Give (p3_answer_reply received_values line done.0, done.1)))
   p3_udp_receive =
       onto _ (finds (λ place. last (in_base (receive_of line place))) (udp3_at m handle) (λ none. (tt, (ap (udp_in m) none, (refl, refl))))
       (λ place names. calls _ (on_place place names) (λ es why store row. ends row) (λ es answer store row. ends row)))
     where
       on_place : (place : ℕ) → udp3_at m handle ≡ Some place
-          → Meets (λ es done. Replied contexts m line (step.Call c (guest.P3UdpReceive handle)) (p3_answer_reply received_values line) es (told_as p3_of_code done.0, record m { store = done.1 })) [] (receive_of line place m.store)
+          → Meets (λ es done. Replied contexts m line (step.Call c (guest.P3Udp (p3_udp_call.Receive handle))) (p3_answer_reply received_values line) es (told_as p3_of_code done.0, record m { store = done.1 })) [] (receive_of line place m.store)
       on_place place names =
           finds (λ o. goes_on (Call Code (λ store. o) (λ store now. with_open_udp store place now) (receive_begins (own_of line))) (λ begun. goes_on (polled (receive_polls begun.1 begun.0)) (begun_so received_answer line (Receive place) begun.0))) (open_at m.store.records place)
           (λ none. (tt, (ap (udp_in m) names ∙ none, (refl, refl))))

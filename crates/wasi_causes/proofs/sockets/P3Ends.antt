@@ -30,10 +30,11 @@ use Rattle.wasi_p3.specs.Lines.{in_base}
 use Rattle.wasi_p3.specs.Streams as streams3
 use Rattle.wasi_p3.specs.Streams.{make_ends}
 use Rattle.wasi_p3.specs.Stops.{P3Stop}
-use Rattle.wasi_records.specs.Ends.{receive_taken, send_taken, take_receive_end, take_send_end}
+use Rattle.tcp_records.specs.Ends.{receive_taken, send_taken, take_receive_end, take_send_end}
 use Rattle.wasi_records.specs.Records.{tcp2_at, tcp2_put}
-use Rattle.wasi_records.specs.Slots.{StreamEnd, slot_for}
+use Rattle.tcp_records.specs.Slots.{StreamEnd, slot_for}
 use Rattle.wasi_steps.specs.declared.guest_call.GuestCall.TheVariants as guest
+use Rattle.wasi_steps.specs.declared.guest_call.P3TcpCall.TheVariants as p3_tcp_call
 use Rattle.wasi_steps.specs.declared.step.Step.{Step}
 use Rattle.wasi_steps.specs.declared.step.Step.TheVariants as step
 use Rattle.wasi_tcp.specs.declared.socket.TcpState.TheVariants as state
@@ -171,12 +172,12 @@ module _ (contexts : List WasiSocketsCtx) (m : Machine) (line c handle : ℕ) (h
     takes_end = finds (λ place. goes_on (in_base (λ store. Give (take_end takes place store))) (after_take place)) (tcp3_at m handle) (λ none. misses (ap (tcp_in m) none)) by_place
 
 module _ (contexts : List WasiSocketsCtx) (m : Machine) (line c handle : ℕ) where
-  pub p3_receive : Meets (Says contexts m line (step.Call c (guest.P3TcpReceive handle))) [] (bind (streams3.receive (own_of line) handle m) (λ done. Give (p3_reply pair_values done.0, done.1)))
+  pub p3_receive : Meets (Says contexts m line (step.Call c (guest.P3Tcp (p3_tcp_call.Receive handle)))) [] (bind (streams3.receive (own_of line) handle m) (λ done. Give (p3_reply pair_values done.0, done.1)))
   p3_receive =
-      onto _ (takes_end contexts m line c handle Receive take_receive_end Receive3 (step.Call c (guest.P3TcpReceive handle)) receive_half_taken (λ end. refl) (λ end. refl)
+      onto _ (takes_end contexts m line c handle Receive take_receive_end Receive3 (step.Call c (guest.P3Tcp (p3_tcp_call.Receive handle))) receive_half_taken (λ end. refl) (λ end. refl)
       (λ none. (tt, (none, (refl, refl)))) (λ es after full h. (tt, (tt, full, h))) (λ es a b after h. (tt, ((tt, (tt, tt)), h))))
 
-  pub p3_send : Meets (Says contexts m line (step.Call c (guest.P3TcpSend handle))) [] (bind (streams3.send (own_of line) handle m) (λ done. Give (p3_reply pair_values done.0, done.1)))
+  pub p3_send : Meets (Says contexts m line (step.Call c (guest.P3Tcp (p3_tcp_call.Send handle)))) [] (bind (streams3.send (own_of line) handle m) (λ done. Give (p3_reply pair_values done.0, done.1)))
   p3_send =
-      onto _ (takes_end contexts m line c handle Send take_send_end Send3 (step.Call c (guest.P3TcpSend handle)) send_half_taken (λ end. refl) (λ end. refl)
+      onto _ (takes_end contexts m line c handle Send take_send_end Send3 (step.Call c (guest.P3Tcp (p3_tcp_call.Send handle))) send_half_taken (λ end. refl) (λ end. refl)
       (λ none. (tt, (none, (refl, refl)))) (λ es after full h. (tt, (tt, full, h))) (λ es a b after h. (tt, ((tt, (tt, tt)), h))))

@@ -24,9 +24,9 @@ use Rattle.host_tcp.specs.Listens.{listened, make_listener, relisten_in, reliste
 use Rattle.host_store.specs.Machine.{side_at, tcp3_at}
 use Rattle.wasi_host.specs.Pending.{answered_on, handle_outcome}
 use Rattle.wasi_machine.specs.Machine.{asks_while, is_held_up}
-use Rattle.wasi_records.specs.declared.tcp_listening.Listening.TheVariants as listening
+use Rattle.tcp_records.specs.declared.tcp_listening.Listening.TheVariants as listening
 use Rattle.wasi_records.specs.Records.{tcp2_at}
-use Rattle.wasi_records.specs.Stops.{Code}
+use Rattle.record_common.specs.Stops.{Code}
 use Rattle.wasi_steps.specs.declared.reply.Reply.TheVariants as reply
 use Rattle.wasi_steps.specs.declared.step.Step.TheVariants as step
 use Rattle.wasi_tcp.specs.Listen.{is_over}

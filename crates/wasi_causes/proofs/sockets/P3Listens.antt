@@ -33,10 +33,11 @@ use Rattle.wasi_machine.specs.Machine.{p3_answer_reply}
 use Rattle.wasi_p3.specs.Lines.{in_host}
 use Rattle.wasi_p3.specs.Listening as listening3
 use Rattle.wasi_p3.specs.Stops.{P3Stop}
-use Rattle.wasi_records.specs.declared.tcp_listening.Listening.TheVariants as listening
+use Rattle.tcp_records.specs.declared.tcp_listening.Listening.TheVariants as listening
 use Rattle.wasi_records.specs.Records.{tcp2_at}
-use Rattle.wasi_records.specs.Stops.{Code}
+use Rattle.record_common.specs.Stops.{Code}
 use Rattle.wasi_steps.specs.declared.guest_call.GuestCall.TheVariants as guest
+use Rattle.wasi_steps.specs.declared.guest_call.P3TcpCall.TheVariants as p3_tcp_call
 use Rattle.wasi_steps.specs.declared.step.Step.TheVariants as step
 use Rattle.wasi_tcp.specs.declared.socket.TcpState.TheVariants as state
 use Rattle.wasi_tcp.specs.Listen.{is_over}
@@ -131,7 +132,7 @@ module _ (m : Machine) (line handle place : ℕ) (r : TcpRecord) (at : tcp2_at m
 -- == the step
 module _ (contexts : List WasiSocketsCtx) (m : Machine) (line c handle : ℕ) where
   abbrev Said : Rows (Result (Answer ℕ) P3Stop × Machine)
-  Said = Replied contexts m line (step.Call c (guest.P3TcpListen handle)) (p3_answer_reply number_fields line)
+  Said = Replied contexts m line (step.Call c (guest.P3Tcp (p3_tcp_call.Listen handle))) (p3_answer_reply number_fields line)
 
   -- what the base answers, by the 0.3 names of its codes
   abbrev BaseRow : Rows (Result (Answer ℕ) BaseStop × Machine)
@@ -197,7 +198,7 @@ module _ (contexts : List WasiSocketsCtx) (m : Machine) (line c handle : ℕ) wh
     base : Meets BaseRow [] (listen_of (first_ids line) handle place m)
     base = calls {Mid = StoreRow} _ in_records (λ es why store row. ends row) after_store
 
-  pub p3_tcp_listen : Meets (Says contexts m line (step.Call c (guest.P3TcpListen handle))) [] (bind (listening3.listen_to (first_ids line) handle m) (λ done. Give (p3_answer_reply number_fields line done.0, done.1)))
+  pub p3_tcp_listen : Meets (Says contexts m line (step.Call c (guest.P3Tcp (p3_tcp_call.Listen handle)))) [] (bind (listening3.listen_to (first_ids line) handle m) (λ done. Give (p3_answer_reply number_fields line done.0, done.1)))
   p3_tcp_listen =
       onto _ (finds (λ place. last (in_host (listen_of (first_ids line) handle place))) (tcp3_at m handle) (λ none. (tt, (ap (tcp_in m) none, (refl, refl))))
       (λ place names. calls _ (base place names) (λ es why now row. ends row) (λ es answer now row. ends row)))

@@ -13,10 +13,12 @@ use Rattle.wasi_machine.specs.Machine.{slot_reply}
 use Rattle.host_tcp.specs.ConnectionEnds.{drop_slot_in}
 use Rattle.host_store.specs.GivingBack.{given_back}
 use Rattle.wasi_p3.specs.Streams.{Taken, named_end, result_at, result_in, result_on, result_out, slot_in, take_result}
-use Rattle.wasi_records.specs.Slots.{StreamEnd, result_of, slot_at}
-use Rattle.wasi_records.specs.declared.slot.Slot.{Slot}
-use Rattle.wasi_records.specs.declared.slot.Slot.TheVariants.{Filled, Unfilled}
+use Rattle.tcp_records.specs.Slots.{StreamEnd, result_of}
+use Rattle.wasi_records.specs.Records.{slot_at}
+use Rattle.tcp_records.specs.declared.slot.Slot.{Slot}
+use Rattle.tcp_records.specs.declared.slot.Slot.TheVariants.{Filled, Unfilled}
 use Rattle.wasi_steps.specs.declared.guest_call.GuestCall.TheVariants as guest
+use Rattle.wasi_steps.specs.declared.guest_call.P3TcpCall.TheVariants as p3_tcp_call
 use Rattle.wasi_steps.specs.declared.reply.Reply.{Reply}
 use Rattle.wasi_steps.specs.declared.reply.Reply.TheVariants as reply
 use Rattle.wasi_steps.specs.declared.step.Step.TheVariants as step
@@ -28,7 +30,7 @@ its_kind _ place e = absurd (cc)
 
 module _ (contexts : List WasiSocketsCtx) (m : Machine) (line c handle : ℕ) where
   abbrev Said : Rows (Taken × Machine)
-  Said = Replied contexts m line (step.Call c (guest.P3Result handle)) slot_reply
+  Said = Replied contexts m line (step.Call c (guest.P3Tcp (p3_tcp_call.Result handle))) slot_reply
 
   abbrev IsItsUnfilled : Reply → Type 0
   IsItsUnfilled r = (r ≡ reply.Unfilled) ↔ IsUnfilled m handle
@@ -76,5 +78,5 @@ module _ (contexts : List WasiSocketsCtx) (m : Machine) (line c handle : ℕ) wh
   by_number None names = missing (ap (slot_in m) names)
   by_number (Some place) names = by_found place names (slot_at m.store.records place) refl
 
-  pub p3_result : Meets (Says contexts m line (step.Call c (guest.P3Result handle))) [] (let done = take_result m handle in Give (slot_reply done.0, done.1))
+  pub p3_result : Meets (Says contexts m line (step.Call c (guest.P3Tcp (p3_tcp_call.Result handle)))) [] (let done = take_result m handle in Give (slot_reply done.0, done.1))
   p3_result = ends (by_number (result3_at m handle) refl)

@@ -19,11 +19,12 @@ use Rattle.wasi_p3.specs.Stops.{P3Stop, p3_stop, p3_told}
 use Rattle.wasi_p3.specs.Udp as p3
 use Rattle.wasi_p3.specs.Udp.{disconnect_of, inner_told, staying}
 use Rattle.wasi_records.specs.Records.{open_at}
-use Rattle.wasi_records.specs.Udp.{udp_local_asks, with_udp_inner}
-use Rattle.wasi_records.specs.declared.udp.OpenUdp.{OpenUdp}
+use Rattle.udp_records.specs.Udp.{udp_local_asks, with_udp_inner}
+use Rattle.udp_records.specs.declared.udp.OpenUdp.{OpenUdp}
 use Rattle.wasi_steps.specs.Reply.{address_values, family_fields, no_values}
 use Rattle.wasi_steps.specs.Settings.{udp_chosen, udp_opt}
 use Rattle.wasi_steps.specs.declared.guest_call.GuestCall.TheVariants as guest
+use Rattle.wasi_steps.specs.declared.guest_call.P3UdpCall.TheVariants as p3_udp_call
 use Rattle.wasi_steps.specs.declared.setting.UdpOption.{UdpOption}
 use Rattle.wasi_steps.specs.declared.setting.UdpSetting.{UdpSetting}
 use Rattle.wasi_steps.specs.declared.step.Step.TheVariants as step
@@ -97,13 +98,13 @@ module _ (contexts : List WasiSocketsCtx) (m : Machine) (line c handle : ℕ) wh
 
   disconnected_so : (place : ℕ) (o : OpenUdp) (n : Names m handle place o) (es : List Entry)
       (done : Result (Unit {0}) ErrorCode × Socket) → DisconnectRow m own place o n.at es done
-      → Replied contexts m line (step.Call c (guest.P3UdpDisconnect handle)) (p3_reply no_values) es
+      → Replied contexts m line (step.Call c (guest.P3Udp (p3_udp_call.Disconnect handle))) (p3_reply no_values) es
       (p3_told (inner_told o done).0, putting_udp m place (inner_told o done).1)
   disconnected_so place o n es (Ok done, now) h = (tt, (tt, here n h))
   disconnected_so place o n es (Err code, now) h =
       (tt, (p3_code code, here n (record { code = code; is = refl; cause = h })))
 
-  pub p3_udp_disconnect : Meets (Says contexts m line (step.Call c (guest.P3UdpDisconnect handle))) []
+  pub p3_udp_disconnect : Meets (Says contexts m line (step.Call c (guest.P3Udp (p3_udp_call.Disconnect handle)))) []
       (bind (p3.disconnect own handle m) (λ done. Give (p3_reply no_values done.0, done.1)))
   p3_udp_disconnect =
       onto _ (on_handle m handle (disconnect_of own) (λ none. (tt, (none, (refl, refl))))
@@ -112,7 +113,7 @@ module _ (contexts : List WasiSocketsCtx) (m : Machine) (line c handle : ℕ) wh
   -- == what a socket says of itself
   local_said : (place : ℕ) (o : OpenUdp) (n : Names m handle place o) (es : List Entry)
       (done : Result IpSocketAddress ErrorCode × Socket) → UdpLocalRow m own place o n.at es done
-      → Replied contexts m line (step.Call c (guest.P3UdpLocalAddress handle)) (p3_reply address_values) es
+      → Replied contexts m line (step.Call c (guest.P3Udp (p3_udp_call.LocalAddress handle))) (p3_reply address_values) es
       (p3_told (inner_told o done).0, putting_udp m place (inner_told o done).1)
   local_said place o n es (Ok a, now) h = (tt, ((a, refl), here n h))
   local_said place o n es (Err code, now) h = (
@@ -126,7 +127,7 @@ module _ (contexts : List WasiSocketsCtx) (m : Machine) (line c handle : ℕ) wh
     ),
   )
 
-  pub p3_udp_local_address : Meets (Says contexts m line (step.Call c (guest.P3UdpLocalAddress handle))) []
+  pub p3_udp_local_address : Meets (Says contexts m line (step.Call c (guest.P3Udp (p3_udp_call.LocalAddress handle)))) []
       (bind (p3.local_address own handle m) (λ done. Give (p3_reply address_values done.0, done.1)))
   p3_udp_local_address =
       onto _ (on_handle m handle (udp_local_asks own) (λ none. (tt, (none, (refl, refl))))
@@ -139,12 +140,12 @@ module _ (contexts : List WasiSocketsCtx) (m : Machine) (line c handle : ℕ) wh
   named o e (Some place) names P h =
       record { place = place; found = o; names = names; at = sym (ap (udp_in m) names) ∙ e; holds = h }
 
-  pub p3_udp_remote_address : Meets (Says contexts m line (step.Call c (guest.P3UdpRemoteAddress handle))) []
+  pub p3_udp_remote_address : Meets (Says contexts m line (step.Call c (guest.P3Udp (p3_udp_call.RemoteAddress handle)))) []
       (Give (p3_reply address_values (p3.remote_address m handle), m))
   p3_udp_remote_address = by_found (udp_of m handle) refl
     where
       by_kept : (o : OpenUdp) → udp_of m handle ≡ Some o → (kept : Option IpSocketAddress) → o.inner.remote ≡ kept
-          → Says contexts m line (step.Call c (guest.P3UdpRemoteAddress handle)) []
+          → Says contexts m line (step.Call c (guest.P3Udp (p3_udp_call.RemoteAddress handle))) []
           (p3_reply address_values (p3_told (remote_of kept)), m)
       by_kept o e None k = ((refl, refl), (refl, named o e (udp3_at m handle) refl (λ x. x.inner.remote ≡ None) k))
       by_kept o e (Some a) k = (
@@ -157,17 +158,17 @@ module _ (contexts : List WasiSocketsCtx) (m : Machine) (line c handle : ℕ) wh
       )
 
       by_found : (found : Option OpenUdp) → udp_of m handle ≡ found → Meets
-          (Says contexts m line (step.Call c (guest.P3UdpRemoteAddress handle))) []
+          (Says contexts m line (step.Call c (guest.P3Udp (p3_udp_call.RemoteAddress handle)))) []
           (Give (p3_reply address_values (told_of (λ o. remote_of o.inner.remote) found), m))
       by_found None e = ends ((refl, refl), (e, (refl, refl)))
       by_found (Some o) e = ends (by_kept o e o.inner.remote refl)
 
-  pub p3_udp_family : Meets (Says contexts m line (step.Call c (guest.P3UdpAddressFamily handle))) []
+  pub p3_udp_family : Meets (Says contexts m line (step.Call c (guest.P3Udp (p3_udp_call.AddressFamily handle)))) []
       (Give (p3_reply family_fields (p3.address_family m handle), m))
   p3_udp_family = by_found (udp_of m handle) refl
     where
       by_found : (found : Option OpenUdp) → udp_of m handle ≡ found → Meets
-          (Says contexts m line (step.Call c (guest.P3UdpAddressFamily handle))) []
+          (Says contexts m line (step.Call c (guest.P3Udp (p3_udp_call.AddressFamily handle)))) []
           (Give (p3_reply family_fields (told_of (λ o. Ok o.inner.family) found), m))
       by_found None e = ends ((refl, refl), (e, (refl, refl)))
       by_found (Some o) e = ends (
@@ -182,17 +183,17 @@ module _ (contexts : List WasiSocketsCtx) (m : Machine) (line c handle : ℕ) wh
   module _ (option : UdpOption) where
     got_so : (place : ℕ) (o : OpenUdp) → Names m handle place o → (es : List Entry) (told : Result ℕ ErrorCode)
         → UdpGetRow own o (udp_opt option) es told
-        → Replied contexts m line (step.Call c (guest.P3UdpGet handle option)) (p3_reply number_fields) es
+        → Replied contexts m line (step.Call c (guest.P3Udp (p3_udp_call.Get handle option))) (p3_reply number_fields) es
         (p3_told told, putting_udp m place o)
     got_so place o n es (Ok value) h =
-        put_udp_back (λ (after : Machine). Replied contexts m line (step.Call c (guest.P3UdpGet handle option))
+        put_udp_back (λ (after : Machine). Replied contexts m line (step.Call c (guest.P3Udp (p3_udp_call.Get handle option)))
         (p3_reply number_fields) es (Ok value, after)) m place o n.at (refl, ((tt, tt), here n h))
     got_so place o n es (Err code) h =
-        put_udp_back (λ (after : Machine). Replied contexts m line (step.Call c (guest.P3UdpGet handle option))
+        put_udp_back (λ (after : Machine). Replied contexts m line (step.Call c (guest.P3Udp (p3_udp_call.Get handle option)))
         (p3_reply number_fields) es (Err (p3_stop code), after)) m place o n.at
         (refl, (p3_code code, here n (record { code = code; is = refl; cause = h })))
 
-    pub p3_udp_get : Meets (Says contexts m line (step.Call c (guest.P3UdpGet handle option))) []
+    pub p3_udp_get : Meets (Says contexts m line (step.Call c (guest.P3Udp (p3_udp_call.Get handle option)))) []
         (bind (p3.get_option own handle (udp_opt option) m) (λ done. Give (p3_reply number_fields done.0, done.1)))
     p3_udp_get =
         onto _ (on_handle m handle (λ o. staying o (get_option_asks own o.inner (udp_opt option)))
@@ -202,17 +203,17 @@ module _ (contexts : List WasiSocketsCtx) (m : Machine) (line c handle : ℕ) wh
   module _ (what : UdpSetting) where
     set_so : (place : ℕ) (o : OpenUdp) → Names m handle place o → (es : List Entry)
         (told : Result (Unit {0}) ErrorCode) → UdpSetRow own o what es told
-        → Replied contexts m line (step.Call c (guest.P3UdpSet handle what)) (p3_reply no_values) es
+        → Replied contexts m line (step.Call c (guest.P3Udp (p3_udp_call.Set handle what))) (p3_reply no_values) es
         (p3_told told, putting_udp m place o)
     set_so place o n es (Ok done) h =
-        put_udp_back (λ (after : Machine). Replied contexts m line (step.Call c (guest.P3UdpSet handle what))
+        put_udp_back (λ (after : Machine). Replied contexts m line (step.Call c (guest.P3Udp (p3_udp_call.Set handle what)))
         (p3_reply no_values) es (Ok done, after)) m place o n.at (refl, (tt, here n h))
     set_so place o n es (Err code) h =
-        put_udp_back (λ (after : Machine). Replied contexts m line (step.Call c (guest.P3UdpSet handle what))
+        put_udp_back (λ (after : Machine). Replied contexts m line (step.Call c (guest.P3Udp (p3_udp_call.Set handle what)))
         (p3_reply no_values) es (Err (p3_stop code), after)) m place o n.at
         (refl, (p3_code code, here n (record { code = code; is = refl; cause = h })))
 
-    pub p3_udp_set : Meets (Says contexts m line (step.Call c (guest.P3UdpSet handle what))) []
+    pub p3_udp_set : Meets (Says contexts m line (step.Call c (guest.P3Udp (p3_udp_call.Set handle what)))) []
         (bind (p3.set_option own handle (udp_chosen what).0 (udp_chosen what).1 m)
         (λ done. Give (p3_reply no_values done.0, done.1)))
     p3_udp_set =

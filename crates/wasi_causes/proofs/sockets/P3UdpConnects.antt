@@ -25,11 +25,12 @@ use Rattle.wasi_machine.specs.Machine.{p3_answer_reply}
 use Rattle.wasi_p3.specs.Lines.{in_base, udp_in}
 use Rattle.wasi_p3.specs.Stops.{P3Stop}
 use Rattle.wasi_p3.specs.Udp as udp3
-use Rattle.wasi_records.specs.Datagrams.{has_streams, udp_alone_begun, udp_connect_asks, udp_reconnect_ended}
-use Rattle.wasi_records.specs.declared.udp.OpenUdp.{OpenUdp}
+use Rattle.udp_records.specs.Datagrams.{has_streams, udp_alone_begun, udp_connect_asks, udp_reconnect_ended}
+use Rattle.udp_records.specs.declared.udp.OpenUdp.{OpenUdp}
 use Rattle.wasi_records.specs.Records.{open_at}
-use Rattle.wasi_records.specs.Stops.{Code}
+use Rattle.record_common.specs.Stops.{Code}
 use Rattle.wasi_steps.specs.declared.guest_call.GuestCall.TheVariants as guest
+use Rattle.wasi_steps.specs.declared.guest_call.P3UdpCall.TheVariants as p3_udp_call
 use Rattle.wasi_steps.specs.declared.step.Step.TheVariants as step
 use Rattle.wasi_steps.specs.Reply.{no_values}
 use Rattle.wasi_udp.specs.Connect.{connect_start, is_connectable}
@@ -79,7 +80,7 @@ module _ (m : Machine) (line place : ℕ) (o : OpenUdp) (at : open_at m.store.re
 -- == the step
 module _ (contexts : List WasiSocketsCtx) (m : Machine) (line c handle : ℕ) (a : IpSocketAddress) where
   abbrev Said : Rows (Result (Answer (Unit {0})) P3Stop × Machine)
-  Said = Replied contexts m line (step.Call c (guest.P3UdpConnect handle a)) (p3_answer_reply no_values line)
+  Said = Replied contexts m line (step.Call c (guest.P3Udp (p3_udp_call.Connect handle a))) (p3_answer_reply no_values line)
 
   module _ (place : ℕ) (names : udp3_at m handle ≡ Some place) where
     of_udp : {P : ℕ → OpenUdp → Type 0} (o : OpenUdp) → open_at m.store.records place ≡ Some o → P place o → OfUdp3 m handle P
@@ -102,7 +103,7 @@ module _ (contexts : List WasiSocketsCtx) (m : Machine) (line c handle : ℕ) (a
         (λ none. (tt, (ap (udp_in m) names ∙ none, (refl, refl))))
         (λ o at. by_streams o at (has_streams o) refl)
 
-  pub p3_udp_connect : Meets (Says contexts m line (step.Call c (guest.P3UdpConnect handle a))) [] (bind (udp3.connect_to (first_ids line) handle a m) (λ done. Give (p3_answer_reply no_values line done.0, done.1)))
+  pub p3_udp_connect : Meets (Says contexts m line (step.Call c (guest.P3Udp (p3_udp_call.Connect handle a)))) [] (bind (udp3.connect_to (first_ids line) handle a m) (λ done. Give (p3_answer_reply no_values line done.0, done.1)))
   p3_udp_connect =
       onto _ (finds (λ place. last (in_base (udp_connect_of (first_ids line) place a))) (udp3_at m handle) (λ none. (tt, (ap (udp_in m) none, (refl, refl))))
       (λ place names. calls _ (connects_so place names) (λ es why store row. ends row) (λ es answer store row. ends row)))

@@ -18,10 +18,10 @@ use Rattle.wasi_host.specs.Pending.{answered_on, outcome_of}
 use Rattle.host_store.specs.Store.{with_open_udp}
 use Rattle.host_udp.specs.UdpConnects.{udp_reconnect_of}
 use Rattle.wasi_machine.specs.Machine.{asks_while, is_held_up}
-use Rattle.wasi_records.specs.Datagrams.{udp_reconnect_asks, udp_reconnect_ended, udp_reconnecting}
-use Rattle.wasi_records.specs.declared.udp.OpenUdp.{OpenUdp}
+use Rattle.udp_records.specs.Datagrams.{udp_reconnect_asks, udp_reconnect_ended, udp_reconnecting}
+use Rattle.udp_records.specs.declared.udp.OpenUdp.{OpenUdp}
 use Rattle.wasi_records.specs.Records.{open_at}
-use Rattle.wasi_records.specs.Stops.{Code}
+use Rattle.record_common.specs.Stops.{Code}
 use Rattle.wasi_steps.specs.declared.reply.Reply.TheVariants as reply
 use Rattle.wasi_steps.specs.declared.step.Step.TheVariants as step
 use Rattle.wasi_walks.specs.Answered.{Answered as AnsweredBy}

@@ -12,11 +12,12 @@ use Rattle.host_store.specs.Store.{code_told}
 use Rattle.host_tcp.specs.Options.{get_option_at, set_option_at, set_backlog_at}
 use Rattle.host_store.specs.Lines.{tcp_in, told_of}
 use Rattle.host_store.specs.Store.{put_back as answer_put}
-use Rattle.wasi_records.specs.Sockets.{tell_local_asks, tell_remote_asks}
+use Rattle.tcp_records.specs.Sockets.{tell_local_asks, tell_remote_asks}
 use Rattle.wasi_p2.specs.Tcp.{local_address, remote_address, is_listening, address_family}
 use Rattle.wasi_p2.specs.Options.{get_option_on, set_option_on, set_backlog_on}
 use Rattle.wasi_causes.specs.Refusals.{NotBound, LocalTold}
 use Rattle.wasi_steps.specs.declared.guest_call.GuestCall.TheVariants as guest
+use Rattle.wasi_steps.specs.declared.guest_call.TcpCall.TheVariants as tcp_call
 use Rattle.wasi_steps.specs.declared.step.Step.TheVariants as step
 use Rattle.socket_common.specs.Options.{largest_value, value_told, option_answer}
 use Rattle.wasi_tcp.specs.Addresses.{is_listening as state_listens}
@@ -187,40 +188,40 @@ module _ (contexts : List WasiSocketsCtx) (m : Machine) (line c handle : ℕ) wh
   address_said Row Cause place r told refused es (Ok a, now) h = told es a _
   address_said Row Cause place r told refused es (Err code, now) h = refused es code _ h
 
-  pub local_address_row : Meets (Says contexts m line (step.Call c (guest.TcpLocalAddress handle))) [] (bind (local_address own handle m) (λ done. Give (address_reply done.0, done.1)))
+  pub local_address_row : Meets (Says contexts m line (step.Call c (guest.Tcp (tcp_call.LocalAddress handle)))) [] (bind (local_address own handle m) (λ done. Give (address_reply done.0, done.1)))
   local_address_row =
       onto _ (on_handle m handle (tell_local_asks own) (λ none. (tt, (none, (refl, refl))))
-      (λ place r n. onto _ (widen (address_said (Replied contexts m line (step.Call c (guest.TcpLocalAddress handle)) address_reply) (LocalRefused m own place r n.at) place r (λ es a after. (tt, ((a, refl), tt)))
+      (λ place r n. onto _ (widen (address_said (Replied contexts m line (step.Call c (guest.Tcp (tcp_call.LocalAddress handle))) address_reply) (LocalRefused m own place r n.at) place r (λ es a after. (tt, ((a, refl), tt)))
       (λ es code after h. (tt, (code_word code, (here n (record { code = code; is = refl; cause = h.0 }), elim h.1 [ inl same ↦ inl same | inr knows ↦ inr (here n knows) ]))))) (local_row m own place r n.at))))
 
-  pub remote_address_row : Meets (Says contexts m line (step.Call c (guest.TcpRemoteAddress handle))) [] (bind (remote_address own handle m) (λ done. Give (address_reply done.0, done.1)))
+  pub remote_address_row : Meets (Says contexts m line (step.Call c (guest.Tcp (tcp_call.RemoteAddress handle)))) [] (bind (remote_address own handle m) (λ done. Give (address_reply done.0, done.1)))
   remote_address_row =
       onto _ (on_handle m handle (tell_remote_asks own) (λ none. (tt, (none, (refl, refl))))
-      (λ place r n. onto _ (widen (address_said (Replied contexts m line (step.Call c (guest.TcpRemoteAddress handle)) address_reply) (RemoteRefused m own place r n.at) place r (λ es a after. (tt, ((a, refl), tt)))
+      (λ place r n. onto _ (widen (address_said (Replied contexts m line (step.Call c (guest.Tcp (tcp_call.RemoteAddress handle))) address_reply) (RemoteRefused m own place r n.at) place r (λ es a after. (tt, ((a, refl), tt)))
       (λ es code after h. (tt, (code_word code, (here n (record { code = code; is = refl; cause = h.0 }, h.1), h.1))))) (onto (in_socket r.inner) (by_state m own place r n.at r.inner.state refl)))))
 
   -- == what is known without asking
   abbrev listens : TcpRecord → Bool
   listens r = state_listens r.inner.state
 
-  pub is_listens : Meets (Says contexts m line (step.Call c (guest.TcpIsListening handle))) [] (Give (truth_reply (is_listening m handle), m))
+  pub is_listens : Meets (Says contexts m line (step.Call c (guest.Tcp (tcp_call.IsListening handle)))) [] (Give (truth_reply (is_listening m handle), m))
   is_listens =
       on_number m handle (λ o. Give (truth_reply (told_of listens (tcp_in m o)), m)) (λ place o. Give (truth_reply (told_of listens o), m)) (λ place. refl) (λ none. ends ((refl, refl), (none, (refl, refl)))) (λ none place. ends ((refl, refl), (none, (refl, refl)))) (λ place r n. ends ((refl, refl), (truth_like (listens r), tt)))
 
-  pub family : Meets (Says contexts m line (step.Call c (guest.TcpAddressFamily handle))) [] (Give (family_reply (address_family m handle), m))
+  pub family : Meets (Says contexts m line (step.Call c (guest.Tcp (tcp_call.AddressFamily handle)))) [] (Give (family_reply (address_family m handle), m))
   family = on_number m handle (λ o. Give (family_reply (told_of (λ r. r.inner.family) (tcp_in m o)), m)) (λ place o. Give (family_reply (told_of (λ r. r.inner.family) o), m)) (λ place. refl) (λ none. ends ((refl, refl), (none, (refl, refl)))) (λ none place. ends ((refl, refl), (none, (refl, refl)))) (λ place r n. ends ((refl, refl), ((tt, tt), tt)))
 
   module _ (option : Opt) where
-    got_so : (place : ℕ) (r : TcpRecord) → Names m handle place r → (es : List Entry) (done : Result ℕ ErrorCode × Socket) → GetRow own r option es done.0 × (done.1 ≡ r.inner) → Outcome contexts m line (step.Call c (guest.TcpGet handle option)) es (value_reply (code_told done.0)) m
+    got_so : (place : ℕ) (r : TcpRecord) → Names m handle place r → (es : List Entry) (done : Result ℕ ErrorCode × Socket) → GetRow own r option es done.0 × (done.1 ≡ r.inner) → Outcome contexts m line (step.Call c (guest.Tcp (tcp_call.Get handle option))) es (value_reply (code_told done.0)) m
     got_so place r n es (Ok value, now) h = (refl, ((tt, tt), here n h.0))
     got_so place r n es (Err code, now) h = (refl, (code_word code, here n (record { code = code; is = refl; cause = h.0 }, refl)))
 
-    pub get : Meets (Says contexts m line (step.Call c (guest.TcpGet handle option))) [] (bind (get_option_on m own option (socket_at m handle)) (λ done. Give (value_reply done.0, done.1)))
+    pub get : Meets (Says contexts m line (step.Call c (guest.Tcp (tcp_call.Get handle option)))) [] (bind (get_option_on m own option (socket_at m handle)) (λ done. Give (value_reply done.0, done.1)))
     get = onto _ (on_record m handle (get_option_on m own option) (λ place o. get_option_at m.store own option o) refl (λ place. refl) (λ place. refl) (λ none. (refl, (none, (refl, refl)))) (λ place r n. onto _ (widen (got_so place r n) (gets_where own r option (option_side r.inner) refl))))
 
   module _ (setting : TcpSetting) where
     abbrev Row : Rows (Result (Unit {0}) Stop × Machine)
-    Row es done = Outcome contexts m line (step.Call c (guest.TcpSet handle setting)) es (done_reply done.0) done.1
+    Row es done = Outcome contexts m line (step.Call c (guest.Tcp (tcp_call.Set handle setting))) es (done_reply done.0) done.1
 
     set_so : (place : ℕ) (r : TcpRecord) (n : Names m handle place r) (option : Opt) (value : ℕ) → chosen setting ≡ AnOption option value → (es : List Entry) (done : Result (Unit {0}) ErrorCode × Socket) → SetRow own r option value es done.0 × (done.1 ≡ r.inner) → Row es (code_told done.0, m)
     set_so place r n option value e es (Ok done, now) h = (tt, (tt, (refl, here n (rw e (h.0, refl)))))
@@ -236,5 +237,5 @@ module _ (contexts : List WasiSocketsCtx) (m : Machine) (line c handle : ℕ) wh
     by_chosen (TheBacklog value) e =
         on_record m handle (set_backlog_on m own value) (λ place o. set_backlog_at m.store own place value o) refl (λ place. refl) (λ place. refl) (λ none. (tt, (none, (refl, refl)))) (λ place r n. onto _ (widen (kept_so place r n value e) (keeps own r value)))
 
-    pub set : Meets (Says contexts m line (step.Call c (guest.TcpSet handle setting))) [] (bind (set_chosen m own (socket_at m handle) (chosen setting)) (λ done. Give (done_reply done.0, done.1)))
+    pub set : Meets (Says contexts m line (step.Call c (guest.Tcp (tcp_call.Set handle setting)))) [] (bind (set_chosen m own (socket_at m handle) (chosen setting)) (λ done. Give (done_reply done.0, done.1)))
     set = onto _ (by_chosen (chosen setting) refl)

@@ -25,12 +25,13 @@ use Rattle.wasi_causes.specs.Reached.{ListensLate, ListensLateAt}
 use Rattle.wasi_causes.specs.Polls.{ToldYes, ToldNo, BindToldCode, Polled, GoesOn, Stops, LocalToldYes, LocalToldNo, LocalToldCode, ListenToldCode}
 use Rattle.host_store.specs.declared.kind.Interface.TheVariants.{P2}
 use Rattle.host_store.specs.Store.{put_back as answer_put}
-use Rattle.wasi_records.specs.declared.tcp_listening.Listening.TheVariants as listening
-use Rattle.wasi_records.specs.declared.tcp_binding.InProgress.{InProgress as Doing}
+use Rattle.tcp_records.specs.declared.tcp_listening.Listening.TheVariants as listening
+use Rattle.tcp_records.specs.declared.tcp_binding.InProgress.{InProgress as Doing}
 use Rattle.wasi_walks.specs.Listens.{NotDefault as PastStart}
 use Rattle.wasi_steps.specs.declared.reply.CodeWord.TheVariants as word
 use Rattle.wasi_steps.specs.declared.reply.Reply.TheVariants as reply
 use Rattle.wasi_steps.specs.declared.guest_call.GuestCall.TheVariants as guest
+use Rattle.wasi_steps.specs.declared.guest_call.TcpCall.TheVariants as tcp_call
 use Rattle.wasi_steps.specs.declared.step.Step.TheVariants as step
 use Rattle.wasi_tcp.specs.Socket.{bind_start}
 use Rattle.socket_common.specs.declared.asker.Asker.{Asker}
@@ -255,12 +256,12 @@ module _ (contexts : List WasiSocketsCtx) (m : Machine) (line c handle : ℕ) wh
 
   module _ (network : ℕ) (a : IpSocketAddress) where
     -- == a bind
-    bind_said : (place : ℕ) (r : TcpRecord) (n : Names m handle place r) → is_nothing r.in_progress ≡ true → (es : List Entry) (ended : Result (Answer (Unit {0})) ErrorCode × TcpRecord) → BindRow m own handle place r n a es ended → (Replied contexts m line (step.Call c (guest.TcpStartBind handle network a)) (answer_reply line)) es (with_store m (call_answered m.store (first_ids line) (StandingCall.Bind place P2) ended))
+    bind_said : (place : ℕ) (r : TcpRecord) (n : Names m handle place r) → is_nothing r.in_progress ≡ true → (es : List Entry) (ended : Result (Answer (Unit {0})) ErrorCode × TcpRecord) → BindRow m own handle place r n a es ended → (Replied contexts m line (step.Call c (guest.Tcp (tcp_call.StartBind handle network a))) (answer_reply line)) es (with_store m (call_answered m.store (first_ids line) (StandingCall.Bind place P2) ended))
     bind_said place r n idle es (Ok Pending, now) h = (λ is. no_conflict n idle _ (λ e. cc), ((refl, refl), h))
     bind_said place r n idle es (Ok (Ready done), now) h = (λ is. no_conflict n idle _ (λ e. cc), (tt, tt))
     bind_said place r n idle es (Err code, now) h = (λ is. no_code n idle code, (inr (code_word code), (here n (Begins idle h.0), h.1)))
 
-    pub start_bind : Meets (Says contexts m line (step.Call c (guest.TcpStartBind handle network a))) [] (bind (start_bind_asks m (first_ids line) handle network a) (λ done. Give (answer_reply line done.0, done.1)))
+    pub start_bind : Meets (Says contexts m line (step.Call c (guest.Tcp (tcp_call.StartBind handle network a)))) [] (bind (start_bind_asks m (first_ids line) handle network a) (λ done. Give (answer_reply line done.0, done.1)))
     start_bind =
         onto _ (branch (is_network (kind_at m.table network))
         (λ is. on_idle m handle (start_bind_on m (first_ids line) a) (λ place o. start_bind_at m.store (first_ids line) place a o) (λ place r b. start_bind_by m.store (first_ids line) place a r b) refl (λ place. refl) (λ place. refl) (λ place r. refl) (λ place r. refl)
@@ -268,11 +269,11 @@ module _ (contexts : List WasiSocketsCtx) (m : Machine) (line c handle : ℕ) wh
         (λ no. ends (λ is. absurd (cc), (inl no, (refl, refl)))))
 
     -- == a connect
-    connect_said : (place : ℕ) (r : TcpRecord) (n : Names m handle place r) → is_nothing r.in_progress ≡ true → (es : List Entry) (done : Result (Unit {0}) ErrorCode × TcpRecord) → ConnectRow m own handle place r n a es done → (Replied contexts m line (step.Call c (guest.TcpStartConnect handle network a)) done_reply) es (with_store m (answer_put m.store place done))
+    connect_said : (place : ℕ) (r : TcpRecord) (n : Names m handle place r) → is_nothing r.in_progress ≡ true → (es : List Entry) (done : Result (Unit {0}) ErrorCode × TcpRecord) → ConnectRow m own handle place r n a es done → (Replied contexts m line (step.Call c (guest.Tcp (tcp_call.StartConnect handle network a))) done_reply) es (with_store m (answer_put m.store place done))
     connect_said place r n idle es (Ok done, now) h = (λ is. no_conflict n idle _ (λ e. cc), (tt, tt))
     connect_said place r n idle es (Err code, now) h = (λ is. no_code n idle code, (inr (code_word code), (here n (Begins idle h.0), h.1)))
 
-    pub start_connect : Meets (Says contexts m line (step.Call c (guest.TcpStartConnect handle network a))) [] (bind (start_connect_asks m own handle network a) (λ done. Give (done_reply done.0, done.1)))
+    pub start_connect : Meets (Says contexts m line (step.Call c (guest.Tcp (tcp_call.StartConnect handle network a)))) [] (bind (start_connect_asks m own handle network a) (λ done. Give (done_reply done.0, done.1)))
     start_connect =
         onto _ (branch (is_network (kind_at m.table network))
         (λ is. on_idle m handle (start_connect_on m own a) (λ place o. start_connect_at m.store own place a o) (λ place r b. start_connect_by m.store own place a r b) refl (λ place. refl) (λ place. refl) (λ place r. refl) (λ place r. refl)
@@ -280,20 +281,20 @@ module _ (contexts : List WasiSocketsCtx) (m : Machine) (line c handle : ℕ) wh
         (λ no. ends (λ is. absurd (cc), (inl no, (refl, refl)))))
 
   -- == a listen
-  listen_said : (place : ℕ) (r : TcpRecord) (n : Names m handle place r) → is_nothing r.in_progress ≡ true → (es : List Entry) (done : Result (Answer (Unit {0})) ErrorCode × TcpRecord) → ListenRow m own handle place r n es done → (Replied contexts m line (step.Call c (guest.TcpStartListen handle)) (answer_reply line)) es (with_store m (call_answered m.store (first_ids line) (StandingCall.Listen place None) done))
+  listen_said : (place : ℕ) (r : TcpRecord) (n : Names m handle place r) → is_nothing r.in_progress ≡ true → (es : List Entry) (done : Result (Answer (Unit {0})) ErrorCode × TcpRecord) → ListenRow m own handle place r n es done → (Replied contexts m line (step.Call c (guest.Tcp (tcp_call.StartListen handle))) (answer_reply line)) es (with_store m (call_answered m.store (first_ids line) (StandingCall.Listen place None) done))
   listen_said place r n idle es (Ok Pending, now) h = (no_conflict n idle _ (λ e. cc), ((refl, refl), h))
   listen_said place r n idle es (Ok (Ready done), now) h = (no_conflict n idle _ (λ e. cc), (tt, tt))
   listen_said place r n idle es (Err code, now) h = (no_code n idle code, (inr (code_word code), (λ late. here n (Begins idle (h.0 late)), h.1)))
 
-  pub start_listen : Meets (Says contexts m line (step.Call c (guest.TcpStartListen handle))) [] (bind (start_listen_on m (first_ids line) (socket_at m handle)) (λ done. Give (answer_reply line done.0, done.1)))
+  pub start_listen : Meets (Says contexts m line (step.Call c (guest.Tcp (tcp_call.StartListen handle)))) [] (bind (start_listen_on m (first_ids line) (socket_at m handle)) (λ done. Give (answer_reply line done.0, done.1)))
   start_listen =
       onto _ (on_idle m handle (start_listen_on m (first_ids line)) (λ place o. start_listen_at m.store (first_ids line) place o) (λ place r b. start_listen_by m.store (first_ids line) place r b) refl (λ place. refl) (λ place. refl) (λ place r. refl) (λ place r. refl)
       (λ none. (none_conflicts m handle _ none (λ e. cc), (none, (refl, refl)))) (λ place r n e. (in_conflict n e, (inl refl, (λ late. here n (InProgress e refl refl refl), inl refl)))) (λ place r n idle. onto _ (widen (listen_said place r n idle) (listen_begins m own handle place r n))))
 
-  pub finish_bind : let done = finish_on is_bind m (socket_at m handle) in Meets (Says contexts m line (step.Call c (guest.TcpFinishBind handle))) [] (Give (done_reply done.0, done.1))
+  pub finish_bind : let done = finish_on is_bind m (socket_at m handle) in Meets (Says contexts m line (step.Call c (guest.Tcp (tcp_call.FinishBind handle)))) [] (Give (done_reply done.0, done.1))
   finish_bind =
       finishes is_bind m handle (λ none. ((refl, apart (λ e. cc) (none_has _ (record_at m handle) none)), (none, (refl, refl)))) (λ none. ((refl, (λ e. none, λ k. refl)), (refl, refl))) (λ some after. ((refl, apart (λ e. cc) some), (tt, tt)))
 
-  pub finish_listen : let done = finish_on is_listen m (socket_at m handle) in Meets (Says contexts m line (step.Call c (guest.TcpFinishListen handle))) [] (Give (done_reply done.0, done.1))
+  pub finish_listen : let done = finish_on is_listen m (socket_at m handle) in Meets (Says contexts m line (step.Call c (guest.Tcp (tcp_call.FinishListen handle)))) [] (Give (done_reply done.0, done.1))
   finish_listen =
       finishes is_listen m handle (λ none. ((refl, apart (λ e. cc) (none_has _ (record_at m handle) none)), (none, (refl, refl)))) (λ none. ((refl, (λ e. none, λ k. refl)), (refl, refl))) (λ some after. ((refl, apart (λ e. cc) some), (tt, tt)))

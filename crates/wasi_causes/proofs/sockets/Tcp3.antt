@@ -21,9 +21,10 @@ use Rattle.wasi_p3.specs.Lines.{asked_of, in_store, inner_call, of_tcp, on_tcp, 
 use Rattle.wasi_p3.specs.Stops.{P3Stop, p3_stop, p3_told}
 use Rattle.wasi_p3.specs.Tcp as p3
 use Rattle.wasi_records.specs.Records.{tcp2_at}
-use Rattle.wasi_records.specs.Sockets.{tell_local_asks, tell_remote_asks}
+use Rattle.tcp_records.specs.Sockets.{tell_local_asks, tell_remote_asks}
 use Rattle.wasi_steps.specs.Reply.{address_values, family_fields, no_values}
 use Rattle.wasi_steps.specs.declared.guest_call.GuestCall.TheVariants as guest
+use Rattle.wasi_steps.specs.declared.guest_call.P3TcpCall.TheVariants as p3_tcp_call
 use Rattle.wasi_steps.specs.declared.step.Step.TheVariants as step
 use Rattle.wasi_tcp.specs.Addresses.{is_listening as listens}
 use Rattle.wasi_tcp.specs.Options.{get_option_asks, option_side}
@@ -64,7 +65,7 @@ p3_code c = record { code = c; is = refl }
 -- == a create
 pub p3_create : (contexts : List WasiSocketsCtx) (m : Machine) (line c : ℕ) (family : SocketAddressFamily)
     → let its : WasiSocketsCtx = context_at contexts c in
-    Meets (Says contexts m line (step.Call c (guest.P3TcpCreate family))) []
+    Meets (Says contexts m line (step.Call c (guest.P3Tcp (p3_tcp_call.Create family)))) []
     (bind (p3.create (own_of line) its family m) (λ done. Give (p3_reply number_fields done.0, done.1)))
 p3_create contexts m line c family =
     onto _ (creates contexts m line c family p3.handle_told p3.code_told Tcp3
@@ -91,12 +92,12 @@ module _ (contexts : List WasiSocketsCtx) (m : Machine) (line c handle : ℕ) wh
   address_said Row Cause place r told refused es (Ok a, now) h = told es a _
   address_said Row Cause place r told refused es (Err code, now) h = refused es code _ h
 
-  pub p3_local_address : Meets (Says contexts m line (step.Call c (guest.P3TcpLocalAddress handle))) []
+  pub p3_local_address : Meets (Says contexts m line (step.Call c (guest.P3Tcp (p3_tcp_call.LocalAddress handle)))) []
       (bind (p3.local_address own handle m) (λ done. Give (p3_reply address_values done.0, done.1)))
   p3_local_address =
       onto _ (on_handle m handle (tell_local_asks own) (λ none. (tt, (none, (refl, refl))))
       (λ place r n. onto _ (widen
-      (address_said (Replied contexts m line (step.Call c (guest.P3TcpLocalAddress handle))
+      (address_said (Replied contexts m line (step.Call c (guest.P3Tcp (p3_tcp_call.LocalAddress handle)))
       (p3_reply address_values)) (LocalRefused m own place r n.at) place r (λ es a after. (tt, ((a, refl), tt)))
       (λ es code after h. (
         tt,
@@ -109,33 +110,33 @@ module _ (contexts : List WasiSocketsCtx) (m : Machine) (line c handle : ℕ) wh
         ),
       ))) (local_row m own place r n.at))))
 
-  pub p3_remote_address : Meets (Says contexts m line (step.Call c (guest.P3TcpRemoteAddress handle))) []
+  pub p3_remote_address : Meets (Says contexts m line (step.Call c (guest.P3Tcp (p3_tcp_call.RemoteAddress handle)))) []
       (bind (p3.remote_address own handle m) (λ done. Give (p3_reply address_values done.0, done.1)))
   p3_remote_address =
       onto _ (on_handle m handle (tell_remote_asks own) (λ none. (tt, (none, (refl, refl))))
       (λ place r n. onto _ (widen
-      (address_said (Replied contexts m line (step.Call c (guest.P3TcpRemoteAddress handle))
+      (address_said (Replied contexts m line (step.Call c (guest.P3Tcp (p3_tcp_call.RemoteAddress handle)))
       (p3_reply address_values)) (RemoteRefused m own place r n.at) place r (λ es a after. (tt, ((a, refl), tt)))
       (λ es code after h. (tt, (p3_code code, (here n (record { code = code; is = refl; cause = h.0 }), h.1)))))
       (onto (in_socket r.inner) (by_state m own place r n.at r.inner.state refl)))))
 
   -- == what is known without asking
-  pub p3_is_listening : Meets (Says contexts m line (step.Call c (guest.P3TcpIsListening handle))) []
+  pub p3_is_listening : Meets (Says contexts m line (step.Call c (guest.P3Tcp (p3_tcp_call.IsListening handle)))) []
       (Give (p3_reply truth_fields (p3.is_listening m handle), m))
   p3_is_listening = by_found (tcp_of m handle) refl
     where
       by_found : (o : Option TcpRecord) → tcp_of m handle ≡ o → Meets
-          (Says contexts m line (step.Call c (guest.P3TcpIsListening handle))) []
+          (Says contexts m line (step.Call c (guest.P3Tcp (p3_tcp_call.IsListening handle)))) []
           (Give (p3_reply truth_fields (told_of (λ r. Ok (listens r.inner.state)) o), m))
       by_found None e = ends ((refl, refl), (e, (refl, refl)))
       by_found (Some r) e = ends ((refl, refl), (truth_like (listens r.inner.state), tt))
 
-  pub p3_address_family : Meets (Says contexts m line (step.Call c (guest.P3TcpAddressFamily handle))) []
+  pub p3_address_family : Meets (Says contexts m line (step.Call c (guest.P3Tcp (p3_tcp_call.AddressFamily handle)))) []
       (Give (p3_reply family_fields (p3.address_family m handle), m))
   p3_address_family = by_found (tcp_of m handle) refl
     where
       by_found : (o : Option TcpRecord) → tcp_of m handle ≡ o → Meets
-          (Says contexts m line (step.Call c (guest.P3TcpAddressFamily handle))) []
+          (Says contexts m line (step.Call c (guest.P3Tcp (p3_tcp_call.AddressFamily handle)))) []
           (Give (p3_reply family_fields (told_of (λ r. Ok r.inner.family) o), m))
       by_found None e = ends ((refl, refl), (e, (refl, refl)))
       by_found (Some r) e = ends ((refl, refl), ((tt, tt), tt))
@@ -143,7 +144,7 @@ module _ (contexts : List WasiSocketsCtx) (m : Machine) (line c handle : ℕ) wh
   -- == its options and its backlog
   module _ (option : Opt) where
     abbrev GetSays : Rows (Result ℕ P3Stop × Machine)
-    GetSays = Replied contexts m line (step.Call c (guest.P3TcpGet handle option)) (p3_reply number_fields)
+    GetSays = Replied contexts m line (step.Call c (guest.P3Tcp (p3_tcp_call.Get handle option))) (p3_reply number_fields)
 
     got_so : (place : ℕ) (r : TcpRecord) → Names m handle place r → (es : List Entry)
         (done : Result ℕ ErrorCode × Socket) → GetRow own r option es done.0 × (done.1 ≡ r.inner) → GetSays es
@@ -155,7 +156,7 @@ module _ (contexts : List WasiSocketsCtx) (m : Machine) (line c handle : ℕ) wh
         rw h.1 (put_back (λ (after : Machine). GetSays es (Err (p3_stop code), after)) m place r n.at
         (refl, (p3_code code, here n (record { code = code; is = refl; cause = h.0 }, refl))))
 
-    pub p3_get : Meets (Says contexts m line (step.Call c (guest.P3TcpGet handle option))) []
+    pub p3_get : Meets (Says contexts m line (step.Call c (guest.P3Tcp (p3_tcp_call.Get handle option)))) []
         (bind (p3.get_option own handle option m) (λ done. Give (p3_reply number_fields done.0, done.1)))
     p3_get = onto _ (on_handle m handle (inner_call (λ s. get_option_asks own s option))
         (λ none. (refl, (none, (refl, refl))))
@@ -163,7 +164,7 @@ module _ (contexts : List WasiSocketsCtx) (m : Machine) (line c handle : ℕ) wh
 
   module _ (setting : TcpSetting) where
     abbrev Row : Rows (Result (Unit {0}) P3Stop × Machine)
-    Row = Replied contexts m line (step.Call c (guest.P3TcpSet handle setting)) (p3_reply no_values)
+    Row = Replied contexts m line (step.Call c (guest.P3Tcp (p3_tcp_call.Set handle setting))) (p3_reply no_values)
 
     set_so : (place : ℕ) (r : TcpRecord) (n : Names m handle place r) (option : Opt) (value : ℕ)
         → chosen setting ≡ AnOption option value → (es : List Entry) (done : Result (Unit {0}) ErrorCode × Socket)
@@ -192,6 +193,6 @@ module _ (contexts : List WasiSocketsCtx) (m : Machine) (line c handle : ℕ) wh
         on_handle m handle (inner_call (λ s. set_backlog_asks own s value)) (λ none. (tt, (none, (refl, refl))))
         (λ place r n. onto _ (widen (kept_so place r n value e) (keeps own r value)))
 
-    pub p3_set : Meets (Says contexts m line (step.Call c (guest.P3TcpSet handle setting))) []
+    pub p3_set : Meets (Says contexts m line (step.Call c (guest.P3Tcp (p3_tcp_call.Set handle setting)))) []
         (bind (set_p3 own handle (chosen setting) m) (λ done. Give (p3_reply no_values done.0, done.1)))
     p3_set = onto _ (by_chosen (chosen setting) refl)

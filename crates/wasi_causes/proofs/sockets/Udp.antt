@@ -11,10 +11,10 @@ use Rattle.socket_common.specs.Options.{largest_value, value_told, option_answer
 use Rattle.host_store.specs.Machine.{udp_socket_at}
 use Rattle.host_store.specs.Store.{code_told}
 use Rattle.wasi_records.specs.Records.{open_at}
-use Rattle.wasi_records.specs.Udp.{is_udp_bound, with_udp_inner, udp_inner_answered}
+use Rattle.udp_records.specs.Udp.{is_udp_bound, with_udp_inner, udp_inner_answered}
 use Rattle.host_udp.specs.UdpCalls.{udp_put_back, finish_udp_bind_by, finish_udp_bind_at, udp_local_at, udp_remote_at, udp_family_at, get_udp_option_at, set_udp_option_at}
-use Rattle.wasi_records.specs.declared.udp.OpenUdp.{OpenUdp}
-use Rattle.wasi_records.specs.declared.udp.UdpInProgress.{UdpInProgress}
+use Rattle.udp_records.specs.declared.udp.OpenUdp.{OpenUdp}
+use Rattle.udp_records.specs.declared.udp.UdpInProgress.{UdpInProgress}
 use Rattle.wasi_p2.specs.Udp.{finish_udp_bind_on, udp_local_on, udp_remote_on, udp_family_on, get_udp_option_on, set_udp_option_on}
 use Rattle.wasi_steps.specs.declared.reply.Reply.{Reply}
 use Rattle.wasi_steps.specs.declared.reply.Reply.TheVariants as reply
@@ -22,6 +22,7 @@ use Rattle.wasi_steps.specs.declared.setting.UdpOption.{UdpOption}
 use Rattle.wasi_steps.specs.declared.setting.UdpSetting.{UdpSetting}
 use Rattle.wasi_steps.specs.declared.setting.UdpSetting.TheVariants as setting
 use Rattle.wasi_steps.specs.declared.guest_call.GuestCall.TheVariants as guest
+use Rattle.wasi_steps.specs.declared.guest_call.UdpCall.TheVariants as udp_call
 use Rattle.wasi_steps.specs.declared.step.Step.TheVariants as step
 use Rattle.wasi_steps.specs.Reply.{address_values}
 use Rattle.wasi_steps.specs.Settings.{udp_opt, udp_chosen}
@@ -175,7 +176,7 @@ module _ (contexts : List WasiSocketsCtx) (m : Machine) (line c handle : ℕ) wh
 
   -- == the finish of a bind
   abbrev FinishRow : Rows (Reply × Machine)
-  FinishRow = Says contexts m line (step.Call c (guest.UdpFinishBind handle))
+  FinishRow = Says contexts m line (step.Call c (guest.Udp (udp_call.FinishBind handle)))
 
   by_started : (place : ℕ) (o : OpenUdp) → NamesUdp m handle place o → (b : Bool) → is_udp_bound o.in_progress ≡ b → let given = with_store m (finish_udp_bind_by m.store place o b) in Meets FinishRow [] (Give (done_reply given.0, given.1))
   by_started place o n false e = ends ((refl, (λ same. rw (its_udp n) e, λ k. refl)), (refl, refl))
@@ -191,17 +192,17 @@ module _ (contexts : List WasiSocketsCtx) (m : Machine) (line c handle : ℕ) wh
 
   -- == addresses
   local_said : (place : ℕ) (o : OpenUdp) (n : NamesUdp m handle place o) (es : List Entry) (done : Result IpSocketAddress ErrorCode × Socket) → UdpLocalRow m own place o n.at es done
-      → Replied contexts m line (step.Call c (guest.UdpLocalAddress handle)) address_reply es (with_store m (udp_put_back m.store place (udp_inner_answered o done)))
+      → Replied contexts m line (step.Call c (guest.Udp (udp_call.LocalAddress handle))) address_reply es (with_store m (udp_put_back m.store place (udp_inner_answered o done)))
   local_said place o n es (Ok a, now) h = (tt, ((a, refl), here_udp n h))
   local_said place o n es (Err code, now) h = (tt, (code_word code, (here_udp n (record { code = code; is = refl; cause = h.0 }), elim h.1 [ inl same ↦ inl same | inr knows ↦ inr (here_udp n knows) ])))
 
-  pub udp_local_address : Meets (Says contexts m line (step.Call c (guest.UdpLocalAddress handle))) [] (bind (udp_local_on m own (udp_socket_at m handle)) (λ done. Give (address_reply done.0, done.1)))
+  pub udp_local_address : Meets (Says contexts m line (step.Call c (guest.Udp (udp_call.LocalAddress handle)))) [] (bind (udp_local_on m own (udp_socket_at m handle)) (λ done. Give (address_reply done.0, done.1)))
   udp_local_address =
       onto _ (on_udp_record m handle (udp_local_on m own) (λ place o. udp_local_at m.store own place o) refl (λ place. refl) (λ place. refl) (λ none. (tt, (none, (refl, refl))))
       (λ place o n. onto _ (onto _ (widen (local_said place o n) (udp_local_row m own place o n.at)))))
 
   abbrev RemoteRow : Rows (Reply × Machine)
-  RemoteRow = Says contexts m line (step.Call c (guest.UdpRemoteAddress handle))
+  RemoteRow = Says contexts m line (step.Call c (guest.Udp (udp_call.RemoteAddress handle)))
 
   remote_said : (place : ℕ) (o : OpenUdp) → NamesUdp m handle place o → (kept : Option IpSocketAddress) → o.inner.remote ≡ kept → RemoteRow [] (address_reply (code_told (remote_of kept)), m)
   remote_said place o n None e = (((refl, refl), (λ same. rw (its_udp n) e, λ k. refl)), (refl, tt))
@@ -214,28 +215,28 @@ module _ (contexts : List WasiSocketsCtx) (m : Machine) (line c handle : ℕ) wh
       missing : open_udp_at m handle ≡ None → RemoteRow [] (reply.Trap NoSuchHandle, m)
       missing none = (((refl, refl), apart (λ same. cc) (none_has _ (open_udp_at m handle) none)), (none, (refl, refl)))
 
-  pub udp_family : Meets (Says contexts m line (step.Call c (guest.UdpAddressFamily handle))) [] (Give (family_reply (udp_family_on m (udp_socket_at m handle)), m))
+  pub udp_family : Meets (Says contexts m line (step.Call c (guest.Udp (udp_call.AddressFamily handle)))) [] (Give (family_reply (udp_family_on m (udp_socket_at m handle)), m))
   udp_family =
       on_udp m handle (λ o. Give (family_reply (udp_family_on m o), m)) (λ place o. Give (family_reply (udp_family_at o), m)) (λ place. refl) (λ none. ends ((refl, refl), (none, (refl, refl)))) (λ none place. ends ((refl, refl), (none, (refl, refl))))
       (λ place o n. ends ((refl, refl), ((tt, tt), here_udp n refl)))
 
   -- == options
   module _ (option : UdpOption) where
-    got_so : (place : ℕ) (o : OpenUdp) → NamesUdp m handle place o → (es : List Entry) (done : Result ℕ ErrorCode) → UdpGetRow own o (udp_opt option) es done → Outcome contexts m line (step.Call c (guest.UdpGet handle option)) es (value_reply (code_told done)) m
+    got_so : (place : ℕ) (o : OpenUdp) → NamesUdp m handle place o → (es : List Entry) (done : Result ℕ ErrorCode) → UdpGetRow own o (udp_opt option) es done → Outcome contexts m line (step.Call c (guest.Udp (udp_call.Get handle option))) es (value_reply (code_told done)) m
     got_so place o n es (Ok value) h = (refl, ((tt, tt), here_udp n h))
     got_so place o n es (Err code) h = (refl, (code_word code, here_udp n (record { code = code; is = refl; cause = h })))
 
-    pub udp_get : Meets (Says contexts m line (step.Call c (guest.UdpGet handle option))) [] (bind (get_udp_option_on m own (udp_opt option) (udp_socket_at m handle)) (λ done. Give (value_reply done.0, done.1)))
+    pub udp_get : Meets (Says contexts m line (step.Call c (guest.Udp (udp_call.Get handle option)))) [] (bind (get_udp_option_on m own (udp_opt option) (udp_socket_at m handle)) (λ done. Give (value_reply done.0, done.1)))
     udp_get =
         onto _ (on_udp_record m handle (get_udp_option_on m own (udp_opt option)) (λ place o. get_udp_option_at m.store own (udp_opt option) o) refl (λ place. refl) (λ place. refl) (λ none. (refl, (none, (refl, refl))))
         (λ place o n. onto _ (widen (got_so place o n) (udp_gets own o (udp_opt option)))))
 
   module _ (what : UdpSetting) where
-    set_so : (place : ℕ) (o : OpenUdp) → NamesUdp m handle place o → (es : List Entry) (done : Result (Unit {0}) ErrorCode) → UdpSetRow own o what es done → Outcome contexts m line (step.Call c (guest.UdpSet handle what)) es (done_reply (code_told done)) m
+    set_so : (place : ℕ) (o : OpenUdp) → NamesUdp m handle place o → (es : List Entry) (done : Result (Unit {0}) ErrorCode) → UdpSetRow own o what es done → Outcome contexts m line (step.Call c (guest.Udp (udp_call.Set handle what))) es (done_reply (code_told done)) m
     set_so place o n es (Ok done) h = (refl, (tt, here_udp n h))
     set_so place o n es (Err code) h = (refl, (code_word code, here_udp n (record { code = code; is = refl; cause = h })))
 
-    pub udp_set : Meets (Says contexts m line (step.Call c (guest.UdpSet handle what))) [] (bind (set_udp_option_on m own (udp_chosen what).0 (udp_chosen what).1 (udp_socket_at m handle)) (λ done. Give (done_reply done.0, done.1)))
+    pub udp_set : Meets (Says contexts m line (step.Call c (guest.Udp (udp_call.Set handle what)))) [] (bind (set_udp_option_on m own (udp_chosen what).0 (udp_chosen what).1 (udp_socket_at m handle)) (λ done. Give (done_reply done.0, done.1)))
     udp_set =
         onto _ (on_udp_record m handle (set_udp_option_on m own (udp_chosen what).0 (udp_chosen what).1) (λ place o. set_udp_option_at m.store own (udp_chosen what).0 (udp_chosen what).1 o) refl (λ place. refl) (λ place. refl) (λ none. (refl, (none, (refl, refl))))
         (λ place o n. onto _ (widen (set_so place o n) (udp_sets own o what))))

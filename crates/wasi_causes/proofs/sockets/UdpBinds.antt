@@ -8,20 +8,21 @@ use Rattle.wasi_causes.proofs.tables.Routes.{Replied, Says, code_word, not_of_co
 use Rattle.wasi_causes.specs.Outcomes.{UdpConflicts}
 use Rattle.wasi_causes.specs.Polls.{ToldYes, ToldNo, CheckToldPending, UdpBindToldDone, UdpBindToldCode, Polled, WasOver, GoesOn, Stays, Stops}
 use Rattle.wasi_causes.specs.Udp.{putting_udp, IsUdpUnbound, udp_local_entry, udp_check_entry, udp_bind_entry, KnowsUdpBound, UdpBindRefusal, UdpBusy, UdpStreamsLive, UdpAlreadyBound, UdpOtherFamily, UdpDenied, UdpBindTold, StartsUdpBind, BindsUdp}
-use Rattle.wasi_records.specs.Binding.{left_of}
+use Rattle.record_common.specs.Binding.{left_of}
 use Rattle.wasi_records.specs.Records.{open_at, open_put}
-use Rattle.wasi_records.specs.Udp.{is_udp_idle, with_udp_progress, udp_bind_ended, udp_bind_begun, begin_udp_bind_asks}
-use Rattle.wasi_records.specs.Datagrams.{has_streams}
+use Rattle.udp_records.specs.Udp.{is_udp_idle, with_udp_progress, udp_bind_ended, udp_bind_begun, begin_udp_bind_asks}
+use Rattle.udp_records.specs.Datagrams.{has_streams}
 use Rattle.host_store.specs.declared.kind.Interface.TheVariants.{P2}
 use Rattle.host_udp.specs.UdpCalls.{udp_call_answered, start_udp_bind_by, start_udp_bind_unless, start_udp_bind_at}
-use Rattle.wasi_records.specs.declared.udp.OpenUdp.{OpenUdp}
-use Rattle.wasi_records.specs.declared.udp.UdpInProgress.{UdpInProgress}
-use Rattle.wasi_records.specs.declared.udp.UdpInProgress.TheVariants as doing
+use Rattle.udp_records.specs.declared.udp.OpenUdp.{OpenUdp}
+use Rattle.udp_records.specs.declared.udp.UdpInProgress.{UdpInProgress}
+use Rattle.udp_records.specs.declared.udp.UdpInProgress.TheVariants as doing
 use Rattle.wasi_p2.specs.Options.{record_asks}
 use Rattle.wasi_p2.specs.Udp.{start_udp_bind_asks}
 use Rattle.wasi_steps.specs.declared.reply.CodeWord.TheVariants as word
 use Rattle.wasi_steps.specs.declared.reply.Reply.TheVariants as reply
 use Rattle.wasi_steps.specs.declared.guest_call.GuestCall.TheVariants as guest
+use Rattle.wasi_steps.specs.declared.guest_call.UdpCall.TheVariants as udp_call
 use Rattle.wasi_steps.specs.declared.step.Step.TheVariants as step
 use Rattle.wasi_udp.specs.Bind.{bind_operation, bind_start}
 use Rattle.wasi_udp.specs.Shape.{Socket}
@@ -110,7 +111,7 @@ module _ (contexts : List WasiSocketsCtx) (m : Machine) (line c handle network :
   no_conflict {place} {o} n idle said other = apart other (λ k. let busy : is_udp_idle o.in_progress ≡ false = rw (its_udp n) at k in cc)
 
   bind_said : (place : ℕ) (o : OpenUdp) (n : NamesUdp m handle place o) (idle : is_udp_idle o.in_progress ≡ true) (alone : has_streams o ≡ false) (es : List Entry) (begun : Result (Answer (Unit {0})) ErrorCode × OpenUdp) → UdpBindRow m own handle place o n a idle alone es begun
-      → Replied contexts m line (step.Call c (guest.UdpStartBind handle network a)) (answer_reply line) es (with_store m (udp_call_answered m.store (first_ids line) (StandingCall.UdpBind place P2) begun))
+      → Replied contexts m line (step.Call c (guest.Udp (udp_call.StartBind handle network a))) (answer_reply line) es (with_store m (udp_call_answered m.store (first_ids line) (StandingCall.UdpBind place P2) begun))
   bind_said place o n idle alone es (Ok Pending, now) h = (
     λ is. no_conflict n idle _ (λ e. cc),
     ((refl, refl), here_udp n (record { local = h.local; begins = h.begins; asked = h.asked; table = refl; records = ap (λ (x : OpenUdp). open_put m.store.records place x) h.now_is; stands = refl })),
@@ -119,7 +120,7 @@ module _ (contexts : List WasiSocketsCtx) (m : Machine) (line c handle network :
   bind_said place o n idle alone es (Err code, now) h = (λ is. no_conflict n idle _ (not_of_code code word.ConcurrencyConflict (λ no. no)), (inr (code_word code), (here_udp n h.0, h.1)))
 
   abbrev StartRow : Rows (Result (Answer (Unit {0})) Stop × Machine)
-  StartRow = Replied contexts m line (step.Call c (guest.UdpStartBind handle network a)) (answer_reply line)
+  StartRow = Replied contexts m line (step.Call c (guest.Udp (udp_call.StartBind handle network a))) (answer_reply line)
 
   -- while a stream of it is live none begins
   by_streams : (place : ℕ) (o : OpenUdp) → NamesUdp m handle place o → is_udp_idle o.in_progress ≡ true → (b : Bool) → has_streams o ≡ b → Meets (λ es done. StartRow es (with_store m done)) [] (start_udp_bind_unless m.store (first_ids line) place a o b)
@@ -130,7 +131,7 @@ module _ (contexts : List WasiSocketsCtx) (m : Machine) (line c handle network :
   by_progress place o n false e = ends (λ is. (λ same. rw (its_udp n) e, λ k. refl), (inl refl, (here_udp n (UdpBusy e), inl refl)))
   by_progress place o n true e = by_streams place o n e (has_streams o) refl
 
-  pub udp_start_bind : Meets (Says contexts m line (step.Call c (guest.UdpStartBind handle network a))) [] (bind (start_udp_bind_asks m (first_ids line) handle network a) (λ done. Give (answer_reply line done.0, done.1)))
+  pub udp_start_bind : Meets (Says contexts m line (step.Call c (guest.Udp (udp_call.StartBind handle network a)))) [] (bind (start_udp_bind_asks m (first_ids line) handle network a) (λ done. Give (answer_reply line done.0, done.1)))
   udp_start_bind =
       onto _ (branch (is_network (kind_at m.table network))
       (λ is. on_udp_record m handle (λ found. record_asks m (λ place. start_udp_bind_at m.store (first_ids line) place a (open_at m.store.records place)) found) (λ place o. start_udp_bind_at m.store (first_ids line) place a o) refl (λ place. refl) (λ place. refl)

@@ -7,20 +7,22 @@ use Rattle.wasi_causes.specs.Outcomes.{FullAfter, LeavesUdpSocket, OnlyWhere}
 use Rattle.wasi_causes.specs.Polls.{WritableToldDone, WritableToldPending, WritableToldCode, Polled, WasOver, GoesOn, Stays, Stops}
 use Rattle.wasi_causes.specs.Udp.{udp_create_entry, writable_entry, with_udp_record, new_udp, CreateStandsFor, CreatesUdpFor, UdpCreateFails, UdpNotAllowed, UdpCreateTold, UdpWritableTold}
 use Rattle.wasi_records.specs.Records.{udp2_at, udp2_put, udp2_pushed}
-use Rattle.wasi_records.specs.Udp.{udp_side, udp_create_ended}
+use Rattle.udp_records.specs.Udp.{udp_side, udp_create_ended}
 use Rattle.host_udp.specs.UdpCreates.{with_create, create_answered, poll_create_at, mark_udp, create_so, create_on, create_begun, create_udp, create_udp_asks}
 use Rattle.host_store.specs.BaseStops.{BaseStop}
 use Rattle.host_store.specs.Kinds.{udp_kind}
 use Rattle.host_store.specs.declared.kind.Interface.{Interface}
 use Rattle.host_store.specs.declared.kind.Interface.TheVariants.{P2, P3}
 use Rattle.wasi_p3.specs.Udp as p3
-use Rattle.wasi_records.specs.Stops.{Code}
+use Rattle.record_common.specs.Stops.{Code}
 use Rattle.wasi_causes.specs.GivenUp.{giving_back}
 use Rattle.wasi_records.specs.declared.records.Record.{Record}
-use Rattle.wasi_records.specs.declared.udp.UdpRecord.{UdpRecord}
-use Rattle.wasi_records.specs.declared.udp.UdpRecord.TheVariants as udp
+use Rattle.udp_records.specs.declared.udp.UdpRecord.{UdpRecord}
+use Rattle.udp_records.specs.declared.udp.UdpRecord.TheVariants as udp
 use Rattle.wasi_machine.specs.Machine.{answer_reply_of, p3_answer_reply}
 use Rattle.wasi_steps.specs.declared.guest_call.GuestCall.TheVariants as guest
+use Rattle.wasi_steps.specs.declared.guest_call.UdpCall.TheVariants as udp_call
+use Rattle.wasi_steps.specs.declared.guest_call.P3UdpCall.TheVariants as p3_udp_call
 use Rattle.wasi_steps.specs.declared.step.Step.TheVariants as step
 use Rattle.wasi_udp.specs.Create.{Create, new_create, after_create, new_asks, with_left}
 use Rattle.wasi_world.specs.Operation.{UdpWritable}
@@ -135,14 +137,14 @@ module _ (contexts : List WasiSocketsCtx) (m : Machine) (line c : ℕ) (family :
   abbrev ctx : WasiSocketsCtx
   ctx = context_at contexts c
 
-  pub udp_create : Meets (Says contexts m line (step.Call c (guest.UdpCreate family))) [] (bind (create_udp_asks m (first_ids line) ctx family) (λ done. Give (answer_reply_of number_fields line done.0, done.1)))
+  pub udp_create : Meets (Says contexts m line (step.Call c (guest.Udp (udp_call.Create family)))) [] (bind (create_udp_asks m (first_ids line) ctx family) (λ done. Give (answer_reply_of number_fields line done.0, done.1)))
   udp_create =
       onto _ (onto _ (creates_udp m line ctx family P2 (λ es code after k. (only_fails m line ctx family es code after k, (code_word code, record { code = code; is = refl; cause = k })))
       (λ es after may k. (only m line ctx family may, ((refl, stands_under P2 m line ctx family es after k), k)))
       (λ es after may full left. (only m line ctx family may, (tt, full, left)))
       (λ es after may k. (only m line ctx family may, ((tt, tt), k)))))
 
-  pub p3_udp_create : Meets (Says contexts m line (step.Call c (guest.P3UdpCreate family))) [] (bind (p3.create (first_ids line) ctx family m) (λ done. Give (p3_answer_reply number_fields line done.0, done.1)))
+  pub p3_udp_create : Meets (Says contexts m line (step.Call c (guest.P3Udp (p3_udp_call.Create family)))) [] (bind (p3.create (first_ids line) ctx family m) (λ done. Give (p3_answer_reply number_fields line done.0, done.1)))
   p3_udp_create =
       onto _ (onto _ (creates_udp m line ctx family P3 (λ es code after k. (only_fails m line ctx family es code after k, (record { code = code; is = refl }, record { code = code; is = refl; cause = k })))
       (λ es after may k. (only m line ctx family may, ((refl, stands_under P3 m line ctx family es after k), k)))

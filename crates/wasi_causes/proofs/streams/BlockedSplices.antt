@@ -10,6 +10,7 @@ use Rattle.host_store.specs.Kinds.{is_readable, is_writable}
 use Rattle.wasi_machine.specs.Machine.{blocked_reply_of, call_stop_reply}
 use Rattle.wasi_steps.specs.declared.reply.Reply.TheVariants as reply
 use Rattle.wasi_steps.specs.declared.guest_call.GuestCall.TheVariants as guest
+use Rattle.wasi_steps.specs.declared.guest_call.StreamCall.TheVariants as stream_call
 use Rattle.wasi_steps.specs.declared.step.Step.TheVariants as step
 use Rattle.wasi_steps.specs.Reply.{bytes_fields}
 use Rattle.wasi_walks.specs.Missing.{MissesEither, MissesInput}
@@ -40,14 +41,14 @@ module _ (contexts : List WasiSocketsCtx) (ms : Machine) (at : ℕ) (s : Step) (
   no_input : is_readable (kind_at m.table from) ≡ false → MissesEither m to from
   no_input other = let k = unreadable (kind_at m.table from) other in inr (ap (λ (o : Option ℕ). streams_in (record_in m o)) k.0, rw k.1 tt)
 
-  looks : (es : List Entry) (given : Result ℕ CallStop) (mid : Machine) → CheckFacts contexts line c m to es (given, mid) → m.store.standing ≡ None → Answered contexts m line (step.Call c (guest.CheckWrite to)) es (permit_reply given) mid
-  looks es given mid k free = answers_part contexts m line (step.Call c (guest.CheckWrite to)) (check_asks m (own_of line) to) permit_reply refl free es given mid k.did
+  looks : (es : List Entry) (given : Result ℕ CallStop) (mid : Machine) → CheckFacts contexts line c m to es (given, mid) → m.store.standing ≡ None → Answered contexts m line (step.Call c (guest.Stream (stream_call.CheckWrite to))) es (permit_reply given) mid
+  looks es given mid k free = answers_part contexts m line (step.Call c (guest.Stream (stream_call.CheckWrite to))) (check_asks m (own_of line) to) permit_reply refl free es given mid k.did
 
   checked_out : (es : List Entry) (why : CallStop) (after : Machine) → CheckFacts contexts line c m to es (Err why, after) → Row es (Err why, after)
   checked_out es why after k = (
     λ free. CheckGivesNone es (call_stop_reply why) after (looks es (Err why) after k free) (stops_none why),
-    of_part contexts ms at s f.is line (step.Call c (guest.CheckWrite to)) m [] es (call_stop_reply why) after f.table refl (stops_none why) k.row.1 (λ kind e. check_traps contexts line c m to es after kind (subst (λ (x : Reply). Replies contexts m line (step.Call c (guest.CheckWrite to)) es x after) e k.row.1))
-        (λ e. let row = subst (λ (x : Reply). Replies contexts m line (step.Call c (guest.CheckWrite to)) es x after) e k.row.1 in (f.misses (inl row.0), subst (λ (x : Machine). LeavesMissing ms s es x) (sym row.1.1) (subst (λ (xs : List Entry). LeavesMissing ms s xs m) (sym row.1.0) f.quiet))),
+    of_part contexts ms at s f.is line (step.Call c (guest.Stream (stream_call.CheckWrite to))) m [] es (call_stop_reply why) after f.table refl (stops_none why) k.row.1 (λ kind e. check_traps contexts line c m to es after kind (subst (λ (x : Reply). Replies contexts m line (step.Call c (guest.Stream (stream_call.CheckWrite to))) es x after) e k.row.1))
+        (λ e. let row = subst (λ (x : Reply). Replies contexts m line (step.Call c (guest.Stream (stream_call.CheckWrite to))) es x after) e k.row.1 in (f.misses (inl row.0), subst (λ (x : Machine). LeavesMissing ms s es x) (sym row.1.1) (subst (λ (xs : List Entry). LeavesMissing ms s xs m) (sym row.1.0) f.quiet))),
   )
 
   -- == its output was looked at
@@ -55,7 +56,7 @@ module _ (contexts : List WasiSocketsCtx) (ms : Machine) (at : ℕ) (s : Step) (
     free_mid : m.store.standing ≡ None → mid.store.standing ≡ None
     free_mid free = k.kept.0.standing ∙ free
 
-    checked : m.store.standing ≡ None → Answered contexts m line (step.Call c (guest.CheckWrite to)) es (reply.Ok (number_fields (suc n))) mid
+    checked : m.store.standing ≡ None → Answered contexts m line (step.Call c (guest.Stream (stream_call.CheckWrite to))) es (reply.Ok (number_fields (suc n))) mid
     checked free = looks es (Ok (suc n)) mid k free
 
     -- an input that isn't there wasn't there before
@@ -70,20 +71,20 @@ module _ (contexts : List WasiSocketsCtx) (ms : Machine) (at : ℕ) (s : Step) (
         front_marks : marks_in (es ++ ls) ≡ 0
         front_marks = let two = marks_two es ls in let one = k.kept.2 in omega (arith, two, one, unmarked)
 
-        did : (fs : List Entry) (given : Result (List ℕ) CallStop) (after : Machine) → ReadFacts contexts line c mid from (suc count) fs (given, after) → m.store.standing ≡ None → Answered contexts mid line (step.Call c (guest.Read from (suc count))) fs (bytes_reply given) after
-        did fs given after r free = answers_part contexts mid line (step.Call c (guest.Read from (suc count))) (read_asks mid (own_of line) from (suc count)) bytes_reply refl (free_mid free) fs given after r.did
+        did : (fs : List Entry) (given : Result (List ℕ) CallStop) (after : Machine) → ReadFacts contexts line c mid from (suc count) fs (given, after) → m.store.standing ≡ None → Answered contexts mid line (step.Call c (guest.Stream (stream_call.Read from (suc count)))) fs (bytes_reply given) after
+        did fs given after r free = answers_part contexts mid line (step.Call c (guest.Stream (stream_call.Read from (suc count)))) (read_asks mid (own_of line) from (suc count)) bytes_reply refl (free_mid free) fs given after r.did
 
         read_out : (fs : List Entry) (why : CallStop) (after : Machine) → ReadFacts contexts line c mid from (suc count) fs (Err why, after) → Row (es ++ (ls ++ fs)) (Err why, after)
         read_out fs why after r = (
           λ free. ReadGivesNone es ls fs n count mid (call_stop_reply why) after (checked free) some looked (did fs (Err why) after r free) (stops_none why),
           subst (λ (xs : List Entry). Replies contexts ms at s xs (call_stop_reply why) after) (append_assoc es ls fs)
-              (of_part contexts ms at s f.is line (step.Call c (guest.Read from (suc count))) mid (es ++ ls) fs (call_stop_reply why) after (k.kept.1 ∙ f.table) front_marks (stops_none why) r.row.1 (λ kind e. read_traps contexts line c mid from fs after (suc count) kind (subst (λ (x : Reply). Replies contexts mid line (step.Call c (guest.Read from (suc count))) fs x after) e r.row.1))
-              (λ e. lost (subst (λ (x : Reply). Replies contexts mid line (step.Call c (guest.Read from (suc count))) fs x after) e r.row.1).0 ((es ++ ls) ++ fs) after)),
+              (of_part contexts ms at s f.is line (step.Call c (guest.Stream (stream_call.Read from (suc count)))) mid (es ++ ls) fs (call_stop_reply why) after (k.kept.1 ∙ f.table) front_marks (stops_none why) r.row.1 (λ kind e. read_traps contexts line c mid from fs after (suc count) kind (subst (λ (x : Reply). Replies contexts mid line (step.Call c (guest.Stream (stream_call.Read from (suc count)))) fs x after) e r.row.1))
+              (λ e. lost (subst (λ (x : Reply). Replies contexts mid line (step.Call c (guest.Stream (stream_call.Read from (suc count)))) fs x after) e r.row.1).0 ((es ++ ls) ++ fs) after)),
         )
 
         none_read : (fs : List Entry) (after : Machine) → ReadFacts contexts line c mid from (suc count) fs (Ok [], after) → Row (es ++ (ls ++ fs)) (Ok Pending, waiting after ids (blocking.Splice to from len))
         none_read fs after r = subst (λ (x : Machine). Row (es ++ (ls ++ fs)) (Ok Pending, waiting x ids (blocking.Splice to from len))) (sym (same r.row.1.1)) (
-          λ free. NoneRead es ls fs n count mid (checked free) some looked (subst (λ (x : Machine). Answered contexts mid line (step.Call c (guest.Read from (suc count))) fs (reply.Ok (bytes_fields [])) x) (same r.row.1.1) (did fs (Ok []) after r free)),
+          λ free. NoneRead es ls fs n count mid (checked free) some looked (subst (λ (x : Machine). Answered contexts mid line (step.Call c (guest.Stream (stream_call.Read from (suc count)))) fs (reply.Ok (bytes_fields [])) x) (same r.row.1.1) (did fs (Ok []) after r free)),
           f.pends (es ++ (ls ++ fs)) (blocking.Splice to from len) mid k.kept.1,
         )
           where
@@ -110,14 +111,14 @@ module _ (contexts : List WasiSocketsCtx) (ms : Machine) (at : ℕ) (s : Step) (
 
           written : (gs : List Entry) (given : Result (Unit {0}) CallStop) (after : Machine) → WriteFacts contexts line c read to (b ∷ bytes) gs (given, after) → m.store.standing ≡ None → SplicesOn contexts m c ids to from len (es ++ (ls ++ (fs ++ gs))) (spliced_reply (length (b ∷ bytes)) (taken_reply given)) after
           written gs given after w free =
-              WritesRead es ls fs gs n count b bytes mid read (taken_reply given) after (checked free) some looked (did fs (Ok (b ∷ bytes)) read r free) (answers_part contexts read line (step.Call c (guest.Write to (b ∷ bytes))) (write_asks read (own_of line) to (b ∷ bytes)) taken_reply refl (free_read free) gs given after w.did)
+              WritesRead es ls fs gs n count b bytes mid read (taken_reply given) after (checked free) some looked (did fs (Ok (b ∷ bytes)) read r free) (answers_part contexts read line (step.Call c (guest.Stream (stream_call.Write to (b ∷ bytes)))) (write_asks read (own_of line) to (b ∷ bytes)) taken_reply refl (free_read free) gs given after w.did)
 
           write_out : (gs : List Entry) (given : Result (Unit {0}) CallStop) (after : Machine) → WriteFacts contexts line c read to (b ∷ bytes) gs (given, after) → Row (es ++ (ls ++ (fs ++ gs))) (splice_written (length (b ∷ bytes)) (given, after))
           write_out gs (Ok done) after w = (written gs (Ok done) after w, f.gives (es ++ (ls ++ (fs ++ gs))) (number_fields (length (b ∷ bytes))) after (length (b ∷ bytes), refl) (w.kept.1 ∙ same_table))
           write_out gs (Err why) after w = (
             λ free. subst (λ (x : Reply). SplicesOn contexts m c ids to from len (es ++ (ls ++ (fs ++ gs))) x after) (same_reply why) (written gs (Err why) after w free),
             subst (λ (xs : List Entry). Replies contexts ms at s xs (call_stop_reply why) after) (append_assoc es (ls ++ fs) gs ∙ ap (λ (xs : List Entry). es ++ xs) (append_assoc ls fs gs))
-                (of_part contexts ms at s f.is line (step.Call c (guest.Write to (b ∷ bytes))) read (es ++ (ls ++ fs)) gs (call_stop_reply why) after (same_table ∙ f.table) all_marks (stops_none why) w.row.1 traps misses),
+                (of_part contexts ms at s f.is line (step.Call c (guest.Stream (stream_call.Write to (b ∷ bytes)))) read (es ++ (ls ++ fs)) gs (call_stop_reply why) after (same_table ∙ f.table) all_marks (stops_none why) w.row.1 traps misses),
           )
             where
               same_reply : (why : CallStop) → spliced_reply (length (b ∷ bytes)) (call_stop_reply why) ≡ call_stop_reply why
@@ -126,10 +127,10 @@ module _ (contexts : List WasiSocketsCtx) (ms : Machine) (at : ℕ) (s : Step) (
               same_reply (TrapsBy kind) = refl
 
               traps : (kind : TrapKind) → call_stop_reply why ≡ reply.Trap kind → HandsOn kind
-              traps kind e = write_traps contexts line c read to gs after (b ∷ bytes) kind (subst (λ (x : Reply). Replies contexts read line (step.Call c (guest.Write to (b ∷ bytes))) gs x after) e w.row.1) (λ is. may.0 (w.row.0.0.0 (e ∙ ap reply.Trap is))) (λ is. may.1 (w.row.0.1.0 (e ∙ ap reply.Trap is)))
+              traps kind e = write_traps contexts line c read to gs after (b ∷ bytes) kind (subst (λ (x : Reply). Replies contexts read line (step.Call c (guest.Stream (stream_call.Write to (b ∷ bytes)))) gs x after) e w.row.1) (λ is. may.0 (w.row.0.0.0 (e ∙ ap reply.Trap is))) (λ is. may.1 (w.row.0.1.0 (e ∙ ap reply.Trap is)))
 
               misses : call_stop_reply why ≡ reply.Trap NoSuchHandle → MissesHandle ms s × LeavesMissing ms s ((es ++ (ls ++ fs)) ++ gs) after
-              misses e = let row = subst (λ (x : Reply). Replies contexts read line (step.Call c (guest.Write to (b ∷ bytes))) gs x after) e w.row.1 in absurd (output_is_there m line to (suc n) es k.row.1.1 (missed_output m mid k.kept.1 k.kept.0.there to (missed_output mid read r.kept.1 r.kept.0.there to row.0)))
+              misses e = let row = subst (λ (x : Reply). Replies contexts read line (step.Call c (guest.Stream (stream_call.Write to (b ∷ bytes)))) gs x after) e w.row.1 in absurd (output_is_there m line to (suc n) es k.row.1.1 (missed_output m mid k.kept.1 k.kept.0.there to (missed_output mid read r.kept.1 r.kept.0.there to row.0)))
 
         by_read : (fs : List Entry) (given : Result (List ℕ) CallStop) (read : Machine) → ReadFacts contexts line c mid from (suc count) fs (given, read) → Meets Row (es ++ (ls ++ fs)) (splice_given ids to from len (given, read))
         by_read fs (Ok []) read r = ends (none_read fs read r)

@@ -11,6 +11,7 @@ use Rattle.host_store.specs.CallStops.{Closed, Failed, Traps as TrapsBy}
 use Rattle.wasi_machine.specs.Machine.{blocked_reply_of, call_stop_reply}
 use Rattle.wasi_steps.specs.declared.reply.Reply.TheVariants as reply
 use Rattle.wasi_steps.specs.declared.guest_call.GuestCall.TheVariants as guest
+use Rattle.wasi_steps.specs.declared.guest_call.StreamCall.TheVariants as stream_call
 use Rattle.wasi_steps.specs.declared.step.Step.TheVariants as step
 use Rattle.wasi_steps.specs.Reply.{no_values}
 use Rattle.wasi_walks.specs.Missing.{MissesOutput}
@@ -53,20 +54,20 @@ module _ (contexts : List WasiSocketsCtx) (ms : Machine) (at : ℕ) (s : Step) (
 
     checked_out : (es : List Entry) (why : CallStop) (after : Machine) → CheckFacts contexts line c m output es (Err why, after) → Replies contexts ms at s (front ++ es) (call_stop_reply why) after
     checked_out es why after k =
-        part_out (step.Call c (guest.CheckWrite output)) es why after k.row.1 (λ kind e. check_traps contexts line c m output es after kind (subst (λ (x : Reply). Replies contexts m line (step.Call c (guest.CheckWrite output)) es x after) e k.row.1))
-        (λ e. let row = subst (λ (x : Reply). Replies contexts m line (step.Call c (guest.CheckWrite output)) es x after) e k.row.1 in (row.0, (row.1.0, row.1.1)))
+        part_out (step.Call c (guest.Stream (stream_call.CheckWrite output))) es why after k.row.1 (λ kind e. check_traps contexts line c m output es after kind (subst (λ (x : Reply). Replies contexts m line (step.Call c (guest.Stream (stream_call.CheckWrite output))) es x after) e k.row.1))
+        (λ e. let row = subst (λ (x : Reply). Replies contexts m line (step.Call c (guest.Stream (stream_call.CheckWrite output))) es x after) e k.row.1 in (row.0, (row.1.0, row.1.1)))
 
     flushed_out : (es : List Entry) (why : CallStop) (after : Machine) → FlushFacts contexts line c m output es (Err why, after) → Replies contexts ms at s (front ++ es) (call_stop_reply why) after
     flushed_out es why after k =
-        part_out (step.Call c (guest.Flush output)) es why after k.row.1 (λ kind e. flush_traps contexts line c m output es after kind (subst (λ (x : Reply). Replies contexts m line (step.Call c (guest.Flush output)) es x after) e k.row.1))
-        (λ e. let row = subst (λ (x : Reply). Replies contexts m line (step.Call c (guest.Flush output)) es x after) e k.row.1 in (row.0, (row.1.0, row.1.1)))
+        part_out (step.Call c (guest.Stream (stream_call.Flush output))) es why after k.row.1 (λ kind e. flush_traps contexts line c m output es after kind (subst (λ (x : Reply). Replies contexts m line (step.Call c (guest.Stream (stream_call.Flush output))) es x after) e k.row.1))
+        (λ e. let row = subst (λ (x : Reply). Replies contexts m line (step.Call c (guest.Stream (stream_call.Flush output))) es x after) e k.row.1 in (row.0, (row.1.0, row.1.1)))
 
     -- what was asked of each
-    looks : (es : List Entry) (given : Result ℕ CallStop) (after : Machine) → CheckFacts contexts line c m output es (given, after) → m.store.standing ≡ None → Answered contexts m line (step.Call c (guest.CheckWrite output)) es (permit_reply given) after
-    looks es given after k free = answers_part contexts m line (step.Call c (guest.CheckWrite output)) (check_asks m (own_of line) output) permit_reply refl free es given after k.did
+    looks : (es : List Entry) (given : Result ℕ CallStop) (after : Machine) → CheckFacts contexts line c m output es (given, after) → m.store.standing ≡ None → Answered contexts m line (step.Call c (guest.Stream (stream_call.CheckWrite output))) es (permit_reply given) after
+    looks es given after k free = answers_part contexts m line (step.Call c (guest.Stream (stream_call.CheckWrite output))) (check_asks m (own_of line) output) permit_reply refl free es given after k.did
 
-    flushes : (es : List Entry) (given : Result (Unit {0}) CallStop) (after : Machine) → FlushFacts contexts line c m output es (given, after) → m.store.standing ≡ None → Answered contexts m line (step.Call c (guest.Flush output)) es (taken_reply given) after
-    flushes es given after k free = answers_part contexts m line (step.Call c (guest.Flush output)) (flushed_asks m (own_of line) output) taken_reply refl free es given after k.did
+    flushes : (es : List Entry) (given : Result (Unit {0}) CallStop) (after : Machine) → FlushFacts contexts line c m output es (given, after) → m.store.standing ≡ None → Answered contexts m line (step.Call c (guest.Stream (stream_call.Flush output))) es (taken_reply given) after
+    flushes es given after k free = answers_part contexts m line (step.Call c (guest.Stream (stream_call.Flush output))) (flushed_asks m (own_of line) output) taken_reply refl free es given after k.did
 
     -- == a flush
     abbrev FlushRow : Rows (Blocked (Unit {0}))
@@ -100,8 +101,8 @@ module _ (contexts : List WasiSocketsCtx) (ms : Machine) (at : ℕ) (s : Step) (
     FinishRow = Row (λ es r after. m.store.standing ≡ None → Finishes contexts m c ids output es r after) front
 
     -- a flush that gives nothing leaves the machine as it was
-    after_flush : (es : List Entry) (after : Machine) → FlushFacts contexts line c m output es (Ok tt, after) → m.store.standing ≡ None → Answered contexts m line (step.Call c (guest.Flush output)) [] (reply.Ok no_fields) m
-    after_flush es after k free = subst (λ (x : Machine). Answered contexts m line (step.Call c (guest.Flush output)) [] (reply.Ok no_fields) x) k.row.1.1.1 (subst (λ (xs : List Entry). Answered contexts m line (step.Call c (guest.Flush output)) xs (reply.Ok no_fields) after) k.row.1.1.0 (flushes es (Ok tt) after k free))
+    after_flush : (es : List Entry) (after : Machine) → FlushFacts contexts line c m output es (Ok tt, after) → m.store.standing ≡ None → Answered contexts m line (step.Call c (guest.Stream (stream_call.Flush output))) [] (reply.Ok no_fields) m
+    after_flush es after k free = subst (λ (x : Machine). Answered contexts m line (step.Call c (guest.Stream (stream_call.Flush output))) [] (reply.Ok no_fields) x) k.row.1.1.1 (subst (λ (xs : List Entry). Answered contexts m line (step.Call c (guest.Stream (stream_call.Flush output))) xs (reply.Ok no_fields) after) k.row.1.1.0 (flushes es (Ok tt) after k free))
 
     finish_so : (es : List Entry) (given : Result (Unit {0}) CallStop) (after : Machine) → FlushFacts contexts line c m output es (given, after) → Meets FinishRow es (finish_flushed ids output (given, after))
     finish_so es (Ok done) after k =
@@ -112,7 +113,7 @@ module _ (contexts : List WasiSocketsCtx) (ms : Machine) (at : ℕ) (s : Step) (
     finish_rows = chain (flush_facts contexts line c m output) (λ es done k. finish_so es done.0 done.1 k)
 
     -- == a flush
-    flush_so : (es : List Entry) (given : Result ℕ CallStop) (after : Machine) → (m.store.standing ≡ None → Answered contexts m line (step.Call c (guest.Flush output)) [] (reply.Ok no_fields) m) → CheckFacts contexts line c m output es (given, after) → FlushRow es (flush_checked ids output (given, after))
+    flush_so : (es : List Entry) (given : Result ℕ CallStop) (after : Machine) → (m.store.standing ≡ None → Answered contexts m line (step.Call c (guest.Stream (stream_call.Flush output))) [] (reply.Ok no_fields) m) → CheckFacts contexts line c m output es (given, after) → FlushRow es (flush_checked ids output (given, after))
     flush_so es (Ok zero) after done k = (λ free. StillWrites es after (done free) (looks es (Ok 0) after k free), f.pends (front ++ es) (blocking.Flush output) after (k.kept.1 ∙ ahead.table))
     flush_so es (Ok (suc n)) after done k = (λ free. IsFlushed es n after (done free) (looks es (Ok (suc n)) after k free), f.gives (front ++ es) after (k.kept.1 ∙ ahead.table))
     flush_so es (Err why) after done k = (λ free. LookGivesNone es (call_stop_reply why) after (done free) (looks es (Err why) after k free) (stops_none why), checked_out es why after k)
@@ -141,8 +142,8 @@ module _ (contexts : List WasiSocketsCtx) (ms : Machine) (at : ℕ) (s : Step) (
         abbrev WroteFacts : Rows (Result (Unit {0}) CallStop × Machine)
         WroteFacts fs done = WriteFacts contexts line c mid output bytes fs done
 
-        writes : (fs : List Entry) (given : Result (Unit {0}) CallStop) (after : Machine) → WroteFacts fs (given, after) → m.store.standing ≡ None → Answered contexts mid line (step.Call c (guest.Write output bytes)) fs (taken_reply given) after
-        writes fs given after w free = answers_part contexts mid line (step.Call c (guest.Write output bytes)) (write_asks mid (own_of line) output bytes) taken_reply refl (free_mid free) fs given after w.did
+        writes : (fs : List Entry) (given : Result (Unit {0}) CallStop) (after : Machine) → WroteFacts fs (given, after) → m.store.standing ≡ None → Answered contexts mid line (step.Call c (guest.Stream (stream_call.Write output bytes))) fs (taken_reply given) after
+        writes fs given after w free = answers_part contexts mid line (step.Call c (guest.Stream (stream_call.Write output bytes))) (write_asks mid (own_of line) output bytes) taken_reply refl (free_mid free) fs given after w.did
 
         may : MayWrite mid output (length bytes)
         may = fewer mid output n (length bytes) few (k.permits some)
@@ -150,9 +151,9 @@ module _ (contexts : List WasiSocketsCtx) (ms : Machine) (at : ℕ) (s : Step) (
         wrote_out : (fs : List Entry) (why : CallStop) (after : Machine) → WroteFacts fs (Err why, after) → Replies contexts ms at s (front ++ (es ++ fs)) (call_stop_reply why) after
         wrote_out fs why after w =
             subst (λ (xs : List Entry). Replies contexts ms at s xs (call_stop_reply why) after) (append_assoc front es fs)
-            (of_part contexts ms at s f.is line (step.Call c (guest.Write output bytes)) mid (front ++ es) fs (call_stop_reply why) after checked_ahead.table checked_ahead.unmarked (stops_none why) w.row.1
-            (λ kind e. write_traps contexts line c mid output fs after bytes kind (subst (λ (x : Reply). Replies contexts mid line (step.Call c (guest.Write output bytes)) fs x after) e w.row.1) (λ is. may.0 (w.row.0.0.0 (e ∙ ap reply.Trap is))) (λ is. may.1 (w.row.0.1.0 (e ∙ ap reply.Trap is))))
-            (λ e. absurd (there (subst (λ (x : Reply). Replies contexts mid line (step.Call c (guest.Write output bytes)) fs x after) e w.row.1).0)))
+            (of_part contexts ms at s f.is line (step.Call c (guest.Stream (stream_call.Write output bytes))) mid (front ++ es) fs (call_stop_reply why) after checked_ahead.table checked_ahead.unmarked (stops_none why) w.row.1
+            (λ kind e. write_traps contexts line c mid output fs after bytes kind (subst (λ (x : Reply). Replies contexts mid line (step.Call c (guest.Stream (stream_call.Write output bytes))) fs x after) e w.row.1) (λ is. may.0 (w.row.0.0.0 (e ∙ ap reply.Trap is))) (λ is. may.1 (w.row.0.1.0 (e ∙ ap reply.Trap is))))
+            (λ e. absurd (there (subst (λ (x : Reply). Replies contexts mid line (step.Call c (guest.Stream (stream_call.Write output bytes))) fs x after) e w.row.1).0)))
 
         written_ahead : (fs : List Entry) (after : Machine) → WroteFacts fs (Ok tt, after) → Ahead (front ++ (es ++ fs)) after
         written_ahead fs after w = record {
@@ -199,10 +200,10 @@ module _ (contexts : List WasiSocketsCtx) (ms : Machine) (at : ℕ) (s : Step) (
         free_next : m.store.standing ≡ None → next.store.standing ≡ None
         free_next free = w.kept.0.standing ∙ free_mid m front ahead (suc n) es mid facts free
 
-        looked : m.store.standing ≡ None → Answered contexts m line (step.Call c (guest.CheckWrite output)) es (reply.Ok (number_fields (suc n))) mid
+        looked : m.store.standing ≡ None → Answered contexts m line (step.Call c (guest.Stream (stream_call.CheckWrite output))) es (reply.Ok (number_fields (suc n))) mid
         looked free = looks m front ahead es (Ok (suc n)) mid facts free
 
-        wrote : m.store.standing ≡ None → Answered contexts mid line (step.Call c (guest.Write output piece)) fs (reply.Ok no_fields) next
+        wrote : m.store.standing ≡ None → Answered contexts mid line (step.Call c (guest.Stream (stream_call.Write output piece))) fs (reply.Ok no_fields) next
         wrote free = writes m front ahead (suc n) es mid facts piece (omega arith) (few_taken (suc n) rest) fs (Ok tt) next w free
 
         -- what follows, as a part of the whole

@@ -10,6 +10,7 @@ use Rattle.wasi_machine.specs.Machine.{blocked_reply_of, call_stop_reply, stream
 use Rattle.wasi_steps.specs.declared.reply.Field.{Field}
 use Rattle.wasi_steps.specs.declared.reply.Reply.TheVariants as reply
 use Rattle.wasi_steps.specs.declared.guest_call.GuestCall.TheVariants as guest
+use Rattle.wasi_steps.specs.declared.guest_call.StreamCall.TheVariants as stream_call
 use Rattle.wasi_steps.specs.declared.step.Step.TheVariants as step
 use Rattle.wasi_steps.specs.Reply.{bytes_fields}
 use Rattle.wasi_walks.specs.Missing.{MissesInput, MissesStream}
@@ -62,13 +63,13 @@ module _ (contexts : List WasiSocketsCtx) (ms : Machine) (at : ℕ) (s : Step) (
     )
 
     module _ (es : List Entry) (looks : LooksInto m (own_of line) input true es) (unmarked : marks_in es ≡ 0) where
-      did : (fs : List Entry) (given : Result (List ℕ) CallStop) (after : Machine) → ReadFacts contexts line c m input len fs (given, after) → m.store.standing ≡ None → Answered contexts m line (step.Call c (guest.Read input len)) fs (bytes_reply given) after
-      did fs given after r free = answers_part contexts m line (step.Call c (guest.Read input len)) (read_asks m (own_of line) input len) bytes_reply refl free fs given after r.did
+      did : (fs : List Entry) (given : Result (List ℕ) CallStop) (after : Machine) → ReadFacts contexts line c m input len fs (given, after) → m.store.standing ≡ None → Answered contexts m line (step.Call c (guest.Stream (stream_call.Read input len))) fs (bytes_reply given) after
+      did fs given after r free = answers_part contexts m line (step.Call c (guest.Stream (stream_call.Read input len))) (read_asks m (own_of line) input len) bytes_reply refl free fs given after r.did
 
       read_out : (fs : List Entry) (why : CallStop) (after : Machine) → ReadFacts contexts line c m input len fs (Err why, after) → ReadRow (es ++ fs) (Err why, after)
       read_out fs why after r = (
         λ free. AsRead es fs (call_stop_reply why) after looks (did fs (Err why) after r free) (λ e. absurd (never why e)),
-        of_part contexts ms at s f.is line (step.Call c (guest.Read input len)) m es fs (call_stop_reply why) after f.table unmarked (stops_none why) r.row.1 (λ kind e. read_traps contexts line c m input fs after len kind (subst (λ (x : Reply). Replies contexts m line (step.Call c (guest.Read input len)) fs x after) e r.row.1)) misses,
+        of_part contexts ms at s f.is line (step.Call c (guest.Stream (stream_call.Read input len))) m es fs (call_stop_reply why) after f.table unmarked (stops_none why) r.row.1 (λ kind e. read_traps contexts line c m input fs after len kind (subst (λ (x : Reply). Replies contexts m line (step.Call c (guest.Stream (stream_call.Read input len))) fs x after) e r.row.1)) misses,
       )
         where
           never : (why : CallStop) → call_stop_reply why ≡ reply.Ok (bytes_fields []) → ⊥
@@ -77,11 +78,11 @@ module _ (contexts : List WasiSocketsCtx) (ms : Machine) (at : ℕ) (s : Step) (
           never (TrapsBy kind) e = cc
 
           misses : call_stop_reply why ≡ reply.Trap NoSuchHandle → MissesHandle ms s × LeavesMissing ms s (es ++ fs) after
-          misses e = let row = subst (λ (x : Reply). Replies contexts m line (step.Call c (guest.Read input len)) fs x after) e r.row.1 in left_missing es fs after (looked_none m (own_of line) input looks row.0) row.1.0 row.1.1 row.0
+          misses e = let row = subst (λ (x : Reply). Replies contexts m line (step.Call c (guest.Stream (stream_call.Read input len))) fs x after) e r.row.1 in left_missing es fs after (looked_none m (own_of line) input looks row.0) row.1.0 row.1.1 row.0
 
       no_bytes : (fs : List Entry) (after : Machine) → ReadFacts contexts line c m input len fs (Ok [], after) → (b : Bool) → (len == 0) ≡ b → ReadRow (es ++ fs) (if b then (Ok (Ready []), after) else (Ok Pending, waiting after ids (blocking.Read input len)))
       no_bytes fs after r true e = (λ free. AsRead es fs (bytes_reply (Ok [])) after looks (did fs (Ok []) after r free) (λ same. eqb-true len 0 e), f.gives (es ++ fs) (bytes_fields []) after ([], refl) r.kept.1)
-      no_bytes fs after r false e = subst (λ (x : Machine). ReadRow (es ++ fs) (Ok Pending, waiting x ids (blocking.Read input len))) (sym (same r.row.1.1)) (λ free. NoneCame es fs looks (subst (λ (x : Machine). Answered contexts m line (step.Call c (guest.Read input len)) fs (bytes_reply (Ok [])) x) (same r.row.1.1) (did fs (Ok []) after r free)) (λ none. eqb-false len 0 e none), f.pends (es ++ fs) (blocking.Read input len) m refl)
+      no_bytes fs after r false e = subst (λ (x : Machine). ReadRow (es ++ fs) (Ok Pending, waiting x ids (blocking.Read input len))) (sym (same r.row.1.1)) (λ free. NoneCame es fs looks (subst (λ (x : Machine). Answered contexts m line (step.Call c (guest.Stream (stream_call.Read input len))) fs (bytes_reply (Ok [])) x) (same r.row.1.1) (did fs (Ok []) after r free)) (λ none. eqb-false len 0 e none), f.pends (es ++ fs) (blocking.Read input len) m refl)
         where
           same : Reads m line input len fs (bytes_fields []) after → after ≡ m
           same (inl k) = k.1
@@ -117,15 +118,15 @@ module _ (contexts : List WasiSocketsCtx) (ms : Machine) (at : ℕ) (s : Step) (
     )
 
     module _ (es : List Entry) (looks : LooksInto m (own_of line) input true es) (unmarked : marks_in es ≡ 0) where
-      skips : (fs : List Entry) (given : Result (List ℕ) CallStop) (after : Machine) → ReadFacts contexts line c m input len fs (given, after) → m.store.standing ≡ None → Answered contexts m line (step.Call c (guest.Skip input len)) fs (stream_reply_of number_fields (counted (given, after)).0) (counted (given, after)).1
+      skips : (fs : List Entry) (given : Result (List ℕ) CallStop) (after : Machine) → ReadFacts contexts line c m input len fs (given, after) → m.store.standing ≡ None → Answered contexts m line (step.Call c (guest.Stream (stream_call.Skip input len))) fs (stream_reply_of number_fields (counted (given, after)).0) (counted (given, after)).1
       unfolding bind
       skips fs given after r free =
-          answers_part contexts m line (step.Call c (guest.Skip input len)) (skip_asks m (own_of line) input len) (stream_reply_of number_fields) refl free fs (counted (given, after)).0 (counted (given, after)).1 (left_in (λ done. Give (counted done)) (read_asks m (own_of line) input len) (Give (given, after)) fs r.did)
+          answers_part contexts m line (step.Call c (guest.Stream (stream_call.Skip input len))) (skip_asks m (own_of line) input len) (stream_reply_of number_fields) refl free fs (counted (given, after)).0 (counted (given, after)).1 (left_in (λ done. Give (counted done)) (read_asks m (own_of line) input len) (Give (given, after)) fs r.did)
 
       skip_out : (fs : List Entry) (why : CallStop) (after : Machine) → ReadFacts contexts line c m input len fs (Err why, after) → SkipRow (es ++ fs) (Err why, after)
       skip_out fs why after r = (
         λ free. AsRead es fs (call_stop_reply why) after looks (skips fs (Err why) after r free) (λ e. absurd (never why e)),
-        of_part contexts ms at s f.is line (step.Call c (guest.Read input len)) m es fs (call_stop_reply why) after f.table unmarked (stops_none why) r.row.1 (λ kind e. read_traps contexts line c m input fs after len kind (subst (λ (x : Reply). Replies contexts m line (step.Call c (guest.Read input len)) fs x after) e r.row.1)) misses,
+        of_part contexts ms at s f.is line (step.Call c (guest.Stream (stream_call.Read input len))) m es fs (call_stop_reply why) after f.table unmarked (stops_none why) r.row.1 (λ kind e. read_traps contexts line c m input fs after len kind (subst (λ (x : Reply). Replies contexts m line (step.Call c (guest.Stream (stream_call.Read input len))) fs x after) e r.row.1)) misses,
       )
         where
           never : (why : CallStop) → call_stop_reply why ≡ reply.Ok (number_fields 0) → ⊥
@@ -134,11 +135,11 @@ module _ (contexts : List WasiSocketsCtx) (ms : Machine) (at : ℕ) (s : Step) (
           never (TrapsBy kind) e = cc
 
           misses : call_stop_reply why ≡ reply.Trap NoSuchHandle → MissesHandle ms s × LeavesMissing ms s (es ++ fs) after
-          misses e = let row = subst (λ (x : Reply). Replies contexts m line (step.Call c (guest.Read input len)) fs x after) e r.row.1 in left_skip es fs after (looked_none m (own_of line) input looks row.0) row.1.0 row.1.1 row.0
+          misses e = let row = subst (λ (x : Reply). Replies contexts m line (step.Call c (guest.Stream (stream_call.Read input len))) fs x after) e r.row.1 in left_skip es fs after (looked_none m (own_of line) input looks row.0) row.1.0 row.1.1 row.0
 
       none_skipped : (fs : List Entry) (after : Machine) → ReadFacts contexts line c m input len fs (Ok [], after) → (b : Bool) → (len == 0) ≡ b → SkipRow (es ++ fs) (if b then (Ok (Ready 0), after) else (Ok Pending, waiting after ids (blocking.Skip input len)))
       none_skipped fs after r true e = (λ free. AsRead es fs (reply.Ok (number_fields 0)) after looks (skips fs (Ok []) after r free) (λ same. eqb-true len 0 e), f.gives (es ++ fs) (number_fields 0) after (0, refl) r.kept.1)
-      none_skipped fs after r false e = subst (λ (x : Machine). SkipRow (es ++ fs) (Ok Pending, waiting x ids (blocking.Skip input len))) (sym (same r.row.1.1)) (λ free. NoneCame es fs looks (subst (λ (x : Machine). Answered contexts m line (step.Call c (guest.Skip input len)) fs (reply.Ok (number_fields 0)) x) (same r.row.1.1) (skips fs (Ok []) after r free)) (λ none. eqb-false len 0 e none), f.pends (es ++ fs) (blocking.Skip input len) m refl)
+      none_skipped fs after r false e = subst (λ (x : Machine). SkipRow (es ++ fs) (Ok Pending, waiting x ids (blocking.Skip input len))) (sym (same r.row.1.1)) (λ free. NoneCame es fs looks (subst (λ (x : Machine). Answered contexts m line (step.Call c (guest.Stream (stream_call.Skip input len))) fs (reply.Ok (number_fields 0)) x) (same r.row.1.1) (skips fs (Ok []) after r free)) (λ none. eqb-false len 0 e none), f.pends (es ++ fs) (blocking.Skip input len) m refl)
         where
           same : Reads m line input len fs (bytes_fields []) after → after ≡ m
           same (inl k) = k.1

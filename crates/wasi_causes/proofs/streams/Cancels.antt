@@ -14,10 +14,10 @@ use Rattle.host_tcp.specs.TcpCancels.{cancel_bind_at, cancel_listen_at, listen_g
 use Rattle.host_udp.specs.UdpCancels.{cancel_create_at, cancel_drop_outgoing_at, cancel_udp_bind_at, cancel_udp_connect_at, is_datagram_on, other_than_datagram}
 use Rattle.wasi_jobs.specs.declared.job.HostJob.{HostJob}
 use Rattle.wasi_jobs.specs.declared.job.HostJob.TheVariants.{Datagram}
-use Rattle.wasi_records.specs.declared.tcp_listening.Listening.TheVariants as listening
-use Rattle.wasi_records.specs.declared.udp.OpenUdp.{OpenUdp}
-use Rattle.wasi_records.specs.declared.udp.UdpRecord.{UdpRecord}
-use Rattle.wasi_records.specs.declared.udp.UdpRecord.TheVariants as udp
+use Rattle.tcp_records.specs.declared.tcp_listening.Listening.TheVariants as listening
+use Rattle.udp_records.specs.declared.udp.OpenUdp.{OpenUdp}
+use Rattle.udp_records.specs.declared.udp.UdpRecord.{UdpRecord}
+use Rattle.udp_records.specs.declared.udp.UdpRecord.TheVariants as udp
 use Rattle.wasi_records.specs.Records.{tcp2_at, udp2_at, open_at}
 use Rattle.wasi_machine.specs.Machine.{cancelled_reply}
 use Rattle.wasi_steps.specs.declared.step.Step.TheVariants as step

@@ -8,9 +8,10 @@ use Rattle.wasi_causes.specs.P3Streams.{ReadGives, ReadIsPending, ReadMeets, Rea
 use Rattle.host_store.specs.Lines.{tcp_in}
 use Rattle.host_store.specs.Machine.{receive3_at, send3_at}
 use Rattle.host_store.specs.declared.kind.ConnectionEnd.{ConnectionEnd}
-use Rattle.wasi_records.specs.Ends.{half_of, receive_half, send_half}
-use Rattle.wasi_records.specs.Slots.{StreamEnd}
+use Rattle.tcp_records.specs.Ends.{half_of, receive_half, send_half}
+use Rattle.tcp_records.specs.Slots.{StreamEnd}
 use Rattle.wasi_steps.specs.declared.guest_call.GuestCall.TheVariants as guest
+use Rattle.wasi_steps.specs.declared.guest_call.P3TcpCall.TheVariants as p3_tcp_call
 use Rattle.wasi_steps.specs.declared.reply.Reply.TheVariants as reply
 use Rattle.wasi_steps.specs.declared.step.Step.TheVariants as step
 use Rattle.wasi_world.specs.declared.outcome.TrapKind.TheVariants as trap
@@ -59,7 +60,7 @@ module _ (contexts : List WasiSocketsCtx) (m : Machine) (line c handle : ℕ) (l
   read_its : (es : List Entry) (r : Reply) (e : ConnectionEnd) → receive3_at m handle ≡ Some e → ReadAnswers es r e → ReadAnswers es r end
   read_its es r e named k = let both : Some e ≡ Some end = sym named ∙ names in let same : e ≡ end = cc in subst (ReadAnswers es r) same k
 
-  pub read_answers : (es : List Entry) (r : Reply) (after : Machine) → Outcome contexts m line (step.Call c (guest.P3Read handle len)) es r after → ReadAnswers es r end
+  pub read_answers : (es : List Entry) (r : Reply) (after : Machine) → Outcome contexts m line (step.Call c (guest.P3Tcp (p3_tcp_call.Read handle len))) es r after → ReadAnswers es r end
   read_answers es (reply.Ok fields) after row =
       let k = row.1.1 in read_its es (reply.Ok fields) k.end k.names (as_given m receive_half k.end es fields (read_gave (own_of line) k.holds.its len es k.holds.holds.0 k.holds.holds.1) k.holds)
   read_answers es reply.Cancelled after row =
@@ -101,7 +102,7 @@ module _ (contexts : List WasiSocketsCtx) (m : Machine) (line c handle : ℕ) (b
   write_its : (es : List Entry) (r : Reply) (e : ConnectionEnd) → send3_at m handle ≡ Some e → WriteAnswers es r e → WriteAnswers es r end
   write_its es r e named k = let both : Some e ≡ Some end = sym named ∙ names in let same : e ≡ end = cc in subst (WriteAnswers es r) same k
 
-  pub write_answers : (es : List Entry) (r : Reply) (after : Machine) → Outcome contexts m line (step.Call c (guest.P3Write handle bytes)) es r after → WriteAnswers es r end
+  pub write_answers : (es : List Entry) (r : Reply) (after : Machine) → Outcome contexts m line (step.Call c (guest.P3Tcp (p3_tcp_call.Write handle bytes))) es r after → WriteAnswers es r end
   write_answers es (reply.Ok fields) after row =
       let k = row.1.1 in write_its es (reply.Ok fields) k.end k.names (as_given m send_half k.end es fields (write_gave (own_of line) k.holds.its bytes es k.holds.holds.0 k.holds.holds.1) k.holds)
   write_answers es reply.Cancelled after row =

@@ -23,13 +23,14 @@ use Rattle.wasi_machine.specs.Machine.{stream_result_reply}
 use Rattle.wasi_p3.specs.Lines.{in_base}
 use Rattle.wasi_p3.specs.Stops.{P3Stop}
 use Rattle.wasi_p3.specs.Streams as streams3
-use Rattle.wasi_records.specs.Ends.{ends_of, half_of, look_to_read, look_to_write, read_by_half, receive_half, send_half, some_told, write_by_half}
+use Rattle.tcp_records.specs.Ends.{ends_of, half_of, look_to_read, look_to_write, read_by_half, receive_half, send_half, some_told, write_by_half}
 use Rattle.wasi_records.specs.Records.{tcp2_at}
-use Rattle.wasi_records.specs.Slots.{StreamEnd}
-use Rattle.wasi_records.specs.Stops.{StopOf}
-use Rattle.wasi_records.specs.declared.slot.StreamResult.{StreamResult}
-use Rattle.wasi_records.specs.declared.slot.StreamResult.TheVariants.{Completed, Dropped}
+use Rattle.tcp_records.specs.Slots.{StreamEnd}
+use Rattle.record_common.specs.Stops.{StopOf}
+use Rattle.tcp_records.specs.declared.slot.StreamResult.{StreamResult}
+use Rattle.tcp_records.specs.declared.slot.StreamResult.TheVariants.{Completed, Dropped}
 use Rattle.wasi_steps.specs.declared.guest_call.GuestCall.TheVariants as guest
+use Rattle.wasi_steps.specs.declared.guest_call.P3TcpCall.TheVariants as p3_tcp_call
 use Rattle.wasi_steps.specs.declared.step.Step.TheVariants as step
 use Rattle.wasi_tcp.specs.Halves.{read_asks}
 use Rattle.wasi_world.specs.declared.call.Call.TheVariants as call
@@ -101,7 +102,7 @@ module _ (contexts : List WasiSocketsCtx) (m : Machine) (line c handle : ℕ) wh
 
   module _ (len : ℕ) where
     abbrev ReadSays : Rows (Result (Answer (StreamResult (List ℕ))) P3Stop × Machine)
-    ReadSays = Replied contexts m line (step.Call c (guest.P3Read handle len)) (stream_result_reply bytes_fields)
+    ReadSays = Replied contexts m line (step.Call c (guest.P3Tcp (p3_tcp_call.Read handle len))) (stream_result_reply bytes_fields)
 
     module _ (end : ConnectionEnd) (names : receive3_at m handle ≡ Some end) where
       abbrev ReadRow : Rows (Result (Answer (StreamResult (List ℕ))) BaseStop × Records)
@@ -158,7 +159,7 @@ module _ (contexts : List WasiSocketsCtx) (m : Machine) (line c handle : ℕ) wh
       read_by_socket None e = ends (read_over [] m.store (WasOver (ap (λ (x : Option ℕ). half_of receive_half (tcp_in m x)) e)))
       read_by_socket (Some socket) e = read_at_half socket e (half_of receive_half (tcp2_at m.store.records socket)) refl
 
-    pub p3_read : Meets (Says contexts m line (step.Call c (guest.P3Read handle len))) [] (bind (streams3.read reader true len handle m) (λ done. Give (stream_result_reply bytes_fields done.0, done.1)))
+    pub p3_read : Meets (Says contexts m line (step.Call c (guest.P3Tcp (p3_tcp_call.Read handle len)))) [] (bind (streams3.read reader true len handle m) (λ done. Give (stream_result_reply bytes_fields done.0, done.1)))
     p3_read =
         onto _ (finds (λ end. last (in_base (read_end reader true len end))) (receive3_at m handle) (λ none. (tt, (none, (refl, refl))))
         (λ end names. calls {Mid = ReadRow end names} _ (read_by_socket end names end.socket refl) (λ es stop store row. ends row) (λ es answer store row. ends row)))
@@ -170,7 +171,7 @@ module _ (contexts : List WasiSocketsCtx) (m : Machine) (line c handle : ℕ) wh
 
   module _ (bytes : List ℕ) where
     abbrev WriteSays : Rows (Result (Answer (StreamResult ℕ)) P3Stop × Machine)
-    WriteSays = Replied contexts m line (step.Call c (guest.P3Write handle bytes)) (stream_result_reply number_fields)
+    WriteSays = Replied contexts m line (step.Call c (guest.P3Tcp (p3_tcp_call.Write handle bytes))) (stream_result_reply number_fields)
 
     module _ (end : ConnectionEnd) (names : send3_at m handle ≡ Some end) where
       abbrev WriteRow : Rows (Result (Answer (StreamResult ℕ)) BaseStop × Records)
@@ -220,7 +221,7 @@ module _ (contexts : List WasiSocketsCtx) (m : Machine) (line c handle : ℕ) wh
       write_by_socket None e = ends (write_over [] m.store (WasOver (ap (λ (x : Option ℕ). half_of send_half (tcp_in m x)) e)))
       write_by_socket (Some socket) e = write_at_half socket e (half_of send_half (tcp2_at m.store.records socket)) refl bytes refl
 
-    pub p3_write : Meets (Says contexts m line (step.Call c (guest.P3Write handle bytes))) [] (bind (streams3.write writer true bytes handle m) (λ done. Give (stream_result_reply number_fields done.0, done.1)))
+    pub p3_write : Meets (Says contexts m line (step.Call c (guest.P3Tcp (p3_tcp_call.Write handle bytes)))) [] (bind (streams3.write writer true bytes handle m) (λ done. Give (stream_result_reply number_fields done.0, done.1)))
     p3_write =
         onto _ (finds (λ end. last (in_base (write_end writer true bytes end))) (send3_at m handle) (λ none. (tt, (none, (refl, refl))))
         (λ end names. calls {Mid = WriteRow end names} _ (write_by_socket end names end.socket refl) (λ es stop store row. ends row) (λ es answer store row. ends row)))

@@ -9,14 +9,15 @@ use Rattle.wasi_causes.specs.GivenUp.{shut_down, shutdown_entries}
 use Rattle.wasi_causes.specs.P3Streams.{ClosedGoes, ClosesEnd, EndGoes, OpenGoes, ReadEndGoes, WriteEndGoes, closing, receive_side, send_side, shut, without_half}
 use Rattle.host_tcp.specs.ConnectionEnds.{close_end, drop_end, end_goes, fill, fill_in, let_go, open_by, open_in, shut_at}
 use Rattle.host_tcp.specs.Dropping.{left_so, let_go_at}
-use Rattle.wasi_records.specs.Ends.{ends_of, half_of, has_half, receive_half, receive_in, send_half, send_in, shut_half}
-use Rattle.wasi_records.specs.Holding.{is_held, is_reading, is_writing, let_go_asks, let_go_by}
+use Rattle.tcp_records.specs.Ends.{ends_of, half_of, has_half, receive_half, receive_in, send_half, send_in, shut_half}
+use Rattle.tcp_records.specs.Holding.{is_held, is_reading, is_writing, let_go_asks, let_go_by}
 use Rattle.wasi_records.specs.Records.{tcp2_at, tcp2_put}
-use Rattle.wasi_records.specs.Shutdowns.{with_streams}
-use Rattle.wasi_records.specs.Slots.{StreamEnd, filled, slot_at}
-use Rattle.wasi_records.specs.declared.slot.Slot.TheVariants.{Filled, Unfilled}
+use Rattle.tcp_records.specs.Shutdowns.{with_streams}
+use Rattle.tcp_records.specs.Slots.{StreamEnd, filled}
+use Rattle.wasi_records.specs.Records.{slot_at}
+use Rattle.tcp_records.specs.declared.slot.Slot.TheVariants.{Filled, Unfilled}
 use Rattle.wasi_records.specs.declared.records.Record.{Record}
-use Rattle.wasi_records.specs.declared.slot.Slot.{Slot}
+use Rattle.tcp_records.specs.declared.slot.Slot.{Slot}
 use Rattle.wasi_walks.proofs.PipeLists.{slot_put_same}
 use Rattle.wasi_causes.proofs.Words.{inl, inr}
 use Rattle.wasi_walks.proofs.Places.{other_put, put_finds, put_stays, slot_sort, tcp_sort}

@@ -26,6 +26,7 @@ use Rattle.wasi_steps.specs.declared.reply.CodeWord.{CodeWord}
 use Rattle.wasi_steps.specs.declared.reply.Field.{Field}
 use Rattle.wasi_steps.specs.declared.reply.Reply.TheVariants as reply
 use Rattle.wasi_steps.specs.declared.guest_call.GuestCall.TheVariants as guest
+use Rattle.wasi_steps.specs.declared.guest_call.StreamCall.TheVariants as stream_call
 use Rattle.wasi_steps.specs.declared.step.Step.TheVariants as step
 use Rattle.wasi_steps.specs.Reply.{no_values}
 use Rattle.wasi_machine.specs.Machine.{stream_reply_of}
@@ -162,41 +163,41 @@ module _ (contexts : List WasiSocketsCtx) (m : Machine) (line handle : ℕ) wher
   says fields number es (Err (calls.Traps kind), after) k = tt
 
   read_so : (ctx len : ℕ) (o : Option Standing)
-      → Meets (SaysRow (input_at m handle)) [] (asks_while contexts m line (step.Call ctx (guest.Read handle len)) o)
+      → Meets (SaysRow (input_at m handle)) [] (asks_while contexts m line (step.Call ctx (guest.Stream (stream_call.Read handle len))) o)
   read_so ctx len (Some s) = ends tt
   read_so ctx len None = onto _ (widen (says bytes_fields _) (reads_mark m (own_of line) handle len (plain_input_at m handle)))
 
   check_so : (ctx : ℕ) (o : Option Standing)
-      → Meets (SaysRow (output_at m handle)) [] (asks_while contexts m line (step.Call ctx (guest.CheckWrite handle)) o)
+      → Meets (SaysRow (output_at m handle)) [] (asks_while contexts m line (step.Call ctx (guest.Stream (stream_call.CheckWrite handle))) o)
   check_so ctx (Some s) = ends tt
   check_so ctx None = onto _ (widen (says number_fields _) (checks_mark m (own_of line) handle (plain_output_at m handle)))
 
   write_so : (ctx : ℕ) (bytes : List ℕ) (o : Option Standing)
-      → Meets (SaysRow (output_at m handle)) [] (asks_while contexts m line (step.Call ctx (guest.Write handle bytes)) o)
+      → Meets (SaysRow (output_at m handle)) [] (asks_while contexts m line (step.Call ctx (guest.Stream (stream_call.Write handle bytes))) o)
   write_so ctx bytes (Some s) = ends tt
   write_so ctx bytes None = onto _ (widen (says no_values _) (writes_mark m (own_of line) handle bytes (plain_output_at m handle)))
 
   flush_so : (ctx : ℕ) (o : Option Standing)
-      → Meets (SaysRow (output_at m handle)) [] (asks_while contexts m line (step.Call ctx (guest.Flush handle)) o)
+      → Meets (SaysRow (output_at m handle)) [] (asks_while contexts m line (step.Call ctx (guest.Stream (stream_call.Flush handle))) o)
   flush_so ctx (Some s) = ends tt
   flush_so ctx None = onto _ (widen (says no_values _) (flushes_mark m (own_of line) handle (plain_output_at m handle)))
 
   module _ (entries : List Entry) (word : CodeWord) (e : ℕ) (after : Machine) where
     pub failed_read : (ctx len : ℕ)
-        → Answered contexts m line (step.Call ctx (guest.Read handle len)) entries (reply.Failed word e) after
+        → Answered contexts m line (step.Call ctx (guest.Stream (stream_call.Read handle len))) entries (reply.Failed word e) after
         → MarksItsSocket m (own_of line) handle (input_at m handle) entries
     failed_read ctx len w = met (read_so ctx len m.store.standing) w
 
     pub failed_check : (ctx : ℕ)
-        → Answered contexts m line (step.Call ctx (guest.CheckWrite handle)) entries (reply.Failed word e) after
+        → Answered contexts m line (step.Call ctx (guest.Stream (stream_call.CheckWrite handle))) entries (reply.Failed word e) after
         → MarksItsSocket m (own_of line) handle (output_at m handle) entries
     failed_check ctx w = met (check_so ctx m.store.standing) w
 
     pub failed_write : (ctx : ℕ) (bytes : List ℕ)
-        → Answered contexts m line (step.Call ctx (guest.Write handle bytes)) entries (reply.Failed word e) after
+        → Answered contexts m line (step.Call ctx (guest.Stream (stream_call.Write handle bytes))) entries (reply.Failed word e) after
         → MarksItsSocket m (own_of line) handle (output_at m handle) entries
     failed_write ctx bytes w = met (write_so ctx bytes m.store.standing) w
 
-    pub failed_flush : (ctx : ℕ) → Answered contexts m line (step.Call ctx (guest.Flush handle)) entries (reply.Failed word e) after
+    pub failed_flush : (ctx : ℕ) → Answered contexts m line (step.Call ctx (guest.Stream (stream_call.Flush handle))) entries (reply.Failed word e) after
         → MarksItsSocket m (own_of line) handle (output_at m handle) entries
     failed_flush ctx w = met (flush_so ctx m.store.standing) w

@@ -1,6 +1,7 @@
 -- All that is known of a part of a call: what it was answered as a step of its own, its row in the table, and what it keeps.
 use Rattle.wasi_causes.proofs.Words.{◌≢◌, ℕ, List, [], refl, inl, inr, CallStop, Entry, Full, Give, Left, Machine, NoSuchHandle, Result, TrapKind, WasiSocketsCtx, bytes_reply, check_asks, flushed_asks, own_of, permit_reply, read_asks, taken_reply, write_asks, NotPermitted}
 use Rattle.wasi_steps.specs.declared.guest_call.GuestCall.TheVariants as guest
+use Rattle.wasi_steps.specs.declared.guest_call.StreamCall.TheVariants as stream_call
 use Rattle.wasi_steps.specs.declared.step.Step.TheVariants as step
 use Rattle.wasi_world.specs.declared.outcome.TrapKind.TheVariants as trap
 use Rattle.wasi_causes.proofs.streams.Composed.{HandsOn}
@@ -15,7 +16,7 @@ use Rattle.wasi_causes.specs.Outcomes.{Traps}
 module _ (contexts : List WasiSocketsCtx) (line c : ℕ) where
   pub record CheckFacts (m : Machine) (output : ℕ) (es : List Entry) (done : Result ℕ CallStop × Machine) : Type 0 where
     pub did : Left (check_asks m (own_of line) output) es (Give done)
-    pub row : Replied contexts m line (step.Call c (guest.CheckWrite output)) permit_reply es done
+    pub row : Replied contexts m line (step.Call c (guest.Stream (stream_call.CheckWrite output))) permit_reply es done
     pub kept : Kept m es done
     pub permits : Permitting m output es done
 
@@ -24,19 +25,19 @@ module _ (contexts : List WasiSocketsCtx) (line c : ℕ) where
 
   pub record ReadFacts (m : Machine) (input len : ℕ) (es : List Entry) (done : Result (List ℕ) CallStop × Machine) : Type 0 where
     pub did : Left (read_asks m (own_of line) input len) es (Give done)
-    pub row : Replied contexts m line (step.Call c (guest.Read input len)) bytes_reply es done
+    pub row : Replied contexts m line (step.Call c (guest.Stream (stream_call.Read input len))) bytes_reply es done
     pub kept : Kept m es done
     pub short : Short m (own_of line) input len es done
     pub writers : Writable m es done
 
   pub record WriteFacts (m : Machine) (output : ℕ) (bytes : List ℕ) (es : List Entry) (done : Result (Unit {0}) CallStop × Machine) : Type 0 where
     pub did : Left (write_asks m (own_of line) output bytes) es (Give done)
-    pub row : Replied contexts m line (step.Call c (guest.Write output bytes)) taken_reply es done
+    pub row : Replied contexts m line (step.Call c (guest.Stream (stream_call.Write output bytes))) taken_reply es done
     pub kept : Kept m es done
 
   pub record FlushFacts (m : Machine) (output : ℕ) (es : List Entry) (done : Result (Unit {0}) CallStop × Machine) : Type 0 where
     pub did : Left (flushed_asks m (own_of line) output) es (Give done)
-    pub row : Replied contexts m line (step.Call c (guest.Flush output)) taken_reply es done
+    pub row : Replied contexts m line (step.Call c (guest.Stream (stream_call.Flush output))) taken_reply es done
     pub kept : Kept m es done
 
   pub read_facts : (m : Machine) (input len : ℕ) → Meets (ReadFacts m input len) [] (read_asks m (own_of line) input len)
@@ -50,7 +51,7 @@ module _ (contexts : List WasiSocketsCtx) (line c : ℕ) where
 
   -- == the traps of each part
   module _ (m : Machine) (h : ℕ) (es : List Entry) (after : Machine) where
-    pub check_traps : (kind : TrapKind) → Traps contexts m line (step.Call c (guest.CheckWrite h)) es kind after → HandsOn kind
+    pub check_traps : (kind : TrapKind) → Traps contexts m line (step.Call c (guest.Stream (stream_call.CheckWrite h))) es kind after → HandsOn kind
     check_traps trap.NoSuchHandle k = inl refl
     check_traps trap.Full k = inr refl
     check_traps trap.NotPermitted k = elim k.0 [ inl w ↦ absurd w | inr s ↦ absurd s ]
@@ -61,7 +62,7 @@ module _ (contexts : List WasiSocketsCtx) (line c : ℕ) where
     check_traps trap.EmptyList k = absurd k.0
     check_traps _ k = absurd k
 
-    pub flush_traps : (kind : TrapKind) → Traps contexts m line (step.Call c (guest.Flush h)) es kind after → HandsOn kind
+    pub flush_traps : (kind : TrapKind) → Traps contexts m line (step.Call c (guest.Stream (stream_call.Flush h))) es kind after → HandsOn kind
     flush_traps trap.NoSuchHandle k = inl refl
     flush_traps trap.Full k = inr refl
     flush_traps trap.NotPermitted k = elim k.0 [ inl w ↦ absurd w | inr s ↦ absurd s ]
@@ -72,7 +73,7 @@ module _ (contexts : List WasiSocketsCtx) (line c : ℕ) where
     flush_traps trap.EmptyList k = absurd k.0
     flush_traps _ k = absurd k
 
-    pub read_traps : (len : ℕ) (kind : TrapKind) → Traps contexts m line (step.Call c (guest.Read h len)) es kind after → HandsOn kind
+    pub read_traps : (len : ℕ) (kind : TrapKind) → Traps contexts m line (step.Call c (guest.Stream (stream_call.Read h len))) es kind after → HandsOn kind
     read_traps len trap.NoSuchHandle k = inl refl
     read_traps len trap.Full k = inr refl
     read_traps len trap.NotPermitted k = elim k.0 [ inl w ↦ absurd w | inr s ↦ absurd s ]
@@ -84,7 +85,7 @@ module _ (contexts : List WasiSocketsCtx) (line c : ℕ) where
     read_traps len _ k = absurd k
 
     -- a write that is within what is permitted
-    pub write_traps : (bytes : List ℕ) (kind : TrapKind) → Traps contexts m line (step.Call c (guest.Write h bytes)) es kind after → kind ≢ NotPermitted → kind ≢ trap.Capacity → HandsOn kind
+    pub write_traps : (bytes : List ℕ) (kind : TrapKind) → Traps contexts m line (step.Call c (guest.Stream (stream_call.Write h bytes))) es kind after → kind ≢ NotPermitted → kind ≢ trap.Capacity → HandsOn kind
     write_traps bytes trap.NoSuchHandle k permitted fits = inl refl
     write_traps bytes trap.Full k permitted fits = inr refl
     write_traps bytes trap.NotPermitted k permitted fits = absurd (permitted refl)

@@ -35,6 +35,7 @@ use Rattle.wasi_causes.proofs.tables.Routes.{Replied, Says, full_so, code_word, 
 use Rattle.wasi_causes.specs.GivenUp.{LooksOnce, NoLook, OneLook}
 use Rattle.wasi_walks.specs.Answered.{ToldToWait, GoesOn, IsReady}
 use Rattle.wasi_steps.specs.declared.guest_call.GuestCall.TheVariants as guest
+use Rattle.wasi_steps.specs.declared.guest_call.StreamCall.TheVariants as stream_call
 use Rattle.wasi_steps.specs.declared.step.Step.TheVariants as step
 use Rattle.wasi_streams.specs.StreamStop.{Failed, Closed, Trap}
 use Rattle.wasi_streams.specs.StreamStop as stop
@@ -161,7 +162,7 @@ module _ (contexts : List WasiSocketsCtx) (m : Machine) (line c input len : ℕ)
     same_reading : (now : ReadState) → now ≡ s.reader → left_reading now ≡ m
     same_reading now e = ap left_reading e ∙ streams_same n
 
-    told_as : (es : List Entry) (done : Result (List ℕ) StreamStop × ReadState) → ReadRow (own_of line) len s.reader es done → TellsStream m (own_of line) input (Replied contexts m line (step.Call c (guest.Read input len)) bytes_reply) es done.0 (with_socket m.store place (with_reader r s done.1))
+    told_as : (es : List Entry) (done : Result (List ℕ) StreamStop × ReadState) → ReadRow (own_of line) len s.reader es done → TellsStream m (own_of line) input (Replied contexts m line (step.Call c (guest.Stream (stream_call.Read input len))) bytes_reply) es done.0 (with_socket m.store place (with_reader r s done.1))
     told_as es (Ok [], now) h = (not_plain connected es _, ((tt, tt), inl (of_streams n h.0, same_reading now h.1)))
     told_as es (Ok (b ∷ bytes), now) h = (not_plain connected es _, ((tt, tt), inl (of_streams n h.0, same_reading now h.1)))
     told_as es (Err Closed, now) h = (not_plain connected es _, (tt, inl (of_streams n (h.0, ap left_reading h.1))))
@@ -171,16 +172,16 @@ module _ (contexts : List WasiSocketsCtx) (m : Machine) (line c input len : ℕ)
     )
     told_as es (Err (Trap kind), now) h = absurd h
 
-  by_input : (o : Option PlainInput) → plain_input_at m input ≡ o → Meets (Replied contexts m line (step.Call c (guest.Read input len)) bytes_reply) [] (read_by m (own_of line) input len o)
+  by_input : (o : Option PlainInput) → plain_input_at m input ≡ o → Meets (Replied contexts m line (step.Call c (guest.Stream (stream_call.Read input len))) bytes_reply) [] (read_by m (own_of line) input len o)
   by_input (Some plain) is = ends (plain_reads contexts m line c input len plain is)
   by_input None connected =
-      on_stream m (own_of line) input (Replied contexts m line (step.Call c (guest.Read input len)) bytes_reply) (λ s. s.reader) with_reader (input_at m input) (λ none. (not_plain connected [] _, ((none, rw connected tt), (refl, refl)))) (λ r reader. read_state_asks (own_of line) reader len) (λ r o. reader_of r (λ reader. read_state_asks (own_of line) reader len) o) (λ r. refl) (λ r s. refl)
+      on_stream m (own_of line) input (Replied contexts m line (step.Call c (guest.Stream (stream_call.Read input len))) bytes_reply) (λ s. s.reader) with_reader (input_at m input) (λ none. (not_plain connected [] _, ((none, rw connected tt), (refl, refl)))) (λ r reader. read_state_asks (own_of line) reader len) (λ r o. reader_of r (λ reader. read_state_asks (own_of line) reader len) o) (λ r. refl) (λ r s. refl)
       (λ place r s n. widen (told_as connected place r s n) (reads (own_of line) len s.reader)) (input_at m input) refl
 
-  pub read_rows : Meets (Replied contexts m line (step.Call c (guest.Read input len)) bytes_reply) [] (read_asks m (own_of line) input len)
+  pub read_rows : Meets (Replied contexts m line (step.Call c (guest.Stream (stream_call.Read input len))) bytes_reply) [] (read_asks m (own_of line) input len)
   read_rows = by_input (plain_input_at m input) refl
 
-  pub read : Meets (Says contexts m line (step.Call c (guest.Read input len))) [] (bind (read_asks m (own_of line) input len) (λ done. Give (bytes_reply done.0, done.1)))
+  pub read : Meets (Says contexts m line (step.Call c (guest.Stream (stream_call.Read input len)))) [] (bind (read_asks m (own_of line) input len) (λ done. Give (bytes_reply done.0, done.1)))
   read = onto _ read_rows
 
 module _ (own : OpId) (most : ℕ) where
@@ -344,7 +345,7 @@ module _ (contexts : List WasiSocketsCtx) (m : Machine) (line c output : ℕ) wh
 
   -- == a look at what may be written
   check_so : (connected : plain_output_at m output ≡ None) (place : ℕ) (r : TcpRecord) (s : Streams) → HasStreams m (output_at m output) place r s → (es : List Entry) (done : Result ℕ StreamStop × WriteState) → CheckRow own (most_of m.store r) s.writer es done
-      → TellsStream m own output (Replied contexts m line (step.Call c (guest.CheckWrite output)) permit_reply) es done.0 (with_socket m.store place (with_writer r s done.1))
+      → TellsStream m own output (Replied contexts m line (step.Call c (guest.Stream (stream_call.CheckWrite output))) permit_reply) es done.0 (with_socket m.store place (with_writer r s done.1))
   check_so connected place r s n es (Ok k, now) h = (no_plain_check connected es _ _, ((tt, tt), inl (of_streams n h)))
   check_so connected place r s n es (Err stop.Closed, now) h = (no_plain_check connected es _ _, (tt, inl (of_streams n (h.0, ap (left place r s n) h.1))))
   check_so connected place r s n es (Err (stop.Failed code), now) h = (
@@ -353,16 +354,16 @@ module _ (contexts : List WasiSocketsCtx) (m : Machine) (line c output : ℕ) wh
   )
   check_so connected place r s n es (Err (stop.Trap kind), now) h = absurd h
 
-  check_by_output : (o : Option PlainOutput) → plain_output_at m output ≡ o → Meets (Replied contexts m line (step.Call c (guest.CheckWrite output)) permit_reply) [] (check_by m own output o)
+  check_by_output : (o : Option PlainOutput) → plain_output_at m output ≡ o → Meets (Replied contexts m line (step.Call c (guest.Stream (stream_call.CheckWrite output))) permit_reply) [] (check_by m own output o)
   check_by_output (Some plain) is = ends (plain_checks contexts m line c output plain is)
   check_by_output None connected =
-      on_stream m own output (Replied contexts m line (step.Call c (guest.CheckWrite output)) permit_reply) (λ s. s.writer) with_writer (output_at m output) (λ none. (no_plain_check connected [] _ _, ((none, rw connected tt), (refl, refl)))) (λ r. check_write_asks (most_of m.store r) own) (λ r o. writer_of r (check_write_asks (most_of m.store r) own) o) (λ r. refl) (λ r s. refl)
+      on_stream m own output (Replied contexts m line (step.Call c (guest.Stream (stream_call.CheckWrite output))) permit_reply) (λ s. s.writer) with_writer (output_at m output) (λ none. (no_plain_check connected [] _ _, ((none, rw connected tt), (refl, refl)))) (λ r. check_write_asks (most_of m.store r) own) (λ r o. writer_of r (check_write_asks (most_of m.store r) own) o) (λ r. refl) (λ r s. refl)
       (λ place r s n. widen (check_so connected place r s n) (checks own (most_of m.store r) s.writer)) (output_at m output) refl
 
-  pub check_rows : Meets (Replied contexts m line (step.Call c (guest.CheckWrite output)) permit_reply) [] (check_asks m own output)
+  pub check_rows : Meets (Replied contexts m line (step.Call c (guest.Stream (stream_call.CheckWrite output))) permit_reply) [] (check_asks m own output)
   check_rows = check_by_output (plain_output_at m output) refl
 
-  pub check_write : Meets (Says contexts m line (step.Call c (guest.CheckWrite output))) [] (bind (check_asks m own output) (λ done. Give (permit_reply done.0, done.1)))
+  pub check_write : Meets (Says contexts m line (step.Call c (guest.Stream (stream_call.CheckWrite output)))) [] (bind (check_asks m own output) (λ done. Give (permit_reply done.0, done.1)))
   check_write = onto _ check_rows
 
   -- == a write
@@ -393,10 +394,10 @@ module _ (contexts : List WasiSocketsCtx) (m : Machine) (line c output : ℕ) wh
       was_permitted may u = let k : IsUnpermitted s.writer (length bytes) = rw (the_streams n) at u in may k
 
       -- what comes of its permit, and of no pipe
-      always_so : (es : List Entry) (said : Reply) → said ≢ reply.Trap Capacity → (said ≡ reply.Trap NotPermitted) ↔ IsSomeAnd (output_streams m output) (λ s. IsUnpermitted s.writer (length bytes)) → Always contexts m line (step.Call c (guest.Write output bytes)) es said m
+      always_so : (es : List Entry) (said : Reply) → said ≢ reply.Trap Capacity → (said ≡ reply.Trap NotPermitted) ↔ IsSomeAnd (output_streams m output) (λ s. IsUnpermitted s.writer (length bytes)) → Always contexts m line (step.Call c (guest.Stream (stream_call.Write output bytes))) es said m
       always_so es said other permit = (permit, no_capacity connected (length bytes) said other, no_plain_write connected es said)
 
-      write_so : (es : List Entry) (done : Result (Unit {0}) StreamStop × WriteState) → WriteRow own (length bytes) s.writer es done → TellsStream m own output (Replied contexts m line (step.Call c (guest.Write output bytes)) taken_reply) es done.0 (job_noted place (Some r) (with_socket m.store place (with_writer r s done.1)))
+      write_so : (es : List Entry) (done : Result (Unit {0}) StreamStop × WriteState) → WriteRow own (length bytes) s.writer es done → TellsStream m own output (Replied contexts m line (step.Call c (guest.Stream (stream_call.Write output bytes))) taken_reply) es done.0 (job_noted place (Some r) (with_socket m.store place (with_writer r s done.1)))
       write_so es (Ok done, now) h = (always_so es _ (λ e. cc) (apart (λ e. cc) (was_permitted h.0)), (tt, rw connected tt))
       write_so es (Err stop.Closed, now) h = (always_so es _ (λ e. cc) (apart (λ e. cc) (was_permitted h.0)), (tt, inl (of_streams n (h.2, written_closed now error.Closed h.3))))
       write_so es (Err (stop.Failed code), now) h = (
@@ -409,21 +410,21 @@ module _ (contexts : List WasiSocketsCtx) (m : Machine) (line c output : ℕ) wh
     none_there : output_streams m output ≡ None → IsSomeAnd (output_streams m output) (λ s. IsUnpermitted s.writer (length bytes)) → ⊥
     none_there none = none_has _ (output_streams m output) none
 
-    write_by_output : (o : Option PlainOutput) → plain_output_at m output ≡ o → Meets (Replied contexts m line (step.Call c (guest.Write output bytes)) taken_reply) [] (write_by m own output bytes o)
+    write_by_output : (o : Option PlainOutput) → plain_output_at m output ≡ o → Meets (Replied contexts m line (step.Call c (guest.Stream (stream_call.Write output bytes))) taken_reply) [] (write_by m own output bytes o)
     write_by_output (Some plain) is = ends (plain_writes contexts m line c output bytes plain is)
     write_by_output None connected =
-        on_write m own output (Replied contexts m line (step.Call c (guest.Write output bytes)) taken_reply) (λ s. s.writer) with_writer (output_at m output) (λ none. ((apart (λ e. cc) (none_there none), no_capacity connected (length bytes) _ (λ e. cc), no_plain_write connected [] _), ((none, rw connected tt), (refl, refl)))) (λ r w. write_state_asks own w bytes) (λ r o. writer_of r (λ w. write_state_asks own w bytes) o) (λ r. refl) (λ r s. refl)
+        on_write m own output (Replied contexts m line (step.Call c (guest.Stream (stream_call.Write output bytes))) taken_reply) (λ s. s.writer) with_writer (output_at m output) (λ none. ((apart (λ e. cc) (none_there none), no_capacity connected (length bytes) _ (λ e. cc), no_plain_write connected [] _), ((none, rw connected tt), (refl, refl)))) (λ r w. write_state_asks own w bytes) (λ r o. writer_of r (λ w. write_state_asks own w bytes) o) (λ r. refl) (λ r s. refl)
         (λ place r s n. widen (write_so connected place r s n) (writes own bytes s.writer)) (output_at m output) refl
 
-    pub write_rows : Meets (Replied contexts m line (step.Call c (guest.Write output bytes)) taken_reply) [] (write_asks m own output bytes)
+    pub write_rows : Meets (Replied contexts m line (step.Call c (guest.Stream (stream_call.Write output bytes))) taken_reply) [] (write_asks m own output bytes)
     write_rows = write_by_output (plain_output_at m output) refl
 
-    pub write : Meets (Says contexts m line (step.Call c (guest.Write output bytes))) [] (bind (write_asks m own output bytes) (λ done. Give (taken_reply done.0, done.1)))
+    pub write : Meets (Says contexts m line (step.Call c (guest.Stream (stream_call.Write output bytes)))) [] (bind (write_asks m own output bytes) (λ done. Give (taken_reply done.0, done.1)))
     write = onto _ write_rows
 
   -- == a flush
   flush_so : (connected : plain_output_at m output ≡ None) (place : ℕ) (r : TcpRecord) (s : Streams) → HasStreams m (output_at m output) place r s → (es : List Entry) (done : Result (Unit {0}) StreamStop × WriteState) → FlushRow s.writer es done
-      → TellsStream m own output (Replied contexts m line (step.Call c (guest.Flush output)) taken_reply) es done.0 (with_socket m.store place (with_writer r s done.1))
+      → TellsStream m own output (Replied contexts m line (step.Call c (guest.Stream (stream_call.Flush output))) taken_reply) es done.0 (with_socket m.store place (with_writer r s done.1))
   flush_so connected place r s n es (Ok done, now) h = (no_plain_flush connected es _ _, (tt, (h.0, same place r s n now h.1)))
   flush_so connected place r s n es (Err stop.Closed, now) h = (no_plain_flush connected es _ _, (tt, inl (of_streams n h.2, (h.0, same place r s n now h.1))))
   flush_so connected place r s n es (Err (stop.Failed code), now) h = (
@@ -432,14 +433,14 @@ module _ (contexts : List WasiSocketsCtx) (m : Machine) (line c output : ℕ) wh
   )
   flush_so connected place r s n es (Err (stop.Trap kind), now) h = absurd h
 
-  flush_by_output : (o : Option PlainOutput) → plain_output_at m output ≡ o → Meets (Replied contexts m line (step.Call c (guest.Flush output)) taken_reply) [] (flush_by m own output o)
+  flush_by_output : (o : Option PlainOutput) → plain_output_at m output ≡ o → Meets (Replied contexts m line (step.Call c (guest.Stream (stream_call.Flush output))) taken_reply) [] (flush_by m own output o)
   flush_by_output (Some plain) is = ends (plain_flushes contexts m line c output plain is)
   flush_by_output None connected =
-      on_stream m own output (Replied contexts m line (step.Call c (guest.Flush output)) taken_reply) (λ s. s.writer) with_writer (output_at m output) (λ none. (no_plain_flush connected [] _ _, ((none, rw connected tt), (refl, refl)))) (λ r. flush_asks) (λ r o. writer_of r flush_asks o) (λ r. refl) (λ r s. refl)
+      on_stream m own output (Replied contexts m line (step.Call c (guest.Stream (stream_call.Flush output))) taken_reply) (λ s. s.writer) with_writer (output_at m output) (λ none. (no_plain_flush connected [] _ _, ((none, rw connected tt), (refl, refl)))) (λ r. flush_asks) (λ r o. writer_of r flush_asks o) (λ r. refl) (λ r s. refl)
       (λ place r s n. widen (flush_so connected place r s n) (flushes s.writer)) (output_at m output) refl
 
-  pub flush_rows : Meets (Replied contexts m line (step.Call c (guest.Flush output)) taken_reply) [] (flushed_asks m own output)
+  pub flush_rows : Meets (Replied contexts m line (step.Call c (guest.Stream (stream_call.Flush output))) taken_reply) [] (flushed_asks m own output)
   flush_rows = flush_by_output (plain_output_at m output) refl
 
-  pub flush : Meets (Says contexts m line (step.Call c (guest.Flush output))) [] (bind (flushed_asks m own output) (λ done. Give (taken_reply done.0, done.1)))
+  pub flush : Meets (Says contexts m line (step.Call c (guest.Stream (stream_call.Flush output)))) [] (bind (flushed_asks m own output) (λ done. Give (taken_reply done.0, done.1)))
   flush = onto _ flush_rows

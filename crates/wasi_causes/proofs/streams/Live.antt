@@ -11,11 +11,12 @@ use Rattle.wasi_steps.specs.declared.reply.Field.{Field}
 use Rattle.wasi_steps.specs.declared.reply.Field.TheVariants as field
 use Rattle.wasi_steps.specs.declared.reply.Reply.TheVariants as reply
 use Rattle.wasi_steps.specs.declared.guest_call.GuestCall.TheVariants as guest
+use Rattle.wasi_steps.specs.declared.guest_call.StreamCall.TheVariants as stream_call
 use Rattle.wasi_steps.specs.declared.step.Step.TheVariants as step
 use Rattle.wasi_steps.specs.Reply.{no_values}
 use Rattle.wasi_walks.specs.Missing.{MissesEither, MissesInput, MissesInputPipe, MissesOutput}
 use Rattle.wasi_host.specs.declared.polling.Look.TheVariants.{Later}
-use Rattle.wasi_records.specs.Names.{first_ids}
+use Rattle.record_common.specs.Names.{first_ids}
 use Rattle.wasi_causes.proofs.pollables.Live.{block_live, list_live}
 use Rattle.wasi_causes.proofs.streams.Kept.{Keeps, Kept, checks_keep, flushes_keep, reads_keep, writes_keep}
 use Rattle.wasi_causes.proofs.streams.Missing.{missed_input, missed_output, output_is_there}
@@ -64,41 +65,41 @@ module _ (contexts : List WasiSocketsCtx) where
     part_kept line s t es r after w = met {a = (r, after)} t (subst (λ (o : Option Standing). Left (asks_while contexts m line s o) es (Give (r, after))) free w)
 
     module _ (line c : ℕ) (es : List Entry) (r : Reply) (after : Machine) where
-      read_kept : (input len : ℕ) → Answered contexts m line (step.Call c (guest.Read input len)) es r after → KeptBy m r after
-      read_kept input len = part_kept line (step.Call c (guest.Read input len)) (onto _ (widen (λ es done k. kept_reply m bytes_fields es done.0 done.1 k) (reads_keep m (own_of line) input len))) es r after
+      read_kept : (input len : ℕ) → Answered contexts m line (step.Call c (guest.Stream (stream_call.Read input len))) es r after → KeptBy m r after
+      read_kept input len = part_kept line (step.Call c (guest.Stream (stream_call.Read input len))) (onto _ (widen (λ es done k. kept_reply m bytes_fields es done.0 done.1 k) (reads_keep m (own_of line) input len))) es r after
 
-      check_kept : (output : ℕ) → Answered contexts m line (step.Call c (guest.CheckWrite output)) es r after → KeptBy m r after
-      check_kept output = part_kept line (step.Call c (guest.CheckWrite output)) (onto _ (widen (λ es done k. kept_reply m number_fields es done.0 done.1 k) (checks_keep m (own_of line) output))) es r after
+      check_kept : (output : ℕ) → Answered contexts m line (step.Call c (guest.Stream (stream_call.CheckWrite output))) es r after → KeptBy m r after
+      check_kept output = part_kept line (step.Call c (guest.Stream (stream_call.CheckWrite output))) (onto _ (widen (λ es done k. kept_reply m number_fields es done.0 done.1 k) (checks_keep m (own_of line) output))) es r after
 
-      write_kept : (output : ℕ) (bytes : List ℕ) → Answered contexts m line (step.Call c (guest.Write output bytes)) es r after → KeptBy m r after
-      write_kept output bytes = part_kept line (step.Call c (guest.Write output bytes)) (onto _ (widen (λ es done k. kept_reply m no_values es done.0 done.1 k) (writes_keep m (own_of line) output bytes))) es r after
+      write_kept : (output : ℕ) (bytes : List ℕ) → Answered contexts m line (step.Call c (guest.Stream (stream_call.Write output bytes))) es r after → KeptBy m r after
+      write_kept output bytes = part_kept line (step.Call c (guest.Stream (stream_call.Write output bytes))) (onto _ (widen (λ es done k. kept_reply m no_values es done.0 done.1 k) (writes_keep m (own_of line) output bytes))) es r after
 
-      flush_kept : (output : ℕ) → Answered contexts m line (step.Call c (guest.Flush output)) es r after → KeptBy m r after
-      flush_kept output = part_kept line (step.Call c (guest.Flush output)) (onto _ (widen (λ es done k. kept_reply m no_values es done.0 done.1 k) (flushes_keep m (own_of line) output))) es r after
+      flush_kept : (output : ℕ) → Answered contexts m line (step.Call c (guest.Stream (stream_call.Flush output))) es r after → KeptBy m r after
+      flush_kept output = part_kept line (step.Call c (guest.Stream (stream_call.Flush output))) (onto _ (widen (λ es done k. kept_reply m no_values es done.0 done.1 k) (flushes_keep m (own_of line) output))) es r after
 
       -- nothing is pending then
-      pub read_free : (input len : ℕ) → Answered contexts m line (step.Call c (guest.Read input len)) es r after → after.store.standing ≡ None
+      pub read_free : (input len : ℕ) → Answered contexts m line (step.Call c (guest.Stream (stream_call.Read input len))) es r after → after.store.standing ≡ None
       read_free input len w = (keeps_by m r after (read_kept input len w)).standing ∙ free
 
-      pub check_free : (output : ℕ) → Answered contexts m line (step.Call c (guest.CheckWrite output)) es r after → after.store.standing ≡ None
+      pub check_free : (output : ℕ) → Answered contexts m line (step.Call c (guest.Stream (stream_call.CheckWrite output))) es r after → after.store.standing ≡ None
       check_free output w = (keeps_by m r after (check_kept output w)).standing ∙ free
 
-      pub write_free : (output : ℕ) (bytes : List ℕ) → Answered contexts m line (step.Call c (guest.Write output bytes)) es r after → after.store.standing ≡ None
+      pub write_free : (output : ℕ) (bytes : List ℕ) → Answered contexts m line (step.Call c (guest.Stream (stream_call.Write output bytes))) es r after → after.store.standing ≡ None
       write_free output bytes w = (keeps_by m r after (write_kept output bytes w)).standing ∙ free
 
-      pub flush_free : (output : ℕ) → Answered contexts m line (step.Call c (guest.Flush output)) es r after → after.store.standing ≡ None
+      pub flush_free : (output : ℕ) → Answered contexts m line (step.Call c (guest.Stream (stream_call.Flush output))) es r after → after.store.standing ≡ None
       flush_free output w = (keeps_by m r after (flush_kept output w)).standing ∙ free
 
     pub skip_free : (line c input len : ℕ) (es : List Entry) (r : Reply) (after : Machine) → Skips contexts m line c input len es r after → after.store.standing ≡ None
     skip_free line c input len es r after k = read_free line c es k.given after input len k.reads
 
     -- an output is there where something, or nothing yet, may be written
-    output_left : (line c output n : ℕ) (es : List Entry) (after : Machine) → Answered contexts m line (step.Call c (guest.CheckWrite output)) es (reply.Ok (number_fields n)) after → MissesOutput after output → ⊥
+    output_left : (line c output n : ℕ) (es : List Entry) (after : Machine) → Answered contexts m line (step.Call c (guest.Stream (stream_call.CheckWrite output))) es (reply.Ok (number_fields n)) after → MissesOutput after output → ⊥
     output_left line c output n es after w missing =
-        let k = check_kept line c es (reply.Ok (number_fields n)) after output w in output_is_there m line output n es (its_own contexts m line (step.Call c (guest.CheckWrite output)) es (reply.Ok (number_fields n)) after w (λ e. cc)).1.1 (missed_output m after k.1 k.0.there output missing)
+        let k = check_kept line c es (reply.Ok (number_fields n)) after output w in output_is_there m line output n es (its_own contexts m line (step.Call c (guest.Stream (stream_call.CheckWrite output))) es (reply.Ok (number_fields n)) after w (λ e. cc)).1.1 (missed_output m after k.1 k.0.there output missing)
 
     -- and so are both ends of a splice, where its input was
-    ends_left : (line c to from n : ℕ) (es : List Entry) (after : Machine) → (MissesInput m from → ⊥) → Answered contexts m line (step.Call c (guest.CheckWrite to)) es (reply.Ok (number_fields n)) after → MissesEither after to from → ⊥
+    ends_left : (line c to from n : ℕ) (es : List Entry) (after : Machine) → (MissesInput m from → ⊥) → Answered contexts m line (step.Call c (guest.Stream (stream_call.CheckWrite to))) es (reply.Ok (number_fields n)) after → MissesEither after to from → ⊥
     ends_left line c to from n es after there w (inl missing) = output_left line c to n es after w missing
     ends_left line c to from n es after there w (inr missing) = let k = check_kept line c es (reply.Ok (number_fields n)) after to w in there (missed_input m after k.1 k.0.there from missing)
 
@@ -130,8 +131,8 @@ module _ (contexts : List WasiSocketsCtx) where
     reads_there line len es _ after k = absurd k
 
     -- where a read gave bytes or none
-    given_there : (line c len n : ℕ) (es : List Entry) (r : Reply) (after : Machine) → Answered contexts m line (step.Call c (guest.Read h len)) es r after → reply.Ok (number_fields n) ≡ counted_reply r → MissesInput m h → ⊥
-    given_there line c len n es (reply.Ok fields) after w counts = reads_there line len es fields after (its_own contexts m line (step.Call c (guest.Read h len)) es (reply.Ok fields) after w (λ e. cc)).1.1
+    given_there : (line c len n : ℕ) (es : List Entry) (r : Reply) (after : Machine) → Answered contexts m line (step.Call c (guest.Stream (stream_call.Read h len))) es r after → reply.Ok (number_fields n) ≡ counted_reply r → MissesInput m h → ⊥
+    given_there line c len n es (reply.Ok fields) after w counts = reads_there line len es fields after (its_own contexts m line (step.Call c (guest.Stream (stream_call.Read h len))) es (reply.Ok fields) after w (λ e. cc)).1.1
     given_there line c len n es (reply.Err word) after w counts = absurd (cc)
     given_there line c len n es reply.Closed after w counts = absurd (cc)
     given_there line c len n es (reply.Failed word handle) after w counts = absurd (cc)
@@ -159,14 +160,14 @@ module _ (contexts : List WasiSocketsCtx) where
     read_live : (m : Machine) (input len : ℕ) (es : List Entry) (r : Reply) (after : Machine) → m.store.standing ≡ None → BlocksAs contexts m c ids (blocking.Read input len) es r after → PendingHandleIsLive after
     read_live m input len _ _ _ free (on.NoInput missing) = free_well m free
     read_live m input len _ _ _ free (on.NotReady es look) = (waits_there m input (own_of line) es look, tt)
-    read_live m input len _ _ _ free (on.NoneCame es fs look w some) = (reads_there m input line len fs (bytes_fields []) m (its_own contexts m line (step.Call c (guest.Read input len)) fs (reply.Ok (bytes_fields [])) m w (λ e. cc)).1.1, tt)
+    read_live m input len _ _ _ free (on.NoneCame es fs look w some) = (reads_there m input line len fs (bytes_fields []) m (its_own contexts m line (step.Call c (guest.Stream (stream_call.Read input len))) fs (reply.Ok (bytes_fields [])) m w (λ e. cc)).1.1, tt)
     read_live m input len _ _ _ free (on.AsRead es fs r after look w other) = free_well after (read_free m free line c fs r after input len w)
 
     skip_live : (m : Machine) (input len : ℕ) (es : List Entry) (r : Reply) (after : Machine) → m.store.standing ≡ None → BlocksAs contexts m c ids (blocking.Skip input len) es r after → PendingHandleIsLive after
     skip_live m input len _ _ _ free (on.NoInput missing) = free_well m free
     skip_live m input len _ _ _ free (on.NotReady es look) = (waits_there m input (own_of line) es look, tt)
-    skip_live m input len _ _ _ free (on.NoneCame es fs look w some) = let k = (while_free contexts m line (step.Call c (guest.Skip input len)) free fs (reply.Ok (number_fields 0)) m w).0 free in (given_there m input line c len 0 fs k.given m k.reads k.counts, tt)
-    skip_live m input len _ _ _ free (on.AsRead es fs r after look w other) = free_well after (skip_free m free line c input len fs r after ((while_free contexts m line (step.Call c (guest.Skip input len)) free fs r after w).0 free))
+    skip_live m input len _ _ _ free (on.NoneCame es fs look w some) = let k = (while_free contexts m line (step.Call c (guest.Stream (stream_call.Skip input len))) free fs (reply.Ok (number_fields 0)) m w).0 free in (given_there m input line c len 0 fs k.given m k.reads k.counts, tt)
+    skip_live m input len _ _ _ free (on.AsRead es fs r after look w other) = free_well after (skip_free m free line c input len fs r after ((while_free contexts m line (step.Call c (guest.Stream (stream_call.Skip input len))) free fs r after w).0 free))
 
     flush_live : (m : Machine) (output : ℕ) (es : List Entry) (r : Reply) (after : Machine) → m.store.standing ≡ None → FlushesOn contexts m c ids output es r after → PendingHandleIsLive after
     flush_live m output _ _ _ free (on.FlushGivesNone es r after w none) = free_well after (flush_free m free line c es r after output w)

@@ -4,7 +4,7 @@ use Rattle.wasi_tcp.specs.declared.reader.ReadState.TheVariants as reading
 use Rattle.host_streams.specs.Blocking.{look_asks, look_at, look_by, look_on, looked}
 use Rattle.host_store.specs.declared.kind.PlainInput.{PlainInput}
 use Rattle.host_store.specs.CallStops.{Traps}
-use Rattle.wasi_records.specs.Looks.{is_done, ready_reader}
+use Rattle.tcp_records.specs.Looks.{is_done, ready_reader}
 use Rattle.host_store.specs.Readiness.{ready_put}
 use Rattle.wasi_records.specs.Records.{tcp2_at}
 use Rattle.host_streams.specs.StreamCalls.{plain_input_at}

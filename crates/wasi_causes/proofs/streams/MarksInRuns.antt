@@ -8,6 +8,8 @@ use Rattle.wasi_world.specs.declared.call.HandleKind.TheVariants as name
 use Rattle.wasi_world.specs.declared.call.Told.TheVariants as told
 use Rattle.wasi_records.specs.Records.{tcp2_at}
 use Rattle.wasi_steps.specs.declared.guest_call.GuestCall.TheVariants as guest
+use Rattle.wasi_steps.specs.declared.guest_call.TcpCall.TheVariants as tcp_call
+use Rattle.wasi_steps.specs.declared.guest_call.StreamCall.TheVariants as stream_call
 use Rattle.wasi_steps.specs.declared.reply.Reply.TheVariants as reply
 use Rattle.wasi_steps.specs.declared.step.Step.TheVariants as step
 use Rattle.wasi_steps.specs.Reply.{triple_fields}
@@ -52,10 +54,10 @@ module _ (contexts : List WasiSocketsCtx) (steps : List Step) (log : List Entry)
   count = fine.1.fine.count
 
   pub accept_so : (line ctx listener : ℕ) (fields : List Field) (es : List Entry) (after : Machine) → AcceptsAt m listener
-      → Answered contexts m line (step.Call ctx (guest.TcpAccept listener)) es (reply.Ok fields) after
+      → Answered contexts m line (step.Call ctx (guest.Tcp (tcp_call.Accept listener))) es (reply.Ok fields) after
       → MarksThree log (own_of line) listener fields es
   accept_so line ctx listener fields es after accepts a =
-      let its = (its_own contexts m line (step.Call ctx (guest.TcpAccept listener)) es (reply.Ok fields) after a (λ e. cc)).1.1 in
+      let its = (its_own contexts m line (step.Call ctx (guest.Tcp (tcp_call.Accept listener))) es (reply.Ok fields) after a (λ e. cc)).1.1 in
       let k = its.takes accepts in
       record {
         side = k.holds.side;
@@ -84,11 +86,11 @@ module _ (contexts : List WasiSocketsCtx) (steps : List Step) (log : List Entry)
   Pends pending = record m { store = record m.store { standing = pending } }
 
   failed_while : (pending : Option Standing) (line ctx stream len : ℕ) (es : List Entry) (word : CodeWord) (handle : ℕ) (after : Machine)
-      → Answered contexts (Pends pending) line (step.Call ctx (guest.Read stream len)) es (reply.Failed word handle) after
+      → Answered contexts (Pends pending) line (step.Call ctx (guest.Stream (stream_call.Read stream len))) es (reply.Failed word handle) after
       → FailsOnItsSide log (own_of line) stream word es
   failed_while pending line ctx stream len es word handle after a =
       let k : OfStreams (Pends pending) (input_at m stream) (λ place r s. FailsWith (Pends pending) (own_of line) stream (ReadFails (own_of line) len s.reader) es word handle × _) =
-      (its_own contexts (Pends pending) line (step.Call ctx (guest.Read stream len)) es (reply.Failed word handle) after a (λ e. cc)).1.1 in
+      (its_own contexts (Pends pending) line (step.Call ctx (guest.Stream (stream_call.Read stream len))) es (reply.Failed word handle) after a (λ e. cc)).1.1 in
       let fails = k.holds.0 in
       let reads = fails.cause in
       let marks : MarksItsSocket (Pends pending) (own_of line) stream (input_at m stream) es = failed_read contexts (Pends pending) line stream es word handle after ctx len a in
@@ -114,27 +116,27 @@ module _ (contexts : List WasiSocketsCtx) (steps : List Step) (log : List Entry)
       }
 
   pub failed_so : (line ctx stream len : ℕ) (es : List Entry) (word : CodeWord) (handle : ℕ) (after : Machine)
-      → Answered contexts m line (step.Call ctx (guest.Read stream len)) es (reply.Failed word handle) after
+      → Answered contexts m line (step.Call ctx (guest.Stream (stream_call.Read stream len))) es (reply.Failed word handle) after
       → FailsOnItsSide log (own_of line) stream word es
   failed_so line ctx stream len es word handle after a = failed_while m.store.standing line ctx stream len es word handle after a
 
   -- a call that blocks, as it fails
   reads_on : (pending : Option Standing) (ids : Ids) (ctx stream len : ℕ) (es : List Entry) (word : CodeWord) (handle : ℕ) (after : Machine)
-      → ReadsOn contexts (Pends pending) ids (blocking.Read stream len) stream len (step.Call ctx (guest.Read stream len)) (reply.Ok (bytes_fields [])) es (reply.Failed word handle) after
+      → ReadsOn contexts (Pends pending) ids (blocking.Read stream len) stream len (step.Call ctx (guest.Stream (stream_call.Read stream len))) (reply.Ok (bytes_fields [])) es (reply.Failed word handle) after
       → FailsAtLast log (own_of ids.line) stream word es
   reads_on pending ids ctx stream len _ word handle _ (AsRead es fs _ after look w other) =
       record { front = es; rest = fs; cut = refl; fails = failed_while pending ids.line ctx stream len fs word handle after w }
 
   pub blocking_failed_so : (line ctx stream len : ℕ) (es : List Entry) (word : CodeWord) (handle : ℕ) (after : Machine)
-      → Answered contexts m line (step.Call ctx (guest.BlockingRead stream len)) es (reply.Failed word handle) after
+      → Answered contexts m line (step.Call ctx (guest.Stream (stream_call.BlockingRead stream len))) es (reply.Failed word handle) after
       → FailsAtLast log (own_of line) stream word es
   blocking_failed_so line ctx stream len es word handle after a = by_standing m.store.standing refl
     where
       by_standing : (o : Option Standing) → m.store.standing ≡ o → FailsAtLast log (own_of line) stream word es
       by_standing None e = reads_on m.store.standing (first_ids line) ctx stream len es word handle after
-          ((while_free contexts m line (step.Call ctx (guest.BlockingRead stream len)) e es (reply.Failed word handle) after a).0 e)
+          ((while_free contexts m line (step.Call ctx (guest.Stream (stream_call.BlockingRead stream len))) e es (reply.Failed word handle) after a).0 e)
       by_standing (Some s) e = absurd (let busy =
-          (busy_exactly contexts m line (step.Call ctx (guest.BlockingRead stream len)) es (reply.Failed word handle) after a).1 (rw e refl, inl refl) in cc)
+          (busy_exactly contexts m line (step.Call ctx (guest.Stream (stream_call.BlockingRead stream len))) es (reply.Failed word handle) after a).1 (rw e refl, inl refl) in cc)
 
   -- and a poll of it
   pub polled_failed_so : (line stream len : ℕ) (ids : Ids) (es : List Entry) (word : CodeWord) (handle : ℕ) (after : Machine)

@@ -1,6 +1,6 @@
 -- Why nothing may be written.
 use Rattle.wasi_causes.proofs.Words.{◌≡◌, ◌<◌, ◌⊎◌, inl, inr, ℕ, List, Option, Some, None, IsSomeAnd, refl, arith, min, Entry, Machine, OpId, OfStreams, Permits, Records, output_at, TcpRecord, WriteState}
-use Rattle.wasi_records.specs.Used.{held_in}
+use Rattle.tcp_records.specs.Used.{held_in}
 use Rattle.host_store.specs.declared.kind.PlainOutput.{PlainOutput}
 use Rattle.host_store.specs.declared.kind.PlainOutput.TheVariants as output
 use Rattle.memory_streams.specs.Plain.{Contents, left_in}

@@ -13,6 +13,7 @@ use Rattle.host_streams.specs.PlainStreams.{check_pipe_at, check_plain, contents
 use Rattle.wasi_records.specs.Records.{input_pipe_at, output_pipe_at}
 use Rattle.host_streams.specs.StreamCalls.{plain_answer, plain_done, plain_input_at, plain_output_at}
 use Rattle.wasi_steps.specs.declared.guest_call.GuestCall.TheVariants as guest
+use Rattle.wasi_steps.specs.declared.guest_call.StreamCall.TheVariants as stream_call
 use Rattle.wasi_steps.specs.declared.step.Step.TheVariants as step
 use Rattle.wasi_walks.specs.Answered.{input_streams}
 use Rattle.wasi_records.specs.declared.records.Record.{Record}
@@ -40,7 +41,7 @@ module _ (contexts : List WasiSocketsCtx) (m : Machine) (line c handle : ℕ) wh
   -- == a read
   module _ (len : ℕ) where
     abbrev ReadRow : Rows (Result (List ℕ) CallStop × Machine)
-    ReadRow = Replied contexts m line (step.Call c (guest.Read handle len)) bytes_reply
+    ReadRow = Replied contexts m line (step.Call c (guest.Stream (stream_call.Read handle len))) bytes_reply
 
     module _ (place : ℕ) (is : plain_input_at m handle ≡ Some (input.Pipe place)) where
       module _ (b : ℕ) (bytes : List ℕ) (at : input_pipe_at m.store.records place ≡ Some (b ∷ bytes)) where
@@ -68,7 +69,7 @@ module _ (contexts : List WasiSocketsCtx) (m : Machine) (line c handle : ℕ) wh
 
   -- == a look at what may be written
   abbrev CheckRow : Rows (Result ℕ CallStop × Machine)
-  CheckRow = Replied contexts m line (step.Call c (guest.CheckWrite handle)) permit_reply
+  CheckRow = Replied contexts m line (step.Call c (guest.Stream (stream_call.CheckWrite handle))) permit_reply
 
   module _ (place : ℕ) (is : plain_output_at m handle ≡ Some (output.Pipe place)) where
     module _ (pipe : Contents) (at : output_pipe_at m.store.records place ≡ Some pipe) where
@@ -88,7 +89,7 @@ module _ (contexts : List WasiSocketsCtx) (m : Machine) (line c handle : ℕ) wh
   -- == a write
   module _ (bytes : List ℕ) where
     abbrev WriteRow : Rows (Result (Unit {0}) CallStop × Machine)
-    WriteRow = Replied contexts m line (step.Call c (guest.Write handle bytes)) taken_reply
+    WriteRow = Replied contexts m line (step.Call c (guest.Stream (stream_call.Write handle bytes))) taken_reply
 
     -- nothing is said of a connection's writer
     no_writer : (o : PlainOutput) → plain_output_at m handle ≡ Some o → IsSomeAnd (output_streams m handle) (λ s. IsUnpermitted s.writer (length bytes)) → ⊥
@@ -111,7 +112,7 @@ module _ (contexts : List WasiSocketsCtx) (m : Machine) (line c handle : ℕ) wh
 
   -- == a flush
   abbrev FlushRow : Rows (Result (Unit {0}) CallStop × Machine)
-  FlushRow = Replied contexts m line (step.Call c (guest.Flush handle)) taken_reply
+  FlushRow = Replied contexts m line (step.Call c (guest.Stream (stream_call.Flush handle))) taken_reply
 
   pub plain_flushes : (o : PlainOutput) → plain_output_at m handle ≡ Some o → FlushRow [] (plain_answer (flush_plain o), m)
   plain_flushes (output.Pipe place) is = (rw is ((refl, refl), apart (λ e. cc) (λ e. cc)), (tt, (refl, refl)))

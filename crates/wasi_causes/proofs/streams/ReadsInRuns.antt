@@ -14,6 +14,7 @@ use Rattle.host_store.specs.declared.kind.PlainInput.TheVariants as plain_input
 use Rattle.wasi_records.specs.Records.{tcp2_at}
 use Rattle.wasi_steps.specs.declared.reply.Reply.TheVariants as reply
 use Rattle.wasi_steps.specs.declared.guest_call.GuestCall.TheVariants as guest
+use Rattle.wasi_steps.specs.declared.guest_call.StreamCall.TheVariants as stream_call
 use Rattle.wasi_steps.specs.declared.step.Step.TheVariants as step
 use Rattle.wasi_walks.proofs.licence.Runs.{Fine, runs_fine}
 use Rattle.wasi_walks.proofs.licence.State.{StreamsStand}
@@ -106,9 +107,9 @@ module _ (contexts : List WasiSocketsCtx) (steps : List Step) (log : List Entry)
 
   -- the step `read`
   pub read_so : (line ctx input len b : ℕ) (bytes : List ℕ) (es : List Entry) (after : Machine) → Answered contexts m
-      line (step.Call ctx (guest.Read input len)) es (reply.Ok (bytes_fields (b ∷ bytes))) after → HandsOutBytes log
+      line (step.Call ctx (guest.Stream (stream_call.Read input len))) es (reply.Ok (bytes_fields (b ∷ bytes))) after → HandsOutBytes log
       (own_of line) input (b ∷ bytes) es
-  read_so line ctx input len b bytes es after a = elim (its_own contexts m line (step.Call ctx (guest.Read input len))
+  read_so line ctx input len b bytes es after a = elim (its_own contexts m line (step.Call ctx (guest.Stream (stream_call.Read input len)))
       es (reply.Ok (bytes_fields (b ∷ bytes))) after a (λ e. cc)).1.1 [
         | inl told ↦ told_by m refl refl (own_of line) input len (b ∷ bytes) [] es told.0
         | inr taken ↦ taken_from m refl refl (own_of line) input len (b ∷ bytes) es taken
@@ -116,23 +117,23 @@ module _ (contexts : List WasiSocketsCtx) (steps : List Step) (log : List Entry)
 
   -- the step `blocking-read`
   pub blocking_so : (line ctx input len b : ℕ) (bytes : List ℕ) (es : List Entry) (after : Machine) → Answered contexts
-      m line (step.Call ctx (guest.BlockingRead input len)) es (reply.Ok (bytes_fields (b ∷ bytes))) after →
+      m line (step.Call ctx (guest.Stream (stream_call.BlockingRead input len))) es (reply.Ok (bytes_fields (b ∷ bytes))) after →
       HandsOutBytes log (own_of line) input (b ∷ bytes) es
   blocking_so line ctx input len b bytes es after a = by_standing m.store.standing refl
     where
       by_standing : (o : Option Standing) → m.store.standing ≡ o → HandsOutBytes log (own_of line) input (b ∷ bytes) es
       by_standing None e = by_end m refl refl (own_of line) input len (b ∷ bytes) es after line refl (ends_by_read
           contexts m (first_ids line) (blocking.Read input len) ctx input len b bytes es after
-          ((while_free contexts m line (step.Call ctx (guest.BlockingRead input len)) e es (reply.Ok (bytes_fields (b ∷
+          ((while_free contexts m line (step.Call ctx (guest.Stream (stream_call.BlockingRead input len))) e es (reply.Ok (bytes_fields (b ∷
           bytes))) after a).0
           e))
       by_standing (Some s) e = absurd (let busy =
-          (busy_exactly contexts m line (step.Call ctx (guest.BlockingRead input len)) es
+          (busy_exactly contexts m line (step.Call ctx (guest.Stream (stream_call.BlockingRead input len))) es
           (reply.Ok (bytes_fields (b ∷ bytes))) after a).1 (rw e refl, inl refl) in cc)
 
   -- a poll of it
   module _ (line n ctx input len b : ℕ) (bytes : List ℕ)
-      (began : step_at steps n ≡ Some (step.Call ctx (guest.BlockingRead input len))) (es : List Entry)
+      (began : step_at steps n ≡ Some (step.Call ctx (guest.Stream (stream_call.BlockingRead input len)))) (es : List Entry)
       (after : Machine) (a : Answered contexts m line (step.Poll n) es (reply.Ok (bytes_fields (b ∷ bytes))) after)
     where
       row : Outcome contexts m line (step.Poll n) es (reply.Ok (bytes_fields (b ∷ bytes))) after
@@ -153,11 +154,11 @@ module _ (contexts : List WasiSocketsCtx) (steps : List Step) (log : List Entry)
       its_input s i l e is same =
           let began_by = subst (λ (call : StandingCall). StreamsStand steps s.ids.line call) is
           (fine.1.fine.standing s e).1 in
-          let origin : began_by.origin ≡ step.Call ctx (guest.BlockingRead input len) = (let both : Some began_by.origin ≡
-          Some (step.Call ctx (guest.BlockingRead input len)) = sym began_by.at ∙ (ap (step_at steps) same ∙ began) in
+          let origin : began_by.origin ≡ step.Call ctx (guest.Stream (stream_call.BlockingRead input len)) = (let both : Some began_by.origin ≡
+          Some (step.Call ctx (guest.Stream (stream_call.BlockingRead input len))) = sym began_by.at ∙ (ap (step_at steps) same ∙ began) in
           cc) in
           let named : handles_of began_by.origin ≡ i ∷ [] = began_by.holds.1 in
-          let its : handles_of (step.Call ctx (guest.BlockingRead input len)) ≡ i ∷ [] = subst
+          let its : handles_of (step.Call ctx (guest.Stream (stream_call.BlockingRead input len))) ≡ i ∷ [] = subst
           (λ (x : Step). handles_of x ≡ i ∷ []) origin named in
           cc
 

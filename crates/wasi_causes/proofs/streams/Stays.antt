@@ -1,17 +1,19 @@
 -- What a turn leaves of sockets, of the streams of connections, and of pipes.
 use Rattle.wasi_causes.proofs.Words.{◌≡◌, ◌∙◌, ℕ, List, [], ◌∷◌, Option, Some, None, IsSome, inl, inr, refl, sym, subst, ap, Machine, Streams, TcpRecord, streams_in, turn_asks, turn_at, turn_job, turn_jobs, turn_machine_asks, turned}
-use Rattle.wasi_records.specs.Datagrams.{turn_outgoing}
+use Rattle.udp_records.specs.Datagrams.{turn_outgoing}
 use Rattle.host_store.specs.Jobs.{turn_datagram_at, turn_receive_at}
-use Rattle.wasi_records.specs.NameLookup.{turn_lookup, turn_lookup_at}
-use Rattle.wasi_records.specs.Receiving.{turn_incoming}
-use Rattle.wasi_records.specs.Records.{input_pipe_at, lookup_at, lookup_put, open_at, open_of, open_put, output_pipe_at, tcp2_at, tcp2_put, udp2_at}
+use Rattle.lookup_records.specs.NameLookup.{turn_lookup}
+use Rattle.wasi_records.specs.Records.{turn_lookup_at}
+use Rattle.udp_records.specs.Receiving.{turn_incoming}
+use Rattle.wasi_records.specs.Records.{input_pipe_at, lookup_at, lookup_put, open_at, open_put, output_pipe_at, tcp2_at, tcp2_put, udp2_at}
+use Rattle.udp_records.specs.Udp.{open_of}
 use Rattle.wasi_jobs.specs.declared.job.HostJob.{HostJob}
 use Rattle.wasi_jobs.specs.declared.job.HostJob.TheVariants as job
-use Rattle.wasi_records.specs.declared.name_lookup.Lookup.{Lookup}
+use Rattle.lookup_records.specs.declared.name_lookup.Lookup.{Lookup}
 use Rattle.wasi_records.specs.declared.records.Record.{Record}
-use Rattle.wasi_records.specs.declared.udp.OpenUdp.{OpenUdp}
-use Rattle.wasi_records.specs.declared.udp.UdpRecord.{UdpRecord}
-use Rattle.wasi_records.specs.declared.udp.UdpRecord.TheVariants.{Open}
+use Rattle.udp_records.specs.declared.udp.OpenUdp.{OpenUdp}
+use Rattle.udp_records.specs.declared.udp.UdpRecord.{UdpRecord}
+use Rattle.udp_records.specs.declared.udp.UdpRecord.TheVariants.{Open}
 use Rattle.wasi_walks.proofs.walks.Udp.{open_is}
 use Rattle.wasi_walks.proofs.Places.{input_sort, output_sort}
 use Rattle.wasi_causes.proofs.tables.Meets.{Meets, chain, ends, onto, shifted, whatever, widen}

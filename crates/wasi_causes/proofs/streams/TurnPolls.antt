@@ -10,19 +10,20 @@ use Rattle.wasi_world.specs.declared.call.Call.TheVariants as call
 use Rattle.wasi_world.specs.declared.call.Told.TheVariants as told
 use Rattle.wasi_udp.specs.Receive.{wanting}
 use Rattle.wasi_udp.specs.Send.{IsSend, at_remote}
-use Rattle.wasi_records.specs.Datagrams.{turn_outgoing, turn_sending, turned_left}
-use Rattle.wasi_records.specs.NameLookup.{lookup_told, turn_lookup, turn_lookup_at}
-use Rattle.wasi_records.specs.Receiving.{receive_left, turn_incoming, turn_receiving}
+use Rattle.udp_records.specs.Datagrams.{turn_outgoing, turn_sending, turned_left}
+use Rattle.lookup_records.specs.NameLookup.{lookup_told, turn_lookup}
+use Rattle.wasi_records.specs.Records.{turn_lookup_at}
+use Rattle.udp_records.specs.Receiving.{receive_left, turn_incoming, turn_receiving}
 use Rattle.wasi_records.specs.Records.{lookup_at, lookup_put, open_at, open_put, tcp2_at, tcp2_put, udp2_at}
-use Rattle.wasi_records.specs.declared.datagrams.Incoming.{Incoming}
-use Rattle.wasi_records.specs.declared.datagrams.Outgoing.{Outgoing}
-use Rattle.wasi_records.specs.declared.datagrams.Receiving.{Receiving}
-use Rattle.wasi_records.specs.declared.datagrams.Sending.{Sending}
-use Rattle.wasi_records.specs.declared.name_lookup.Lookup.{Lookup}
-use Rattle.wasi_records.specs.declared.name_lookup.LookupOp.{LookupOp}
+use Rattle.udp_records.specs.declared.datagrams.Incoming.{Incoming}
+use Rattle.udp_records.specs.declared.datagrams.Outgoing.{Outgoing}
+use Rattle.udp_records.specs.declared.datagrams.Receiving.{Receiving}
+use Rattle.udp_records.specs.declared.datagrams.Sending.{Sending}
+use Rattle.lookup_records.specs.declared.name_lookup.Lookup.{Lookup}
+use Rattle.lookup_records.specs.declared.name_lookup.LookupOp.{LookupOp}
 use Rattle.wasi_records.specs.declared.records.Record.{Record}
-use Rattle.wasi_records.specs.declared.udp.OpenUdp.{OpenUdp}
-use Rattle.wasi_records.specs.declared.udp.UdpRecord.TheVariants.{Open}
+use Rattle.udp_records.specs.declared.udp.OpenUdp.{OpenUdp}
+use Rattle.udp_records.specs.declared.udp.UdpRecord.TheVariants.{Open}
 use Rattle.wasi_jobs.specs.declared.job.HostJob.{HostJob}
 use Rattle.wasi_jobs.specs.declared.job.HostJob.TheVariants as job
 use Rattle.host_store.specs.Jobs.{is_going, jobs_with, turn_datagram_at, turn_receive_at}

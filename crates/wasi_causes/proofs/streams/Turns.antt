@@ -5,19 +5,21 @@ use Rattle.wasi_causes.proofs.Words.{◌⊎◌, Done, Item, Operation, Records, 
 use Rattle.wasi_world.specs.Operation.{Datagram as Received}
 use Rattle.wasi_udp.specs.Receive.{wanting}
 use Rattle.wasi_udp.specs.Send.{at_remote}
-use Rattle.wasi_records.specs.Datagrams.{turn_outgoing, turn_sending, turned_left}
+use Rattle.udp_records.specs.Datagrams.{turn_outgoing, turn_sending, turned_left}
 use Rattle.host_store.specs.Jobs.{turn_datagram_at, turn_receive_at}
-use Rattle.wasi_records.specs.Receiving.{receive_left, turn_incoming, turn_receiving}
-use Rattle.wasi_records.specs.NameLookup.{lookup_told, turn_lookup, turn_lookup_at}
-use Rattle.wasi_records.specs.Records.{lookup_at, lookup_put, open_at, open_of, open_put, tcp2_at, tcp2_put, udp2_at}
-use Rattle.wasi_records.specs.declared.name_lookup.Lookup.{Lookup}
-use Rattle.wasi_records.specs.declared.name_lookup.LookupOp.{LookupOp}
-use Rattle.wasi_records.specs.declared.datagrams.Incoming.{Incoming}
-use Rattle.wasi_records.specs.declared.datagrams.Outgoing.{Outgoing}
-use Rattle.wasi_records.specs.declared.datagrams.Receiving.{Receiving}
-use Rattle.wasi_records.specs.declared.datagrams.Sending.{Sending}
+use Rattle.udp_records.specs.Receiving.{receive_left, turn_incoming, turn_receiving}
+use Rattle.lookup_records.specs.NameLookup.{lookup_told, turn_lookup}
+use Rattle.wasi_records.specs.Records.{turn_lookup_at}
+use Rattle.wasi_records.specs.Records.{lookup_at, lookup_put, open_at, open_put, tcp2_at, tcp2_put, udp2_at}
+use Rattle.udp_records.specs.Udp.{open_of}
+use Rattle.lookup_records.specs.declared.name_lookup.Lookup.{Lookup}
+use Rattle.lookup_records.specs.declared.name_lookup.LookupOp.{LookupOp}
+use Rattle.udp_records.specs.declared.datagrams.Incoming.{Incoming}
+use Rattle.udp_records.specs.declared.datagrams.Outgoing.{Outgoing}
+use Rattle.udp_records.specs.declared.datagrams.Receiving.{Receiving}
+use Rattle.udp_records.specs.declared.datagrams.Sending.{Sending}
 use Rattle.wasi_records.specs.declared.records.Record.{Record}
-use Rattle.wasi_records.specs.declared.udp.OpenUdp.{OpenUdp}
+use Rattle.udp_records.specs.declared.udp.OpenUdp.{OpenUdp}
 use Rattle.wasi_jobs.specs.declared.job.HostJob.{HostJob}
 use Rattle.wasi_jobs.specs.declared.job.HostJob.TheVariants.{Write, Datagram, Receive, Lookup as LookupJob}
 use Rattle.wasi_tcp.specs.declared.writer.WriteState.TheVariants as writing
@@ -31,8 +33,8 @@ use Rattle.wasi_addr.specs.declared.address.IpAddress.{IpAddress}
 use Rattle.wasi_world.specs.Typed.{told_names}
 use Rattle.wasi_world.specs.declared.asks.Polled.{Polled}
 use Rattle.wasi_world.specs.declared.asks.Polled.TheVariants as polled
-use Rattle.wasi_records.specs.declared.udp.UdpRecord.{UdpRecord}
-use Rattle.wasi_records.specs.declared.udp.UdpRecord.TheVariants.{Open}
+use Rattle.udp_records.specs.declared.udp.UdpRecord.{UdpRecord}
+use Rattle.udp_records.specs.declared.udp.UdpRecord.TheVariants.{Open}
 use Rattle.wasi_walks.proofs.walks.Udp.{open_is}
 use Rattle.wasi_causes.proofs.resolving.Turns.{lookups_turned}
 use Rattle.wasi_walks.proofs.Places.{lookup_sort, other_put, put_either, tcp_sort, udp_sort}

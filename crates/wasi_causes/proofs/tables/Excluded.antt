@@ -5,8 +5,8 @@ use Rattle.wasi_world.specs.declared.datagram.IncomingDatagram.{IncomingDatagram
 use Rattle.wasi_world.specs.declared.datagram.OutgoingDatagram.{OutgoingDatagram}
 use Rattle.wasi_udp.specs.Shape.{Socket}
 use Rattle.wasi_records.specs.declared.records.Record.TheVariants.{Gone}
-use Rattle.wasi_records.specs.declared.datagrams.Receiving.TheVariants as receiving
-use Rattle.wasi_records.specs.declared.udp.UdpRecord.TheVariants as udp
+use Rattle.udp_records.specs.declared.datagrams.Receiving.TheVariants as receiving
+use Rattle.udp_records.specs.declared.udp.UdpRecord.TheVariants as udp
 use Rattle.wasi_walks.specs.Waiting.{BindFailed, CallFails, CreateFailed, ListenFailed, UdpBindFailed, UdpConnect3Failed, UdpConnectFailed}
 use Rattle.wasi_walks.specs.Answered.{EndsPending}
 use Rattle.wasi_causes.specs.DatagramAsks.{AreHandedOut, AreSent, AsksForDatagram, AsksToReceive, AsksToSend, CameInTurn, ChecksDestination, ChecksSender, ChecksWildcard, HandsOutHeld, HandsOutNew, HandsOutNone, ReceiveAsksIfBound, SendAsksIfBound, SendsIt, part_of}

@@ -50,95 +50,104 @@ use Rattle.wasi_steps.specs.Steps.{context_of}
 use Rattle.wasi_steps.specs.declared.reply.Field.TheVariants as field
 use Rattle.wasi_steps.specs.declared.reply.Reply.TheVariants as reply
 use Rattle.wasi_steps.specs.declared.guest_call.GuestCall.TheVariants as guest
+use Rattle.wasi_steps.specs.declared.guest_call.TcpCall.TheVariants as tcp_call
+use Rattle.wasi_steps.specs.declared.guest_call.UdpCall.TheVariants as udp_call
+use Rattle.wasi_steps.specs.declared.guest_call.NameCall.TheVariants as name_call
+use Rattle.wasi_steps.specs.declared.guest_call.StreamCall.TheVariants as stream_call
+use Rattle.wasi_steps.specs.declared.guest_call.PipeCall.TheVariants as pipe_call
+use Rattle.wasi_steps.specs.declared.guest_call.PollableCall.TheVariants as pollable_call
+use Rattle.wasi_steps.specs.declared.guest_call.P3TcpCall.TheVariants as p3_tcp_call
+use Rattle.wasi_steps.specs.declared.guest_call.P3UdpCall.TheVariants as p3_udp_call
+use Rattle.wasi_steps.specs.declared.guest_call.P3NameCall.TheVariants as p3_name_call
 use Rattle.wasi_steps.specs.declared.step.Step.TheVariants as step
 use Rattle.wasi_world.specs.declared.outcome.TrapKind.TheVariants as trap
 
 module _ (contexts : List WasiSocketsCtx) (m : Machine) (line : ℕ) where
   rows : (s : Step) → Meets (Says contexts m line s) [] (step_asks contexts m line s)
-  rows (step.Call c guest.Network) = network contexts m line c
-  rows (step.Call c (guest.TcpCreate family)) = create contexts m line c family
-  rows (step.Call c (guest.TcpStartBind s n a)) = start_bind contexts m line c s n a
-  rows (step.Call c (guest.TcpFinishBind s)) = finish_bind contexts m line c s
-  rows (step.Call c (guest.TcpStartConnect s n a)) = start_connect contexts m line c s n a
-  rows (step.Call c (guest.TcpFinishConnect s)) = finish_connect_row contexts m line c s
-  rows (step.Call c (guest.TcpStartListen s)) = start_listen contexts m line c s
-  rows (step.Call c (guest.TcpFinishListen s)) = finish_listen contexts m line c s
-  rows (step.Call c (guest.TcpAccept s)) = accept contexts m line c s
-  rows (step.Call c (guest.TcpLocalAddress s)) = local_address_row contexts m line c s
-  rows (step.Call c (guest.TcpRemoteAddress s)) = remote_address_row contexts m line c s
-  rows (step.Call c (guest.TcpIsListening s)) = is_listens contexts m line c s
-  rows (step.Call c (guest.TcpAddressFamily s)) = family contexts m line c s
-  rows (step.Call c (guest.TcpGet s option)) = get contexts m line c s option
-  rows (step.Call c (guest.TcpSet s setting)) = set contexts m line c s setting
-  rows (step.Call c (guest.TcpShutdown s how)) = shutdown contexts m line c s how
-  rows (step.Call c (guest.UdpCreate family)) = udp_create contexts m line c family
-  rows (step.Call c (guest.UdpStartBind s n a)) = udp_start_bind contexts m line c s n a
-  rows (step.Call c (guest.UdpFinishBind s)) = udp_finish_bind contexts m line c s
-  rows (step.Call c (guest.UdpLocalAddress s)) = udp_local_address contexts m line c s
-  rows (step.Call c (guest.UdpRemoteAddress s)) = udp_remote_address contexts m line c s
-  rows (step.Call c (guest.UdpAddressFamily s)) = udp_family contexts m line c s
-  rows (step.Call c (guest.UdpStream s remote)) = udp_stream contexts m line c s remote
-  rows (step.Call c (guest.UdpReceive incoming most)) = udp_receive contexts m line c incoming most
-  rows (step.Call c (guest.UdpCheckSend outgoing)) = udp_check_send contexts m line c outgoing
-  rows (step.Call c (guest.UdpSend outgoing ds)) = udp_send contexts m line c outgoing ds
-  rows (step.Call c (guest.UdpGet s option)) = udp_get contexts m line c s option
-  rows (step.Call c (guest.UdpSet s setting)) = udp_set contexts m line c s setting
-  rows (step.Call c (guest.Resolve network name)) = resolve contexts m line c network name
-  rows (step.Call c (guest.ResolveNext lookup)) = resolve_next contexts m line c lookup
-  rows (step.Call c (guest.NetworkErrorCode e)) = network_error_code contexts m line c e
-  rows (step.Call c (guest.Read input len)) = read contexts m line c input len
-  rows (step.Call c (guest.CheckWrite output)) = check_write contexts m line c output
-  rows (step.Call c (guest.Write output bytes)) = write contexts m line c output bytes
-  rows (step.Call c (guest.Flush output)) = flush contexts m line c output
-  rows (step.Call c (guest.PipeIn bytes)) = pipe_in contexts m line c bytes
-  rows (step.Call c (guest.PipeOut capacity)) = pipe_out contexts m line c capacity
-  rows (step.Call c (guest.PipeContents output)) = pipe_contents contexts m line c output
-  rows (step.Call c guest.Sink) = sink contexts m line c
-  rows (step.Call c guest.ClosedIn) = closed_in contexts m line c
-  rows (step.Call c guest.ClosedOut) = closed_out contexts m line c
-  rows (step.Call c (guest.Skip input len)) = skip contexts m line c input len
-  rows (step.Call c (guest.WriteZeroes output len)) = write_zeroes contexts m line c output len
-  rows (step.Call c (guest.Splice to from len)) = splice contexts m line c to from len
-  rows (step.Call c (guest.BlockingRead input len)) = blocking_read contexts m line c input len
-  rows (step.Call c (guest.BlockingSkip input len)) = blocking_skip contexts m line c input len
-  rows (step.Call c (guest.BlockingWrite output bytes)) = blocking_write contexts m line c output bytes
-  rows (step.Call c (guest.BlockingZeroes output len)) = blocking_zeroes contexts m line c output len
-  rows (step.Call c (guest.BlockingFlush output)) = blocking_flush contexts m line c output
-  rows (step.Call c (guest.BlockingSplice to from len)) = blocking_splice contexts m line c to from len
-  rows (step.Call c (guest.Block p)) = block contexts m line c p
-  rows (step.Call c (guest.PollList ps)) = poll_list contexts m line c ps
+  rows (step.Call c (guest.Names name_call.Network)) = network contexts m line c
+  rows (step.Call c (guest.Tcp (tcp_call.Create family))) = create contexts m line c family
+  rows (step.Call c (guest.Tcp (tcp_call.StartBind s n a))) = start_bind contexts m line c s n a
+  rows (step.Call c (guest.Tcp (tcp_call.FinishBind s))) = finish_bind contexts m line c s
+  rows (step.Call c (guest.Tcp (tcp_call.StartConnect s n a))) = start_connect contexts m line c s n a
+  rows (step.Call c (guest.Tcp (tcp_call.FinishConnect s))) = finish_connect_row contexts m line c s
+  rows (step.Call c (guest.Tcp (tcp_call.StartListen s))) = start_listen contexts m line c s
+  rows (step.Call c (guest.Tcp (tcp_call.FinishListen s))) = finish_listen contexts m line c s
+  rows (step.Call c (guest.Tcp (tcp_call.Accept s))) = accept contexts m line c s
+  rows (step.Call c (guest.Tcp (tcp_call.LocalAddress s))) = local_address_row contexts m line c s
+  rows (step.Call c (guest.Tcp (tcp_call.RemoteAddress s))) = remote_address_row contexts m line c s
+  rows (step.Call c (guest.Tcp (tcp_call.IsListening s))) = is_listens contexts m line c s
+  rows (step.Call c (guest.Tcp (tcp_call.AddressFamily s))) = family contexts m line c s
+  rows (step.Call c (guest.Tcp (tcp_call.Get s option))) = get contexts m line c s option
+  rows (step.Call c (guest.Tcp (tcp_call.Set s setting))) = set contexts m line c s setting
+  rows (step.Call c (guest.Tcp (tcp_call.Shutdown s how))) = shutdown contexts m line c s how
+  rows (step.Call c (guest.Udp (udp_call.Create family))) = udp_create contexts m line c family
+  rows (step.Call c (guest.Udp (udp_call.StartBind s n a))) = udp_start_bind contexts m line c s n a
+  rows (step.Call c (guest.Udp (udp_call.FinishBind s))) = udp_finish_bind contexts m line c s
+  rows (step.Call c (guest.Udp (udp_call.LocalAddress s))) = udp_local_address contexts m line c s
+  rows (step.Call c (guest.Udp (udp_call.RemoteAddress s))) = udp_remote_address contexts m line c s
+  rows (step.Call c (guest.Udp (udp_call.AddressFamily s))) = udp_family contexts m line c s
+  rows (step.Call c (guest.Udp (udp_call.Stream s remote))) = udp_stream contexts m line c s remote
+  rows (step.Call c (guest.Udp (udp_call.Receive incoming most))) = udp_receive contexts m line c incoming most
+  rows (step.Call c (guest.Udp (udp_call.CheckSend outgoing))) = udp_check_send contexts m line c outgoing
+  rows (step.Call c (guest.Udp (udp_call.Send outgoing ds))) = udp_send contexts m line c outgoing ds
+  rows (step.Call c (guest.Udp (udp_call.Get s option))) = udp_get contexts m line c s option
+  rows (step.Call c (guest.Udp (udp_call.Set s setting))) = udp_set contexts m line c s setting
+  rows (step.Call c (guest.Names (name_call.Resolve network name))) = resolve contexts m line c network name
+  rows (step.Call c (guest.Names (name_call.ResolveNext lookup))) = resolve_next contexts m line c lookup
+  rows (step.Call c (guest.Names (name_call.NetworkErrorCode e))) = network_error_code contexts m line c e
+  rows (step.Call c (guest.Stream (stream_call.Read input len))) = read contexts m line c input len
+  rows (step.Call c (guest.Stream (stream_call.CheckWrite output))) = check_write contexts m line c output
+  rows (step.Call c (guest.Stream (stream_call.Write output bytes))) = write contexts m line c output bytes
+  rows (step.Call c (guest.Stream (stream_call.Flush output))) = flush contexts m line c output
+  rows (step.Call c (guest.Pipe (pipe_call.In bytes))) = pipe_in contexts m line c bytes
+  rows (step.Call c (guest.Pipe (pipe_call.Out capacity))) = pipe_out contexts m line c capacity
+  rows (step.Call c (guest.Pipe (pipe_call.Contents output))) = pipe_contents contexts m line c output
+  rows (step.Call c (guest.Pipe pipe_call.Sink)) = sink contexts m line c
+  rows (step.Call c (guest.Pipe pipe_call.ClosedIn)) = closed_in contexts m line c
+  rows (step.Call c (guest.Pipe pipe_call.ClosedOut)) = closed_out contexts m line c
+  rows (step.Call c (guest.Stream (stream_call.Skip input len))) = skip contexts m line c input len
+  rows (step.Call c (guest.Stream (stream_call.WriteZeroes output len))) = write_zeroes contexts m line c output len
+  rows (step.Call c (guest.Stream (stream_call.Splice to from len))) = splice contexts m line c to from len
+  rows (step.Call c (guest.Stream (stream_call.BlockingRead input len))) = blocking_read contexts m line c input len
+  rows (step.Call c (guest.Stream (stream_call.BlockingSkip input len))) = blocking_skip contexts m line c input len
+  rows (step.Call c (guest.Stream (stream_call.BlockingWrite output bytes))) = blocking_write contexts m line c output bytes
+  rows (step.Call c (guest.Stream (stream_call.BlockingZeroes output len))) = blocking_zeroes contexts m line c output len
+  rows (step.Call c (guest.Stream (stream_call.BlockingFlush output))) = blocking_flush contexts m line c output
+  rows (step.Call c (guest.Stream (stream_call.BlockingSplice to from len))) = blocking_splice contexts m line c to from len
+  rows (step.Call c (guest.Pollable (pollable_call.Block p))) = block contexts m line c p
+  rows (step.Call c (guest.Pollable (pollable_call.PollList ps))) = poll_list contexts m line c ps
   rows (step.Cancel n) = cancel contexts m line n
-  rows (step.Call c (guest.Subscribe h)) = subscribe contexts m line c h
-  rows (step.Call c (guest.Ready p)) = ready contexts m line c p
-  rows (step.Call c (guest.Drop h)) = drop contexts m line c h
-  rows (step.Call c (guest.P3TcpCreate family)) = p3_create contexts m line c family
-  rows (step.Call c (guest.P3TcpLocalAddress s)) = p3_local_address contexts m line c s
-  rows (step.Call c (guest.P3TcpRemoteAddress s)) = p3_remote_address contexts m line c s
-  rows (step.Call c (guest.P3TcpIsListening s)) = p3_is_listening contexts m line c s
-  rows (step.Call c (guest.P3TcpAddressFamily s)) = p3_address_family contexts m line c s
-  rows (step.Call c (guest.P3TcpGet s option)) = p3_get contexts m line c s option
-  rows (step.Call c (guest.P3TcpSet s setting)) = p3_set contexts m line c s setting
-  rows (step.Call c (guest.P3UdpCreate family)) = p3_udp_create contexts m line c family
-  rows (step.Call c (guest.P3TcpBind s a)) = p3_tcp_bind contexts m line c s a
-  rows (step.Call c (guest.P3TcpConnect s a)) = p3_tcp_connect contexts m line c s a
-  rows (step.Call c (guest.P3UdpBind s a)) = p3_udp_bind contexts m line c s a
-  rows (step.Call c (guest.P3TcpListen s)) = p3_tcp_listen contexts m line c s
-  rows (step.Call c (guest.P3Accept s remaining)) = p3_accept contexts m line c s remaining
-  rows (step.Call c (guest.P3TcpReceive s)) = p3_receive contexts m line c s
-  rows (step.Call c (guest.P3TcpSend s)) = p3_send contexts m line c s
-  rows (step.Call c (guest.P3Read h len)) = p3_read contexts m line c h len
-  rows (step.Call c (guest.P3Write h bytes)) = p3_write contexts m line c h bytes
-  rows (step.Call c (guest.P3Result h)) = p3_result contexts m line c h
-  rows (step.Call c (guest.P3UdpConnect s a)) = p3_udp_connect contexts m line c s a
-  rows (step.Call c (guest.P3UdpSend s d)) = p3_udp_send contexts m line c s d
-  rows (step.Call c (guest.P3UdpReceive s)) = p3_udp_receive contexts m line c s
-  rows (step.Call c (guest.P3UdpDisconnect s)) = p3_udp_disconnect contexts m line c s
-  rows (step.Call c (guest.P3UdpLocalAddress s)) = p3_udp_local_address contexts m line c s
-  rows (step.Call c (guest.P3UdpRemoteAddress s)) = p3_udp_remote_address contexts m line c s
-  rows (step.Call c (guest.P3UdpAddressFamily s)) = p3_udp_family contexts m line c s
-  rows (step.Call c (guest.P3UdpGet s option)) = p3_udp_get contexts m line c s option
-  rows (step.Call c (guest.P3UdpSet s setting)) = p3_udp_set contexts m line c s setting
-  rows (step.Call c (guest.P3Resolve name)) = p3_resolve contexts m line c name
+  rows (step.Call c (guest.Pollable (pollable_call.Subscribe h))) = subscribe contexts m line c h
+  rows (step.Call c (guest.Pollable (pollable_call.Ready p))) = ready contexts m line c p
+  rows (step.Call c (guest.Pollable (pollable_call.Drop h))) = drop contexts m line c h
+  rows (step.Call c (guest.P3Tcp (p3_tcp_call.Create family))) = p3_create contexts m line c family
+  rows (step.Call c (guest.P3Tcp (p3_tcp_call.LocalAddress s))) = p3_local_address contexts m line c s
+  rows (step.Call c (guest.P3Tcp (p3_tcp_call.RemoteAddress s))) = p3_remote_address contexts m line c s
+  rows (step.Call c (guest.P3Tcp (p3_tcp_call.IsListening s))) = p3_is_listening contexts m line c s
+  rows (step.Call c (guest.P3Tcp (p3_tcp_call.AddressFamily s))) = p3_address_family contexts m line c s
+  rows (step.Call c (guest.P3Tcp (p3_tcp_call.Get s option))) = p3_get contexts m line c s option
+  rows (step.Call c (guest.P3Tcp (p3_tcp_call.Set s setting))) = p3_set contexts m line c s setting
+  rows (step.Call c (guest.P3Udp (p3_udp_call.Create family))) = p3_udp_create contexts m line c family
+  rows (step.Call c (guest.P3Tcp (p3_tcp_call.Bind s a))) = p3_tcp_bind contexts m line c s a
+  rows (step.Call c (guest.P3Tcp (p3_tcp_call.Connect s a))) = p3_tcp_connect contexts m line c s a
+  rows (step.Call c (guest.P3Udp (p3_udp_call.Bind s a))) = p3_udp_bind contexts m line c s a
+  rows (step.Call c (guest.P3Tcp (p3_tcp_call.Listen s))) = p3_tcp_listen contexts m line c s
+  rows (step.Call c (guest.P3Tcp (p3_tcp_call.Accept s remaining))) = p3_accept contexts m line c s remaining
+  rows (step.Call c (guest.P3Tcp (p3_tcp_call.Receive s))) = p3_receive contexts m line c s
+  rows (step.Call c (guest.P3Tcp (p3_tcp_call.Send s))) = p3_send contexts m line c s
+  rows (step.Call c (guest.P3Tcp (p3_tcp_call.Read h len))) = p3_read contexts m line c h len
+  rows (step.Call c (guest.P3Tcp (p3_tcp_call.Write h bytes))) = p3_write contexts m line c h bytes
+  rows (step.Call c (guest.P3Tcp (p3_tcp_call.Result h))) = p3_result contexts m line c h
+  rows (step.Call c (guest.P3Udp (p3_udp_call.Connect s a))) = p3_udp_connect contexts m line c s a
+  rows (step.Call c (guest.P3Udp (p3_udp_call.Send s d))) = p3_udp_send contexts m line c s d
+  rows (step.Call c (guest.P3Udp (p3_udp_call.Receive s))) = p3_udp_receive contexts m line c s
+  rows (step.Call c (guest.P3Udp (p3_udp_call.Disconnect s))) = p3_udp_disconnect contexts m line c s
+  rows (step.Call c (guest.P3Udp (p3_udp_call.LocalAddress s))) = p3_udp_local_address contexts m line c s
+  rows (step.Call c (guest.P3Udp (p3_udp_call.RemoteAddress s))) = p3_udp_remote_address contexts m line c s
+  rows (step.Call c (guest.P3Udp (p3_udp_call.AddressFamily s))) = p3_udp_family contexts m line c s
+  rows (step.Call c (guest.P3Udp (p3_udp_call.Get s option))) = p3_udp_get contexts m line c s option
+  rows (step.Call c (guest.P3Udp (p3_udp_call.Set s setting))) = p3_udp_set contexts m line c s setting
+  rows (step.Call c (guest.P3Names (p3_name_call.Resolve name))) = p3_resolve contexts m line c name
   rows step.Turn = turn m contexts line
   rows (step.Poll n) = poll contexts m line n
 
@@ -211,54 +220,54 @@ module _ (contexts : List WasiSocketsCtx) (m : Machine) (line : ℕ) where
   busy_is_quiet s es after w = of_answer s (λ es r after. r ≡ reply.Busy → Quiet m es after) (λ e. (refl, refl)) (λ es r after row e. absurd (no_row s es r after row e)) es reply.Busy after w refl
 
 misses : (m : Machine) (s : Step) → MissesHandle m s → MayMiss s
-misses m (step.Call ctx guest.Network) h = h
-misses m (step.Call ctx (guest.TcpCreate _)) h = h
-misses m (step.Call ctx (guest.UdpCreate _)) h = h
-misses m (step.Call ctx (guest.P3UdpCreate _)) h = h
-misses m (step.Call ctx (guest.P3TcpCreate _)) h = h
-misses m (step.Call ctx (guest.P3Resolve _)) h = h
-misses m (step.Call ctx (guest.PipeIn _)) h = h
-misses m (step.Call ctx (guest.PipeOut _)) h = h
-misses m (step.Call ctx guest.Sink) h = h
-misses m (step.Call ctx guest.ClosedIn) h = h
-misses m (step.Call ctx guest.ClosedOut) h = h
+misses m (step.Call ctx (guest.Names name_call.Network)) h = h
+misses m (step.Call ctx (guest.Tcp (tcp_call.Create _))) h = h
+misses m (step.Call ctx (guest.Udp (udp_call.Create _))) h = h
+misses m (step.Call ctx (guest.P3Udp (p3_udp_call.Create _))) h = h
+misses m (step.Call ctx (guest.P3Tcp (p3_tcp_call.Create _))) h = h
+misses m (step.Call ctx (guest.P3Names (p3_name_call.Resolve _))) h = h
+misses m (step.Call ctx (guest.Pipe (pipe_call.In _))) h = h
+misses m (step.Call ctx (guest.Pipe (pipe_call.Out _))) h = h
+misses m (step.Call ctx (guest.Pipe pipe_call.Sink)) h = h
+misses m (step.Call ctx (guest.Pipe pipe_call.ClosedIn)) h = h
+misses m (step.Call ctx (guest.Pipe pipe_call.ClosedOut)) h = h
 misses m (step.Cancel n) h = h
 misses m step.Turn h = h
 misses m _ h = tt
 
 waits : (m : Machine) (line n : ℕ) (s : Step) → MayStand m line s n → MayWait line s n
-waits m line n (step.Call ctx (guest.TcpStartBind socket _ a)) h = h
-waits m line n (step.Call ctx (guest.TcpStartListen socket)) h = h
-waits m line n (step.Call ctx (guest.UdpCreate _)) h = h
-waits m line n (step.Call ctx (guest.P3TcpBind _ _)) h = h
-waits m line n (step.Call ctx (guest.P3TcpConnect _ _)) h = h
-waits m line n (step.Call ctx (guest.P3UdpCreate _)) h = h
-waits m line n (step.Call ctx (guest.P3UdpBind _ _)) h = h
-waits m line n (step.Call ctx (guest.P3UdpConnect _ _)) h = h
-waits m line n (step.Call ctx (guest.P3TcpListen _)) h = h
-waits m line n (step.Call ctx (guest.P3UdpSend _ _)) h = h
-waits m line n (step.Call ctx (guest.P3UdpReceive _)) h = h
-waits m line n (step.Call ctx (guest.P3Resolve _)) h = h
-waits m line n (step.Call ctx (guest.UdpStartBind socket _ a)) h = h
-waits m line n (step.Call ctx (guest.UdpStream socket remote)) h = h
-waits m line n (step.Call ctx (guest.Drop handle)) h = h.1
-waits m line n (step.Call ctx (guest.BlockingRead input len)) h = h
-waits m line n (step.Call ctx (guest.BlockingSkip input len)) h = h
-waits m line n (step.Call ctx (guest.BlockingWrite output bytes)) h = h
-waits m line n (step.Call ctx (guest.BlockingZeroes output len)) h = h
-waits m line n (step.Call ctx (guest.BlockingFlush output)) h = h
-waits m line n (step.Call ctx (guest.BlockingSplice to from len)) h = h
-waits m line n (step.Call ctx (guest.Block pollable)) h = h
-waits m line n (step.Call ctx (guest.PollList pollables)) h = h
+waits m line n (step.Call ctx (guest.Tcp (tcp_call.StartBind socket _ a))) h = h
+waits m line n (step.Call ctx (guest.Tcp (tcp_call.StartListen socket))) h = h
+waits m line n (step.Call ctx (guest.Udp (udp_call.Create _))) h = h
+waits m line n (step.Call ctx (guest.P3Tcp (p3_tcp_call.Bind _ _))) h = h
+waits m line n (step.Call ctx (guest.P3Tcp (p3_tcp_call.Connect _ _))) h = h
+waits m line n (step.Call ctx (guest.P3Udp (p3_udp_call.Create _))) h = h
+waits m line n (step.Call ctx (guest.P3Udp (p3_udp_call.Bind _ _))) h = h
+waits m line n (step.Call ctx (guest.P3Udp (p3_udp_call.Connect _ _))) h = h
+waits m line n (step.Call ctx (guest.P3Tcp (p3_tcp_call.Listen _))) h = h
+waits m line n (step.Call ctx (guest.P3Udp (p3_udp_call.Send _ _))) h = h
+waits m line n (step.Call ctx (guest.P3Udp (p3_udp_call.Receive _))) h = h
+waits m line n (step.Call ctx (guest.P3Names (p3_name_call.Resolve _))) h = h
+waits m line n (step.Call ctx (guest.Udp (udp_call.StartBind socket _ a))) h = h
+waits m line n (step.Call ctx (guest.Udp (udp_call.Stream socket remote))) h = h
+waits m line n (step.Call ctx (guest.Pollable (pollable_call.Drop handle))) h = h.1
+waits m line n (step.Call ctx (guest.Stream (stream_call.BlockingRead input len))) h = h
+waits m line n (step.Call ctx (guest.Stream (stream_call.BlockingSkip input len))) h = h
+waits m line n (step.Call ctx (guest.Stream (stream_call.BlockingWrite output bytes))) h = h
+waits m line n (step.Call ctx (guest.Stream (stream_call.BlockingZeroes output len))) h = h
+waits m line n (step.Call ctx (guest.Stream (stream_call.BlockingFlush output))) h = h
+waits m line n (step.Call ctx (guest.Stream (stream_call.BlockingSplice to from len))) h = h
+waits m line n (step.Call ctx (guest.Pollable (pollable_call.Block pollable))) h = h
+waits m line n (step.Call ctx (guest.Pollable (pollable_call.PollList pollables))) h = h
 waits m line n (step.Poll call) h = h
 waits m line n _ h = absurd h
 
 -- a call is pending under this number: the exclusive call, or one beside others
 pub pends_under : (s : Step) (n : ℕ) (after : Machine) → PendsUnder s n after → IsSomeAnd after.store.standing (λ call. call.ids.line ≡ n) ⊎ IsSome (beside_of after.store n)
-pends_under (step.Call c (guest.P3TcpConnect socket a)) n after h = inr h
-pends_under (step.Call c (guest.P3Resolve name)) n after h = inr h
-pends_under (step.Call c (guest.P3UdpSend socket d)) n after h = inr h
-pends_under (step.Call c (guest.P3UdpReceive socket)) n after h = inr h
+pends_under (step.Call c (guest.P3Tcp (p3_tcp_call.Connect socket a))) n after h = inr h
+pends_under (step.Call c (guest.P3Names (p3_name_call.Resolve name))) n after h = inr h
+pends_under (step.Call c (guest.P3Udp (p3_udp_call.Send socket d))) n after h = inr h
+pends_under (step.Call c (guest.P3Udp (p3_udp_call.Receive socket))) n after h = inr h
 pends_under (step.Poll k) n after h = h
 pends_under _ n after h = inl h
 
@@ -344,9 +353,9 @@ no_failure line s words stream _ h f = f
 -- a wait for several pollables, where what they watch is
 pub missing_left : (m : Machine) (s : Step) (es : List Entry) (after : Machine) → (IsPoll s → PendingHandleIsLive m) → LaterPartIsThere m s → LeavesMissing m s es after → (es ≡ []) × (after ≡ left_missing m s)
 missing_left m (step.Poll n) es after live there h = h (live tt)
-missing_left m (step.Call c (guest.Splice to from len)) es after live there h = h there
-missing_left m (step.Call c (guest.BlockingSplice to from len)) es after live there h = h there
-missing_left m (step.Call c (guest.PollList ps)) es after live there h = h there
+missing_left m (step.Call c (guest.Stream (stream_call.Splice to from len))) es after live there h = h there
+missing_left m (step.Call c (guest.Stream (stream_call.BlockingSplice to from len))) es after live there h = h there
+missing_left m (step.Call c (guest.Pollable (pollable_call.PollList ps))) es after live there h = h there
 missing_left m _ es after live there h = h
 
 pub trap_kinds : (contexts : List WasiSocketsCtx) (m : Machine) (line : ℕ) (s : Step) (es : List Entry) (kind : TrapKind) (after : Machine) → Traps contexts m line s es kind after → (kind ≡ trap.NoSuchHandle) ⊎ ((kind ≡ trap.HasChildren) ⊎ ((kind ≡ trap.Full) ⊎ ((kind ≡ trap.NotPermitted) ⊎ ((kind ≡ trap.StreamsAlive) ⊎ ((kind ≡ trap.Capacity) ⊎ ((kind ≡ trap.TooLong) ⊎ (kind ≡ trap.EmptyList)))))))
@@ -361,15 +370,15 @@ trap_kinds contexts m line s es trap.EmptyList after h = inr (inr (inr (inr (inr
 trap_kinds contexts m line s es _ after h = absurd h
 
 pub quiet_never : (contexts : List WasiSocketsCtx) (m : Machine) (line : ℕ) (s : Step) (es : List Entry) (w : CodeWord) (after : Machine) → IsQuiet s → Answered contexts m line s es (reply.Err w) after → ⊥
-quiet_never contexts m line (step.Call c (guest.TcpIsListening handle)) es w after q h = may_be contexts m line (step.Call c (guest.TcpIsListening handle)) es (reply.Err w) after h
-quiet_never contexts m line (step.Call c (guest.TcpAddressFamily handle)) es w after q h = may_be contexts m line (step.Call c (guest.TcpAddressFamily handle)) es (reply.Err w) after h
-quiet_never contexts m line (step.Call c (guest.UdpAddressFamily handle)) es w after q h = may_be contexts m line (step.Call c (guest.UdpAddressFamily handle)) es (reply.Err w) after h
+quiet_never contexts m line (step.Call c (guest.Tcp (tcp_call.IsListening handle))) es w after q h = may_be contexts m line (step.Call c (guest.Tcp (tcp_call.IsListening handle))) es (reply.Err w) after h
+quiet_never contexts m line (step.Call c (guest.Tcp (tcp_call.AddressFamily handle))) es w after q h = may_be contexts m line (step.Call c (guest.Tcp (tcp_call.AddressFamily handle))) es (reply.Err w) after h
+quiet_never contexts m line (step.Call c (guest.Udp (udp_call.AddressFamily handle))) es w after q h = may_be contexts m line (step.Call c (guest.Udp (udp_call.AddressFamily handle))) es (reply.Err w) after h
 quiet_never contexts m line _ es w after q h = absurd q
 
 pub quiet_stays : (contexts : List WasiSocketsCtx) (m : Machine) (line : ℕ) (s : Step) (es : List Entry) (r : Reply) (after : Machine) → IsQuiet s → Answered contexts m line s es r after → Quiet m es after
-quiet_stays contexts m line (step.Call c (guest.TcpIsListening handle)) es r after q = of_answer contexts m line (step.Call c (guest.TcpIsListening handle)) (λ es r after. Quiet m es after) (refl, refl) (λ es r after row. row.0) es r after
-quiet_stays contexts m line (step.Call c (guest.TcpAddressFamily handle)) es r after q = of_answer contexts m line (step.Call c (guest.TcpAddressFamily handle)) (λ es r after. Quiet m es after) (refl, refl) (λ es r after row. row.0) es r after
-quiet_stays contexts m line (step.Call c (guest.UdpAddressFamily handle)) es r after q = of_answer contexts m line (step.Call c (guest.UdpAddressFamily handle)) (λ es r after. Quiet m es after) (refl, refl) (λ es r after row. row.0) es r after
+quiet_stays contexts m line (step.Call c (guest.Tcp (tcp_call.IsListening handle))) es r after q = of_answer contexts m line (step.Call c (guest.Tcp (tcp_call.IsListening handle))) (λ es r after. Quiet m es after) (refl, refl) (λ es r after row. row.0) es r after
+quiet_stays contexts m line (step.Call c (guest.Tcp (tcp_call.AddressFamily handle))) es r after q = of_answer contexts m line (step.Call c (guest.Tcp (tcp_call.AddressFamily handle))) (λ es r after. Quiet m es after) (refl, refl) (λ es r after row. row.0) es r after
+quiet_stays contexts m line (step.Call c (guest.Udp (udp_call.AddressFamily handle))) es r after q = of_answer contexts m line (step.Call c (guest.Udp (udp_call.AddressFamily handle))) (λ es r after. Quiet m es after) (refl, refl) (λ es r after row. row.0) es r after
 quiet_stays contexts m line _ es r after q = absurd q
 
 pub two_values : (m : Machine) (line pollable : ℕ) (es : List Entry) (fields : List Field) → Looks m line pollable es fields → (fields ≡ truth_fields true) ⊎ (fields ≡ truth_fields false)

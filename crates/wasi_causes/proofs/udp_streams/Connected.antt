@@ -6,7 +6,7 @@ use Rattle.wasi_addr.specs.declared.address.SocketAddrUse.TheVariants as usages
 use Rattle.wasi_world.specs.Operation.{Remote, peer_front, remote_told}
 use Rattle.wasi_world.specs.declared.call.Call.TheVariants as call
 use Rattle.wasi_world.specs.declared.call.Told.TheVariants as told
-use Rattle.wasi_records.specs.declared.udp.OpenUdp.{OpenUdp}
+use Rattle.udp_records.specs.declared.udp.OpenUdp.{OpenUdp}
 use Rattle.wasi_causes.proofs.tables.Meets.{Meets, Rows, asks, ends}
 use Rattle.wasi_causes.specs.StreamCauses.{connect_entries, its_connect, peer_entry}
 

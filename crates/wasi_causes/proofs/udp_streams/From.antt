@@ -11,21 +11,22 @@ use Rattle.wasi_udp.specs.Receive.{IsReceive, receive_asks, wanting}
 use Rattle.wasi_udp.specs.Shape.{Socket}
 use Rattle.wasi_udp.specs.Socket.{bound_asks}
 use Rattle.host_udp.specs.DatagramCalls.{receive_datagrams_at}
-use Rattle.wasi_records.specs.Stops.{code_stop}
+use Rattle.record_common.specs.Stops.{code_stop}
 use Rattle.host_store.specs.Machine.{incoming_at}
-use Rattle.wasi_records.specs.Names.{next_name}
-use Rattle.wasi_records.specs.Receiving.{all_received, fetch_asks, fetch_names, poll_receive_asks, receive_after, receive_all, receive_datagrams_asks, receive_left, receive_next_asks, received_told, taken}
+use Rattle.record_common.specs.Names.{next_name}
+use Rattle.udp_records.specs.Receiving.{all_received, fetch_asks, fetch_names, poll_receive_asks, receive_after, receive_all, receive_datagrams_asks, receive_left, receive_next_asks, received_told, taken}
 use Rattle.wasi_records.specs.Records.{open_at, udp2_at}
-use Rattle.wasi_records.specs.declared.datagrams.Incoming.{Incoming}
-use Rattle.wasi_records.specs.declared.datagrams.Receiving.{Receiving}
-use Rattle.wasi_records.specs.declared.udp.OpenUdp.{OpenUdp}
-use Rattle.wasi_records.specs.declared.udp.UdpRecord.{UdpRecord}
+use Rattle.udp_records.specs.declared.datagrams.Incoming.{Incoming}
+use Rattle.udp_records.specs.declared.datagrams.Receiving.{Receiving}
+use Rattle.udp_records.specs.declared.udp.OpenUdp.{OpenUdp}
+use Rattle.udp_records.specs.declared.udp.UdpRecord.{UdpRecord}
 use Rattle.wasi_p2.specs.Udp.{receive_datagrams_on}
 use Rattle.wasi_machine.specs.Machine.{asks_while, reply_of}
 use Rattle.wasi_steps.specs.Reply.{datagram_values}
 use Rattle.wasi_steps.specs.declared.reply.Field.{Field}
 use Rattle.wasi_steps.specs.declared.reply.Reply.TheVariants as reply
 use Rattle.wasi_steps.specs.declared.guest_call.GuestCall.TheVariants as guest
+use Rattle.wasi_steps.specs.declared.guest_call.UdpCall.TheVariants as udp_call
 use Rattle.wasi_steps.specs.declared.step.Step.TheVariants as step
 use Rattle.wasi_walks.specs.Answered.{Answered}
 use Rattle.wasi_walks.proofs.claims.Lines.{BaseBetween}
@@ -132,15 +133,15 @@ module _ (m : Machine) (wants : AllWanted m.store.records) (line ctx handle most
   by_handle es None names = tt
   by_handle es (Some place) names = allows_then Anything (λ fs done. Told done.0) (λ fs done. Told done.0) es (receive_datagrams_at m.store (first_ids line) place most (open_at m.store.records place)) _ (by_socket es place names (open_at m.store.records place) refl) (λ fs done k. k)
 
-  by_standing : (contexts : List WasiSocketsCtx) (es : List Entry) (standing : Option Standing) → Allows Anything (λ fs done. Says done.0) es (asks_while contexts m line (step.Call ctx (guest.UdpReceive handle most)) standing)
+  by_standing : (contexts : List WasiSocketsCtx) (es : List Entry) (standing : Option Standing) → Allows Anything (λ fs done. Says done.0) es (asks_while contexts m line (step.Call ctx (guest.Udp (udp_call.Receive handle most))) standing)
   by_standing contexts es (Some s) = tt
   by_standing contexts es None = allows_then Anything (λ fs done. Told done.0) (λ fs done. Says done.0) es (receive_datagrams_on m (first_ids line) most (incoming_at m handle)) _ (by_handle es (incoming_at m handle) refl) (λ fs done k. k)
 
-  pub receives_from : (contexts : List WasiSocketsCtx) (entries : List Entry) (r : Reply) (after : Machine) → Answered contexts m line (step.Call ctx (guest.UdpReceive handle most)) entries r after → Says r
-  receives_from contexts entries r after w = reached Anything (λ fs done. Says done.0) [] (machine_asks contexts m line (step.Call ctx (guest.UdpReceive handle most))) entries (Give (r, after)) (by_standing contexts [] m.store.standing) w
+  pub receives_from : (contexts : List WasiSocketsCtx) (entries : List Entry) (r : Reply) (after : Machine) → Answered contexts m line (step.Call ctx (guest.Udp (udp_call.Receive handle most))) entries r after → Says r
+  receives_from contexts entries r after w = reached Anything (λ fs done. Says done.0) [] (machine_asks contexts m line (step.Call ctx (guest.Udp (udp_call.Receive handle most)))) entries (Give (r, after)) (by_standing contexts [] m.store.standing) w
 
 -- in a run
 pub runs_receive_from : (contexts : List WasiSocketsCtx) (steps : List Step) (log : List Entry) (replies : List Reply) (m : Machine) → Left (run contexts [] first_state 1 steps) log (Give (replies, m)) → (line ctx handle most : ℕ) (fields : List Field) (entries : List Entry) (after : Machine)
-    → Answered contexts m line (step.Call ctx (guest.UdpReceive handle most)) entries (reply.Ok fields) after → OfIncoming m (incoming_at m handle) (λ place o inc. ReceivedFrom inc.remote fields)
+    → Answered contexts m line (step.Call ctx (guest.Udp (udp_call.Receive handle most))) entries (reply.Ok fields) after → OfIncoming m (incoming_at m handle) (λ place o inc. ReceivedFrom inc.remote fields)
 runs_receive_from contexts steps log replies m w line ctx handle most fields entries after a =
     receives_from m (run_ends contexts Anything (λ line fs now. BaseBetween line now × AllWanted now.store.records) (λ line s now fs i. line_wanted contexts line s now fs i) first_wanted steps log replies m w).1.1 line ctx handle most contexts entries (reply.Ok fields) after a

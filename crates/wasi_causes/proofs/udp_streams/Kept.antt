@@ -6,15 +6,17 @@ use Rattle.wasi_world.specs.Operation.{remote_told}
 use Rattle.wasi_addr.specs.declared.address.SocketAddrUse.TheVariants as usages
 use Rattle.wasi_world.specs.declared.call.Call.TheVariants as call
 use Rattle.wasi_world.specs.declared.call.Told.TheVariants as told
-use Rattle.wasi_records.specs.Records.{open_at, open_of}
-use Rattle.wasi_records.specs.declared.datagrams.Receiving.TheVariants as receiving
-use Rattle.wasi_records.specs.declared.datagrams.Sending.TheVariants as sending
-use Rattle.wasi_records.specs.declared.udp.OpenUdp.{OpenUdp}
-use Rattle.wasi_records.specs.declared.udp.UdpRecord.TheVariants as udp
+use Rattle.wasi_records.specs.Records.{open_at}
+use Rattle.udp_records.specs.Udp.{open_of}
+use Rattle.udp_records.specs.declared.datagrams.Receiving.TheVariants as receiving
+use Rattle.udp_records.specs.declared.datagrams.Sending.TheVariants as sending
+use Rattle.udp_records.specs.declared.udp.OpenUdp.{OpenUdp}
+use Rattle.udp_records.specs.declared.udp.UdpRecord.TheVariants as udp
 use Rattle.host_store.specs.Store.{with_open_udp}
 use Rattle.wasi_steps.specs.declared.reply.Field.{Field}
 use Rattle.wasi_steps.specs.declared.reply.Reply.TheVariants as reply
 use Rattle.wasi_steps.specs.declared.guest_call.GuestCall.TheVariants as guest
+use Rattle.wasi_steps.specs.declared.guest_call.UdpCall.TheVariants as udp_call
 use Rattle.wasi_steps.specs.declared.step.Step.TheVariants as step
 use Rattle.wasi_walks.proofs.walks.Udp.{open_is}
 use Rattle.wasi_records.specs.Records.{udp2_at}
@@ -67,8 +69,8 @@ module _ (m : Machine) (own : OpId) (handle place : ℕ) (o : OpenUdp) (remote :
   made_new entries after k = by_begin k.before entries k.now after (ap (λ (x : Machine). open_at x.store.records place) k.left ∙ put_there k.now) k.asked k.begin
 
 -- of the step
-pub streams_keep : (contexts : List WasiSocketsCtx) (m : Machine) (line ctx handle : ℕ) (remote : Option IpSocketAddress) (fields : List Field) (entries : List Entry) (after : Machine) → Answered contexts m line (step.Call ctx (guest.UdpStream handle remote)) entries (reply.Ok fields) after
+pub streams_keep : (contexts : List WasiSocketsCtx) (m : Machine) (line ctx handle : ℕ) (remote : Option IpSocketAddress) (fields : List Field) (entries : List Entry) (after : Machine) → Answered contexts m line (step.Call ctx (guest.Udp (udp_call.Stream handle remote))) entries (reply.Ok fields) after
     → OfUdp m handle (λ place o. NewStreamsKeep m (own_of line) handle place o remote entries after)
 streams_keep contexts m line ctx handle remote fields entries after w =
-    let made : OfUdp m handle (λ place o. MakesStreams m (own_of line) handle place o remote entries after) = (its_own contexts m line (step.Call ctx (guest.UdpStream handle remote)) entries (reply.Ok fields) after w (λ e. cc)).1.1.1.1 in
+    let made : OfUdp m handle (λ place o. MakesStreams m (own_of line) handle place o remote entries after) = (its_own contexts m line (step.Call ctx (guest.Udp (udp_call.Stream handle remote))) entries (reply.Ok fields) after w (λ e. cc)).1.1.1.1 in
     record { place = made.place; found = made.found; names = made.names; at = made.at; holds = made_new m (own_of line) handle made.place made.found remote made.at entries after made.holds }

@@ -15,20 +15,21 @@ use Rattle.wasi_world.proofs.Allowed.{allows_at, allows_weaker, reached}
 use Rattle.wasi_udp.specs.Receive.{receive_asks, receive_start, wanting}
 use Rattle.wasi_udp.specs.Shape.{Socket}
 use Rattle.host_udp.specs.DatagramCalls.{begins_receive, receive_datagrams_at, with_receive}
-use Rattle.wasi_records.specs.Stops.{code_stop}
+use Rattle.record_common.specs.Stops.{code_stop}
 use Rattle.host_store.specs.Machine.{incoming_at}
-use Rattle.wasi_records.specs.Names.{next_name}
-use Rattle.wasi_records.specs.Receiving.{all_received, fetch_asks, fetch_names, poll_receive_asks, receive_after, receive_all, receive_datagrams_asks, receive_left, receive_next_asks, received_told, taken}
+use Rattle.record_common.specs.Names.{next_name}
+use Rattle.udp_records.specs.Receiving.{all_received, fetch_asks, fetch_names, poll_receive_asks, receive_after, receive_all, receive_datagrams_asks, receive_left, receive_next_asks, received_told, taken}
 use Rattle.wasi_records.specs.Records.{open_at}
-use Rattle.wasi_records.specs.declared.datagrams.Incoming.{Incoming}
-use Rattle.wasi_records.specs.declared.datagrams.Receiving.{Receiving}
+use Rattle.udp_records.specs.declared.datagrams.Incoming.{Incoming}
+use Rattle.udp_records.specs.declared.datagrams.Receiving.{Receiving}
 use Rattle.wasi_records.specs.declared.records.Record.{Record}
-use Rattle.wasi_records.specs.declared.udp.OpenUdp.{OpenUdp}
+use Rattle.udp_records.specs.declared.udp.OpenUdp.{OpenUdp}
 use Rattle.wasi_p2.specs.Udp.{receive_datagrams_on}
 use Rattle.wasi_machine.specs.Machine.{reply_of}
 use Rattle.wasi_steps.specs.Reply.{datagram_values}
 use Rattle.wasi_steps.specs.declared.reply.Reply.TheVariants as reply
 use Rattle.wasi_steps.specs.declared.guest_call.GuestCall.TheVariants as guest
+use Rattle.wasi_steps.specs.declared.guest_call.UdpCall.TheVariants as udp_call
 use Rattle.wasi_steps.specs.declared.step.Step.TheVariants as step
 use Rattle.wasi_walks.proofs.Gives.{allows_ask}
 use Rattle.wasi_walks.proofs.Lists.{has_front, has_last}
@@ -406,14 +407,14 @@ module _ (m : Machine) (line ctx handle most : ℕ) where
   abbrev ReplyRow : List Entry → Reply × Machine → Type 0
   ReplyRow es done = Says es done.0 done.1.store
 
-  by_standing : (contexts : List WasiSocketsCtx) (standing : Option Standing) → Allows Its ReplyRow [] (asks_while contexts m line (step.Call ctx (guest.UdpReceive handle most)) standing)
+  by_standing : (contexts : List WasiSocketsCtx) (standing : Option Standing) → Allows Its ReplyRow [] (asks_while contexts m line (step.Call ctx (guest.Udp (udp_call.Receive handle most))) standing)
   by_standing contexts (Some s) = tt
   by_standing contexts None = allows_then Its MachineRow ReplyRow [] (receive_datagrams_on m (first_ids line) most (incoming_at m handle)) _ (by_handle (incoming_at m handle) refl) (λ fs done k. k)
 
   -- what it asks
-  pub receives_ask : (contexts : List WasiSocketsCtx) (before : List Entry) (e : Entry) (rest : List Entry) (r : Reply) (after : Machine) → Answered contexts m line (step.Call ctx (guest.UdpReceive handle most)) (before ++ e ∷ rest) r after → Its before e.op e.call
-  receives_ask contexts before e rest r after w = allows_at Its ReplyRow [] (machine_asks contexts m line (step.Call ctx (guest.UdpReceive handle most))) (Give (r, after)) before e rest (by_standing contexts m.store.standing) w
+  pub receives_ask : (contexts : List WasiSocketsCtx) (before : List Entry) (e : Entry) (rest : List Entry) (r : Reply) (after : Machine) → Answered contexts m line (step.Call ctx (guest.Udp (udp_call.Receive handle most))) (before ++ e ∷ rest) r after → Its before e.op e.call
+  receives_ask contexts before e rest r after w = allows_at Its ReplyRow [] (machine_asks contexts m line (step.Call ctx (guest.Udp (udp_call.Receive handle most)))) (Give (r, after)) before e rest (by_standing contexts m.store.standing) w
 
   -- and what came
-  pub receives_came : (contexts : List WasiSocketsCtx) (entries : List Entry) (r : Reply) (after : Machine) → Answered contexts m line (step.Call ctx (guest.UdpReceive handle most)) entries r after → Says entries r after.store
-  receives_came contexts entries r after w = reached Its ReplyRow [] (machine_asks contexts m line (step.Call ctx (guest.UdpReceive handle most))) entries (Give (r, after)) (by_standing contexts m.store.standing) w
+  pub receives_came : (contexts : List WasiSocketsCtx) (entries : List Entry) (r : Reply) (after : Machine) → Answered contexts m line (step.Call ctx (guest.Udp (udp_call.Receive handle most))) entries r after → Says entries r after.store
+  receives_came contexts entries r after w = reached Its ReplyRow [] (machine_asks contexts m line (step.Call ctx (guest.Udp (udp_call.Receive handle most)))) entries (Give (r, after)) (by_standing contexts m.store.standing) w

@@ -11,19 +11,20 @@ use Rattle.wasi_world.specs.declared.ids.Ids.{Ids}
 use Rattle.wasi_udp.specs.Receive.{receive_start}
 use Rattle.wasi_udp.specs.Shape.{Socket}
 use Rattle.host_udp.specs.DatagramCalls.{receive_datagrams_at, with_receive}
-use Rattle.wasi_records.specs.Stops.{code_stop}
+use Rattle.record_common.specs.Stops.{code_stop}
 use Rattle.host_store.specs.Machine.{incoming_at}
-use Rattle.wasi_records.specs.Names.{next_name}
-use Rattle.wasi_records.specs.Receiving.{all_received, fetch_asks, fetch_names, is_receiving, poll_receive_asks, receive_after, receive_all, receive_datagrams_asks, receive_left, receive_next_asks, receives, taken_from, with_receiving}
+use Rattle.record_common.specs.Names.{next_name}
+use Rattle.udp_records.specs.Receiving.{all_received, fetch_asks, fetch_names, is_receiving, poll_receive_asks, receive_after, receive_all, receive_datagrams_asks, receive_left, receive_next_asks, receives, taken_from, with_receiving}
 use Rattle.wasi_records.specs.Records.{open_at}
-use Rattle.wasi_records.specs.declared.datagrams.Incoming.{Incoming}
-use Rattle.wasi_records.specs.declared.datagrams.Receiving.{Receiving}
+use Rattle.udp_records.specs.declared.datagrams.Incoming.{Incoming}
+use Rattle.udp_records.specs.declared.datagrams.Receiving.{Receiving}
 use Rattle.wasi_jobs.specs.declared.job.HostJob.TheVariants.{Receive}
-use Rattle.wasi_records.specs.declared.udp.OpenUdp.{OpenUdp}
+use Rattle.udp_records.specs.declared.udp.OpenUdp.{OpenUdp}
 use Rattle.wasi_p2.specs.Udp.{receive_datagrams_on}
 use Rattle.wasi_machine.specs.Machine.{reply_of}
 use Rattle.wasi_steps.specs.Reply.{datagram_values}
 use Rattle.wasi_steps.specs.declared.guest_call.GuestCall.TheVariants as guest
+use Rattle.wasi_steps.specs.declared.guest_call.UdpCall.TheVariants as udp_call
 use Rattle.wasi_steps.specs.declared.step.Step.TheVariants as step
 use Rattle.wasi_walks.specs.Answered.{incoming_of_open, open_in}
 use Rattle.wasi_causes.proofs.operations.DatagramPolls.{ReceiveRow as PollRow, receive_ends}
@@ -124,7 +125,7 @@ module _ (contexts : List WasiSocketsCtx) (m : Machine) (line c handle : ℕ) wh
   module _ (most : ℕ) where
     -- the table of the step
     abbrev ReceiveRow : Rows (Result (List IncomingDatagram) Stop × Machine)
-    ReceiveRow = Replied contexts m line (step.Call c (guest.UdpReceive handle most)) (reply_of datagram_values)
+    ReceiveRow = Replied contexts m line (step.Call c (guest.Udp (udp_call.Receive handle most))) (reply_of datagram_values)
 
     module _ (place : ℕ) (o : OpenUdp) (names : incoming_at m handle ≡ Some place) (at : open_at m.store.records place ≡ Some o) where
       -- the same of what the socket gives
@@ -151,7 +152,7 @@ module _ (contexts : List WasiSocketsCtx) (m : Machine) (line c handle : ℕ) wh
       by_incoming (Some inc) has = onto _ (widen (received_so inc has) (all_taken m place (first_ids line) o inc (min most 16) 65536))
 
     -- the step
-    pub udp_receive : Meets (Says contexts m line (step.Call c (guest.UdpReceive handle most))) [] (bind (receive_datagrams_on m (first_ids line) most (incoming_at m handle)) (λ done. Give (reply_of datagram_values done.0, done.1)))
+    pub udp_receive : Meets (Says contexts m line (step.Call c (guest.Udp (udp_call.Receive handle most)))) [] (bind (receive_datagrams_on m (first_ids line) most (incoming_at m handle)) (λ done. Give (reply_of datagram_values done.0, done.1)))
     udp_receive =
         onto _ (on_open_record m (incoming_at m handle) (receive_datagrams_on m (first_ids line) most) (λ place o. receive_datagrams_at m.store (first_ids line) place most o) refl (λ place. refl) (λ place. refl)
         (λ none. (tt, (ap incoming_of_open none, (refl, refl)))) (λ place o names at. onto _ (by_incoming place o names at o.incoming refl)))

@@ -1,12 +1,13 @@
 -- How a call finds its UDP socket by a number, and what is kept of one that stays.
 use Rattle.wasi_causes.proofs.Words.{Asks, Bool, Entry, Err, Give, List, Machine, NoSuchHandle, None, Option, Records, Result, Some, Stop, Trap, [], ap, bind, gives_any}
 use Rattle.wasi_causes.proofs.Words.{⊤, false, no_such_handle, not, refl, subst, sym, true, with_job, with_store, ℕ, ◌&&◌, ◌∙◌, ◌≡◌}
-use Rattle.wasi_records.specs.Records.{open_at, open_of, udp2_at}
+use Rattle.wasi_records.specs.Records.{open_at, udp2_at}
+use Rattle.udp_records.specs.Udp.{open_of}
 use Rattle.host_store.specs.Store.{with_open_udp}
 use Rattle.wasi_jobs.specs.declared.job.HostJob.{HostJob}
 use Rattle.wasi_records.specs.declared.records.Record.{Record}
-use Rattle.wasi_records.specs.declared.udp.OpenUdp.{OpenUdp}
-use Rattle.wasi_records.specs.declared.udp.UdpRecord.TheVariants as udp
+use Rattle.udp_records.specs.declared.udp.OpenUdp.{OpenUdp}
+use Rattle.udp_records.specs.declared.udp.UdpRecord.TheVariants as udp
 use Rattle.wasi_walks.proofs.walks.Udp.{open_is}
 use Rattle.wasi_walks.specs.Answered.{open_in}
 use Rattle.wasi_causes.proofs.tables.Meets.{Meets, Rows, ends, onto}

@@ -16,26 +16,27 @@ use Rattle.wasi_world.specs.declared.ids.Ids.{Ids}
 use Rattle.wasi_udp.specs.Send.{at_remote, is_sendable, send_asks, send_first, send_left, send_start, send_to, where_to}
 use Rattle.wasi_udp.specs.Shape.{Socket}
 use Rattle.wasi_udp.specs.declared.send.Destination.{Destination}
-use Rattle.wasi_records.specs.Datagrams.{all_sent, count_told, is_sending, one_sent, poll_send_asks, send_after, send_all, send_datagrams_asks, send_ended, send_next_asks, send_one_asks, send_permitted, send_some}
+use Rattle.udp_records.specs.Datagrams.{all_sent, count_told, is_sending, one_sent, poll_send_asks, send_after, send_all, send_datagrams_asks, send_ended, send_next_asks, send_one_asks, send_permitted, send_some}
 use Rattle.host_udp.specs.DatagramCalls.{begins_send, datagrams_sent, send_datagrams_at}
-use Rattle.wasi_records.specs.Stops.{Code}
+use Rattle.record_common.specs.Stops.{Code}
 use Rattle.wasi_jobs.specs.declared.job.HostJob.TheVariants.{Datagram}
 use Rattle.wasi_causes.proofs.udp_streams.Routes.{job_there}
 use Rattle.wasi_causes.specs.Turns.{datagram_of, outgoing_asks_by, sends_by}
 use Rattle.host_store.specs.Machine.{outgoing_at}
-use Rattle.wasi_records.specs.Names.{names_after, next_name}
+use Rattle.record_common.specs.Names.{names_after, next_name}
 use Rattle.wasi_records.specs.Records.{open_at}
-use Rattle.wasi_records.specs.declared.udp.OpenUdp.{OpenUdp}
+use Rattle.udp_records.specs.declared.udp.OpenUdp.{OpenUdp}
 use Rattle.wasi_p2.specs.Udp.{send_datagrams_on}
 use Rattle.wasi_machine.specs.Machine.{reply_of}
 use Rattle.wasi_steps.specs.declared.reply.Reply.TheVariants as reply
 use Rattle.wasi_steps.specs.declared.guest_call.GuestCall.TheVariants as guest
+use Rattle.wasi_steps.specs.declared.guest_call.UdpCall.TheVariants as udp_call
 use Rattle.wasi_steps.specs.declared.step.Step.TheVariants as step
 use Rattle.wasi_walks.proofs.Gives.{allows_ask}
 use Rattle.wasi_world.proofs.Allowed.{allows_at, reached}
 use Rattle.wasi_causes.specs.Datagrams.{OfOutgoing}
-use Rattle.wasi_records.specs.declared.datagrams.Outgoing.{Outgoing}
-use Rattle.wasi_records.specs.declared.datagrams.Sending.{Sending}
+use Rattle.udp_records.specs.declared.datagrams.Outgoing.{Outgoing}
+use Rattle.udp_records.specs.declared.datagrams.Sending.{Sending}
 use Rattle.wasi_walks.proofs.Lists.{has_front, has_last}
 use Rattle.wasi_walks.specs.Answered.{Answered, EndsPending}
 use Rattle.wasi_walks.specs.Licence.{IsItem}
@@ -412,14 +413,14 @@ module _ (m : Machine) (line ctx handle : ℕ) (ds : List OutgoingDatagram) wher
   abbrev ReplyRow : List Entry → Reply × Machine → Type 0
   ReplyRow es done = Says es done.0 done.1.store
 
-  by_standing : (contexts : List WasiSocketsCtx) (standing : Option Standing) → Allows Its ReplyRow [] (asks_while contexts m line (step.Call ctx (guest.UdpSend handle ds)) standing)
+  by_standing : (contexts : List WasiSocketsCtx) (standing : Option Standing) → Allows Its ReplyRow [] (asks_while contexts m line (step.Call ctx (guest.Udp (udp_call.Send handle ds))) standing)
   by_standing contexts (Some s) = tt
   by_standing contexts None = allows_then Its MachineRow ReplyRow [] (send_datagrams_on m (first_ids line) ds (outgoing_at m handle)) _ (by_handle (outgoing_at m handle) refl) (λ fs done k. k)
 
   -- what it asks
-  pub sends_ask : (contexts : List WasiSocketsCtx) (before : List Entry) (e : Entry) (rest : List Entry) (r : Reply) (after : Machine) → Answered contexts m line (step.Call ctx (guest.UdpSend handle ds)) (before ++ e ∷ rest) r after → Its before e.op e.call
-  sends_ask contexts before e rest r after w = allows_at Its ReplyRow [] (machine_asks contexts m line (step.Call ctx (guest.UdpSend handle ds))) (Give (r, after)) before e rest (by_standing contexts m.store.standing) w
+  pub sends_ask : (contexts : List WasiSocketsCtx) (before : List Entry) (e : Entry) (rest : List Entry) (r : Reply) (after : Machine) → Answered contexts m line (step.Call ctx (guest.Udp (udp_call.Send handle ds))) (before ++ e ∷ rest) r after → Its before e.op e.call
+  sends_ask contexts before e rest r after w = allows_at Its ReplyRow [] (machine_asks contexts m line (step.Call ctx (guest.Udp (udp_call.Send handle ds)))) (Give (r, after)) before e rest (by_standing contexts m.store.standing) w
 
   -- and what was sent
-  pub sends_count : (contexts : List WasiSocketsCtx) (entries : List Entry) (r : Reply) (after : Machine) → Answered contexts m line (step.Call ctx (guest.UdpSend handle ds)) entries r after → Says entries r after.store
-  sends_count contexts entries r after w = reached Its ReplyRow [] (machine_asks contexts m line (step.Call ctx (guest.UdpSend handle ds))) entries (Give (r, after)) (by_standing contexts m.store.standing) w
+  pub sends_count : (contexts : List WasiSocketsCtx) (entries : List Entry) (r : Reply) (after : Machine) → Answered contexts m line (step.Call ctx (guest.Udp (udp_call.Send handle ds))) entries r after → Says entries r after.store
+  sends_count contexts entries r after w = reached Its ReplyRow [] (machine_asks contexts m line (step.Call ctx (guest.Udp (udp_call.Send handle ds)))) entries (Give (r, after)) (by_standing contexts m.store.standing) w

@@ -14,13 +14,13 @@ use Rattle.wasi_world.specs.Operation.{Send}
 use Rattle.wasi_udp.specs.Send.{send_first, send_left, send_operation, send_start, send_to}
 use Rattle.wasi_udp.specs.Shape.{Socket}
 use Rattle.wasi_udp.specs.declared.send.Destination.{Destination}
-use Rattle.wasi_records.specs.Datagrams.{all_sent, one_sent, poll_send_asks, send_after, send_all, send_datagrams_asks}
-use Rattle.wasi_records.specs.Datagrams.{send_next_asks, send_one_asks}
+use Rattle.udp_records.specs.Datagrams.{all_sent, one_sent, poll_send_asks, send_after, send_all, send_datagrams_asks}
+use Rattle.udp_records.specs.Datagrams.{send_next_asks, send_one_asks}
 use Rattle.wasi_records.specs.Records.{open_at}
-use Rattle.wasi_records.specs.Names.{names_after, next_name}
-use Rattle.wasi_records.specs.declared.datagrams.Outgoing.{Outgoing}
-use Rattle.wasi_records.specs.declared.datagrams.Sending.{Sending}
-use Rattle.wasi_records.specs.declared.udp.OpenUdp.{OpenUdp}
+use Rattle.record_common.specs.Names.{names_after, next_name}
+use Rattle.udp_records.specs.declared.datagrams.Outgoing.{Outgoing}
+use Rattle.udp_records.specs.declared.datagrams.Sending.{Sending}
+use Rattle.udp_records.specs.declared.udp.OpenUdp.{OpenUdp}
 use Rattle.host_udp.specs.DatagramCalls.{send_datagrams_at}
 use Rattle.host_store.specs.Machine.{outgoing_at}
 use Rattle.wasi_p2.specs.Udp.{send_datagrams_on}
@@ -28,6 +28,7 @@ use Rattle.wasi_machine.specs.Machine.{reply_of}
 use Rattle.wasi_steps.specs.Reply.{number_fields}
 use Rattle.wasi_steps.specs.declared.reply.Reply.TheVariants as reply
 use Rattle.wasi_steps.specs.declared.guest_call.GuestCall.TheVariants as guest
+use Rattle.wasi_steps.specs.declared.guest_call.UdpCall.TheVariants as udp_call
 use Rattle.wasi_steps.specs.declared.step.Step.TheVariants as step
 use Rattle.wasi_walks.specs.Waiting.{EndsWith}
 use Rattle.wasi_causes.proofs.sockets.Udp.{ItsBound, ItsFree, UdpBoundRow, udp_bounds}
@@ -94,9 +95,9 @@ module _ (m : Machine) (own : OpId) (place : ℕ) (o : OpenUdp) (out : Outgoing)
 
 module _ (contexts : List WasiSocketsCtx) (m : Machine) (line ctx handle : ℕ) where
   pub send_refusals : (ds : List OutgoingDatagram) (es : List Entry) (word : CodeWord) (after : Machine)
-      → Answered contexts m line (step.Call ctx (guest.UdpSend handle ds)) es (reply.Err word) after
+      → Answered contexts m line (step.Call ctx (guest.Udp (udp_call.Send handle ds))) es (reply.Err word) after
       → OfOutgoing m (outgoing_at m handle) (λ place o out. RefusesSend o.inner.family o.inner.remote out.sending ds es word)
-  send_refusals ds es word after w = of_outgoing _ _ (λ place o out k. refusal m (next_name (first_ids line)) place o out ds es word after k) (its_own contexts m line (step.Call ctx (guest.UdpSend handle ds)) es (reply.Err word) after w (λ e. cc)).1.1.0
+  send_refusals ds es word after w = of_outgoing _ _ (λ place o out k. refusal m (next_name (first_ids line)) place o out ds es word after k) (its_own contexts m line (step.Call ctx (guest.Udp (udp_call.Send handle ds))) es (reply.Err word) after w (λ e. cc)).1.1.0
 
   -- == and a datagram that can't be sent is refused
   module _ (place : ℕ) (o : OpenUdp) (out : Outgoing) (d : OutgoingDatagram) (more : List OutgoingDatagram) (c : ErrorCode) (cannot : IsUnsendable o.inner.family o.inner.remote d c) where
@@ -160,7 +161,7 @@ module _ (contexts : List WasiSocketsCtx) (m : Machine) (line ctx handle : ℕ) 
         → open_at m.store.records place ≡ Some o → o.outgoing ≡ Some out → out.sending ≡ Sending.Nothing
         → length ds ≤ out.permit
         → (es : List Entry) (r : Reply) (after : Machine)
-        → Answered contexts m line (step.Call ctx (guest.UdpSend handle ds)) es r after → r ≡ reply.Err (word_of_code c)
+        → Answered contexts m line (step.Call ctx (guest.Udp (udp_call.Send handle ds))) es r after → r ≡ reply.Err (word_of_code c)
     refused_by_line free names at has none few es r after w = met asked w
       where
         by_socket : Meets StopRow [] (send_datagrams_at m.store (first_ids line) place ds (Some o))
@@ -169,8 +170,8 @@ module _ (contexts : List WasiSocketsCtx) (m : Machine) (line ctx handle : ℕ) 
         by_handle : Meets StopRow [] (send_datagrams_on m (first_ids line) ds (Some place))
         by_handle = onto _ (subst (λ (f : Option OpenUdp). Meets StopRow [] (send_datagrams_at m.store (first_ids line) place ds f)) (sym at) by_socket)
 
-        by_line : Meets (λ fs done. done.0 ≡ reply.Err (word_of_code c)) [] (asks_while contexts m line (step.Call ctx (guest.UdpSend handle ds)) None)
+        by_line : Meets (λ fs done. done.0 ≡ reply.Err (word_of_code c)) [] (asks_while contexts m line (step.Call ctx (guest.Udp (udp_call.Send handle ds))) None)
         by_line = onto _ (widen told_reply (subst (λ (n : Option ℕ). Meets StopRow [] (send_datagrams_on m (first_ids line) ds n)) (sym names) by_handle))
 
-        asked : Meets (λ fs done. done.0 ≡ reply.Err (word_of_code c)) [] (machine_asks contexts m line (step.Call ctx (guest.UdpSend handle ds)))
-        asked = subst (λ (s : Option Standing). Meets (λ fs done. done.0 ≡ reply.Err (word_of_code c)) [] (asks_while contexts m line (step.Call ctx (guest.UdpSend handle ds)) s)) (sym free) by_line
+        asked : Meets (λ fs done. done.0 ≡ reply.Err (word_of_code c)) [] (machine_asks contexts m line (step.Call ctx (guest.Udp (udp_call.Send handle ds))))
+        asked = subst (λ (s : Option Standing). Meets (λ fs done. done.0 ≡ reply.Err (word_of_code c)) [] (asks_while contexts m line (step.Call ctx (guest.Udp (udp_call.Send handle ds))) s)) (sym free) by_line

@@ -8,17 +8,18 @@ use Rattle.wasi_world.specs.declared.ids.Ids.{Ids}
 use Rattle.wasi_udp.specs.Send.{IsSend, at_remote, send_asks, send_start}
 use Rattle.wasi_udp.specs.Shape.{Socket}
 use Rattle.host_udp.specs.DatagramCalls.{begins_send, check_send_at, check_send_by, datagrams_sent, send_datagrams_at}
-use Rattle.wasi_records.specs.Datagrams.{all_sent, count_told, one_sent, poll_send_asks, send_after, send_all, send_datagrams_asks, send_ended, send_next_asks, send_one_asks, send_some, is_sending, sends}
-use Rattle.wasi_records.specs.Stops.{code_stop}
+use Rattle.udp_records.specs.Datagrams.{all_sent, count_told, one_sent, poll_send_asks, send_after, send_all, send_datagrams_asks, send_ended, send_next_asks, send_one_asks, send_some, is_sending, sends}
+use Rattle.record_common.specs.Stops.{code_stop}
 use Rattle.host_store.specs.Machine.{outgoing_at}
-use Rattle.wasi_records.specs.Names.{names_after, next_name}
+use Rattle.record_common.specs.Names.{names_after, next_name}
 use Rattle.wasi_records.specs.Records.{open_at}
-use Rattle.wasi_records.specs.declared.datagrams.Outgoing.{Outgoing}
-use Rattle.wasi_records.specs.declared.datagrams.Sending.{Sending}
+use Rattle.udp_records.specs.declared.datagrams.Outgoing.{Outgoing}
+use Rattle.udp_records.specs.declared.datagrams.Sending.{Sending}
 use Rattle.wasi_jobs.specs.declared.job.HostJob.TheVariants.{Datagram}
-use Rattle.wasi_records.specs.declared.udp.OpenUdp.{OpenUdp}
+use Rattle.udp_records.specs.declared.udp.OpenUdp.{OpenUdp}
 use Rattle.wasi_p2.specs.Udp.{check_send_on, send_datagrams_on}
 use Rattle.wasi_steps.specs.declared.guest_call.GuestCall.TheVariants as guest
+use Rattle.wasi_steps.specs.declared.guest_call.UdpCall.TheVariants as udp_call
 use Rattle.wasi_steps.specs.declared.step.Step.TheVariants as step
 use Rattle.wasi_walks.proofs.fits.UdpFits.{begun_send}
 use Rattle.wasi_walks.specs.Answered.{open_in, outgoing_in, outgoing_of_open}
@@ -161,7 +162,7 @@ module _ (m : Machine) (place : ℕ) (ids : Ids) (o : OpenUdp) (out : Outgoing) 
 module _ (contexts : List WasiSocketsCtx) (m : Machine) (line c handle : ℕ) where
   -- == the permit
   abbrev CheckRow : Rows (Result ℕ Stop × Machine)
-  CheckRow = Replied contexts m line (step.Call c (guest.UdpCheckSend handle)) value_reply
+  CheckRow = Replied contexts m line (step.Call c (guest.Udp (udp_call.CheckSend handle))) value_reply
 
   -- the stream of the handle is that of its socket
   no_outgoing : (place : ℕ) (o : OpenUdp) → outgoing_at m handle ≡ Some place → open_at m.store.records place ≡ Some o → (out : Option Outgoing) → o.outgoing ≡ out → outgoing_in m handle ≡ out
@@ -173,7 +174,7 @@ module _ (contexts : List WasiSocketsCtx) (m : Machine) (line c handle : ℕ) wh
   checks place o names at (Some out) has = (refl, ((tt, tt), record { place = place; found = o; stream = out; names = names; at = at; has = has; holds = record { gives = refl; left = refl } }))
 
   -- the step
-  pub udp_check_send : let done = check_send_on m (outgoing_at m handle) in Meets (Says contexts m line (step.Call c (guest.UdpCheckSend handle))) [] (Give (value_reply done.0, done.1))
+  pub udp_check_send : let done = check_send_on m (outgoing_at m handle) in Meets (Says contexts m line (step.Call c (guest.Udp (udp_call.CheckSend handle)))) [] (Give (value_reply done.0, done.1))
   udp_check_send =
       on_open m (outgoing_at m handle) (λ n. let given = check_send_on m n in Give (value_reply given.0, given.1)) (λ place o. let given = with_store m (check_send_at m.store place o) in Give (value_reply given.0, given.1)) (λ place. refl)
       (λ none. ends (refl, (ap outgoing_of_open none, (refl, refl)))) (λ none place. ends (refl, (ap outgoing_of_open none, (refl, refl)))) (λ place o names at. ends (checks place o names at o.outgoing refl))
@@ -182,7 +183,7 @@ module _ (contexts : List WasiSocketsCtx) (m : Machine) (line c handle : ℕ) wh
   module _ (ds : List OutgoingDatagram) where
     -- the table of the step
     abbrev SendRow : Rows (Result ℕ Stop × Machine)
-    SendRow = Replied contexts m line (step.Call c (guest.UdpSend handle ds)) value_reply
+    SendRow = Replied contexts m line (step.Call c (guest.Udp (udp_call.Send handle ds))) value_reply
 
     -- more are to be sent than are permitted
     abbrev TooMany : Type 0
@@ -243,7 +244,7 @@ module _ (contexts : List WasiSocketsCtx) (m : Machine) (line c handle : ℕ) wh
       by_stream (Some out) has = by_list out has ds refl
 
     -- the step
-    pub udp_send : Meets (Says contexts m line (step.Call c (guest.UdpSend handle ds))) [] (bind (send_datagrams_on m (first_ids line) ds (outgoing_at m handle)) (λ done. Give (value_reply done.0, done.1)))
+    pub udp_send : Meets (Says contexts m line (step.Call c (guest.Udp (udp_call.Send handle ds)))) [] (bind (send_datagrams_on m (first_ids line) ds (outgoing_at m handle)) (λ done. Give (value_reply done.0, done.1)))
     udp_send =
         onto _ (on_open_record m (outgoing_at m handle) (send_datagrams_on m (first_ids line) ds) (λ place o. send_datagrams_at m.store (first_ids line) place ds o) refl (λ place. refl) (λ place. refl)
         (λ none. missing (ap outgoing_of_open none)) (λ place o names at. onto _ (by_stream place o names at o.outgoing refl)))

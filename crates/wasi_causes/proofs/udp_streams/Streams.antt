@@ -7,15 +7,16 @@ use Rattle.wasi_world.specs.declared.outcome.TrapKind.TheVariants.{StreamsAlive}
 use Rattle.wasi_udp.specs.Connect.{is_connectable}
 use Rattle.wasi_udp.specs.Socket.{after_peer, disconnect_in, is_connected}
 use Rattle.host_udp.specs.DatagramCalls.{start_streams_at, start_streams_by, streams_so}
-use Rattle.wasi_records.specs.Datagrams.{begin_streams_asks, disconnect_streams, disconnected, has_streams, streams_to, streams_where, udp_connect_begun, udp_connect_ended, with_streams}
-use Rattle.wasi_records.specs.Udp.{with_udp_inner}
-use Rattle.wasi_records.specs.Records.{open_at, open_of, udp2_at}
-use Rattle.wasi_records.specs.declared.udp.UdpRecord.TheVariants as udp
+use Rattle.udp_records.specs.Datagrams.{begin_streams_asks, disconnect_streams, disconnected, has_streams, streams_to, streams_where, udp_connect_begun, udp_connect_ended, with_streams}
+use Rattle.udp_records.specs.Udp.{with_udp_inner}
+use Rattle.wasi_records.specs.Records.{open_at, udp2_at}
+use Rattle.udp_records.specs.Udp.{open_of}
+use Rattle.udp_records.specs.declared.udp.UdpRecord.TheVariants as udp
 use Rattle.wasi_walks.proofs.walks.Udp.{open_is}
 use Rattle.host_udp.specs.UdpCreates.{udp_side_at}
 use Rattle.host_udp.specs.UdpCalls.{udp_call_answered}
 use Rattle.host_store.specs.Store.{with_open_udp}
-use Rattle.wasi_records.specs.declared.udp.OpenUdp.{OpenUdp}
+use Rattle.udp_records.specs.declared.udp.OpenUdp.{OpenUdp}
 use Rattle.wasi_p2.specs.Udp.{udp_stream_asks, udp_stream_on}
 use Rattle.wasi_machine.specs.Machine.{answer_reply_of}
 use Rattle.wasi_steps.specs.Reply.{pair_values}
@@ -23,6 +24,7 @@ use Rattle.wasi_steps.specs.declared.reply.CodeWord.TheVariants as word
 use Rattle.wasi_steps.specs.declared.reply.Reply.{Reply}
 use Rattle.wasi_steps.specs.declared.reply.Reply.TheVariants as reply
 use Rattle.wasi_steps.specs.declared.guest_call.GuestCall.TheVariants as guest
+use Rattle.wasi_steps.specs.declared.guest_call.UdpCall.TheVariants as udp_call
 use Rattle.wasi_steps.specs.declared.step.Step.TheVariants as step
 use Rattle.wasi_walks.specs.Answered.{open_udp_at}
 use Rattle.wasi_walks.specs.Waiting.{ConnectUnchecked}
@@ -143,7 +145,7 @@ module _ (m : Machine) (line handle place : ℕ) (o : OpenUdp) (n : NamesUdp m h
 module _ (contexts : List WasiSocketsCtx) (m : Machine) (line c handle : ℕ) (remote : Option IpSocketAddress) where
   -- the table of the step
   abbrev StreamRow : Rows (Result (Answer (ℕ × ℕ)) Stop × Machine)
-  StreamRow = Replied contexts m line (step.Call c (guest.UdpStream handle remote)) (answer_reply_of pair_values line)
+  StreamRow = Replied contexts m line (step.Call c (guest.Udp (udp_call.Stream handle remote))) (answer_reply_of pair_values line)
 
   -- nothing is pending then
   free_so : (after : Machine) → after.store.standing ≡ m.store.standing → m.store.standing ≡ None → PendingHandleIsLive after
@@ -193,7 +195,7 @@ module _ (contexts : List WasiSocketsCtx) (m : Machine) (line c handle : ℕ) (r
   missing none = ((apart (λ e. cc) (none_has _ (open_udp_at m handle) none), free_so m refl), (none, (refl, refl)))
 
   -- the step
-  pub udp_stream : Meets (Says contexts m line (step.Call c (guest.UdpStream handle remote))) [] (bind (udp_stream_asks m (first_ids line) handle remote) (λ done. Give (answer_reply_of pair_values line done.0, done.1)))
+  pub udp_stream : Meets (Says contexts m line (step.Call c (guest.Udp (udp_call.Stream handle remote)))) [] (bind (udp_stream_asks m (first_ids line) handle remote) (λ done. Give (answer_reply_of pair_values line done.0, done.1)))
   udp_stream =
       onto _ (on_udp m handle (udp_stream_on m (first_ids line) handle remote) (λ place found. bind (start_streams_at m.store (first_ids line) place handle remote found) (λ done. streams_so (own_of line) handle m done)) (λ place. refl)
       (λ none. ends (missing none)) (λ none place. chain {Mid = λ es done. Meets StreamRow es (streams_so (own_of line) handle m done)} (ends (ends (missing none))) (λ es done k. k)) (λ place o n. by_streams place o n (has_streams o) refl))

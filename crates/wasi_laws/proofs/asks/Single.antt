@@ -8,6 +8,7 @@ use Rattle.socket_common.specs.Rounds.{is_going, some_left}
 use Rattle.host_store.specs.declared.kind.Kind.TheVariants.{Listen3, Result3, Tcp3}
 use Rattle.std.specs.Prelude.{take}
 use Rattle.wasi_steps.specs.declared.guest_call.GuestCall.{GuestCall}
+use Rattle.wasi_steps.specs.declared.guest_call.P3TcpCall.{P3TcpCall}
 use Rattle.wasi_tcp.specs.Halves.{write_asks}
 use Rattle.wasi_tcp.specs.declared.halves.TcpSendStream.{TcpSendStream}
 use Rattle.wasi_walks.proofs.claims.Law.{begins_on_names}
@@ -37,9 +38,9 @@ use Rattle.host_store.specs.declared.beside.BesideCall.TheVariants.{Resolve}
 use Rattle.wasi_world.specs.Typed.{told_names}
 use Rattle.host_store.specs.Kinds.{udp_kind}
 use Rattle.wasi_records.specs.declared.records.Record.{Record}
-use Rattle.wasi_records.specs.declared.udp.OpenUdp.{OpenUdp}
-use Rattle.wasi_records.specs.declared.udp.UdpRecord.{UdpRecord}
-use Rattle.wasi_records.specs.Udp.{udp_side, with_udp_inner}
+use Rattle.udp_records.specs.declared.udp.OpenUdp.{OpenUdp}
+use Rattle.udp_records.specs.declared.udp.UdpRecord.{UdpRecord}
+use Rattle.udp_records.specs.Udp.{udp_side, with_udp_inner}
 use Rattle.host_udp.specs.UdpCreates.{udp_side_at}
 use Rattle.wasi_udp.specs.Create.{Create, create_cancel_asks, new_create, after_create as udp_after_create}
 use Rattle.wasi_udp.specs.Shape.{Socket as UdpShape}
@@ -92,7 +93,7 @@ module _ (contexts : List WasiSocketsCtx) (line : ℕ) (origin : Step) where
     pub turns : (es : List Entry) (h : Here) (place : ℕ) (r : TcpRecord) (s : Streams) (job : Job) (now : Job → WriteState) → Found h place r → r.streams ≡ Some s → GoesOn s.writer job now → Grounds h → Inv es h
         → Allows P (λ fs ended. Inv fs (put h place (with_writer r s (now (job_after job.write.who ended))))) es (poll_asks job.write)
     -- a write of 0.3, which offers its bytes once
-    pub offers : (es : List Entry) (h : Here) (ctx handle place : ℕ) (given : List ℕ) (r : TcpRecord) (s : Streams) (half : TcpSendStream) (permit : ℕ) → origin ≡ Step.Call ctx (GuestCall.P3Write handle given) → Found h place r → r.streams ≡ Some s → s.writer ≡ WriteState.Ready half permit → h.own ≡ Unused → Grounds h → Inv es h
+    pub offers : (es : List Entry) (h : Here) (ctx handle place : ℕ) (given : List ℕ) (r : TcpRecord) (s : Streams) (half : TcpSendStream) (permit : ℕ) → origin ≡ Step.Call ctx (GuestCall.P3Tcp (P3TcpCall.Write handle given)) → Found h place r → r.streams ≡ Some s → s.writer ≡ WriteState.Ready half permit → h.own ≡ Unused → Grounds h → Inv es h
         → (let c : Call = call.Write half.side (length (take 4294967295 given)) in P es (own_of line) c × ((told : Told) → Inv (es ++ entry (own_of line) c told ∷ []) (record h { own = Used })))
 
   -- it is kept where a write begins in a call of streams, of whatever line

@@ -22,6 +22,7 @@ use Rattle.wasi_laws.proofs.Words.{Allows, Bool, End, Entry, Err, ErrorCode, Gue
 use Rattle.wasi_laws.specs.Limits.{AreOf}
 use Rattle.wasi_laws.proofs.limits.Law.{runs_within}
 use Rattle.wasi_laws.proofs.shapes.Shape.{some_same}
+use Rattle.wasi_steps.specs.declared.guest_call.TcpCall.{TcpCall}
 
 -- == one more limit
 kept_is : (limits : List Limit) (l : Limit) (name most : ℕ) → limit_in (limits ++ l ∷ []) name ≡ Some most → (limit_in limits name ≡ Some most) ⊎ ((l.context ≡ name) × (l.most ≡ most))
@@ -77,16 +78,16 @@ module _ (contexts : List WasiSocketsCtx) where
           let tree = new_asks (own_of line) (context_at contexts c) family in
           allows_then Anything (λ fs made. ⊤) (λ fs done. Kept done) es tree (made_to same_told code_told Tcp2 now (own_of line)) (whatever (λ made. ⊤) (λ made. tt) es tree) (λ fs made k. made_kept fs made)
 
-      create_kept : (family : SocketAddressFamily) (es : List Entry) → Allows Anything (λ fs done. Kept done) es (machine_asks contexts m line (Step.Call c (GuestCall.TcpCreate family)))
+      create_kept : (family : SocketAddressFamily) (es : List Entry) → Allows Anything (λ fs done. Kept done) es (machine_asks contexts m line (Step.Call c (GuestCall.Tcp (TcpCall.Create family))))
       create_kept family es = by_standing m.store.standing
         where
-          by_standing : (o : Option Standing) → Allows Anything (λ fs done. Kept done) es (asks_while contexts m line (Step.Call c (GuestCall.TcpCreate family)) o)
+          by_standing : (o : Option Standing) → Allows Anything (λ fs done. Kept done) es (asks_while contexts m line (Step.Call c (GuestCall.Tcp (TcpCall.Create family))) o)
           by_standing None = allows_then Anything (λ fs done. Kept done) (λ fs done. Kept done) es (create_asks m (own_of line) (context_at contexts c) family) _ (created_kept family es) (λ fs done k. k)
           by_standing (Some s) = i
 
 -- == any other line
 abbrev CreatesNone : Step → Type 0
-CreatesNone (Step.Call c (GuestCall.TcpCreate family)) = ⊥
+CreatesNone (Step.Call c (GuestCall.Tcp (TcpCall.Create family))) = ⊥
 CreatesNone _ = ⊤
 
 module _ (contexts : List WasiSocketsCtx) (line : ℕ) (origin : Step) (none : CreatesNone origin) (limits : List Limit) where
@@ -138,7 +139,7 @@ module _ (contexts : List WasiSocketsCtx) where
       (λ fs done same name most e. i name most (ap (λ (limits : List Limit). limit_in limits name) (sym same) ∙ e)) es (machine_asks contexts m line s) (stay_same contexts line s none m.store.limits m es refl)
 
   line_kept : (line : ℕ) (s : Step) → IfSome (context_of s) (λ n. n < length contexts) → (m : Machine) (es : List Entry) → AreKept contexts m.store → Allows Anything (λ fs done. AreKept contexts done.1.store) es (machine_asks contexts m line s)
-  line_kept line (Step.Call c (GuestCall.TcpCreate family)) may m es i = create_kept contexts m line c may i family es
+  line_kept line (Step.Call c (GuestCall.Tcp (TcpCall.Create family))) may m es i = create_kept contexts m line c may i family es
   line_kept line s may m es i = others_kept line s tt m es i
 
   run_kept : (todo : List Step) → AreOf (length contexts) todo → (replies : List Reply) (line : ℕ) (m : Machine) (es : List Entry) → AreKept contexts m.store → Allows Anything (λ fs done. AreKept contexts done.1.store) es (run contexts replies m line todo)

@@ -4,10 +4,10 @@ use Rattle.wasi_tcp.specs.Bounds.{held}
 use Rattle.wasi_tcp.specs.declared.halves.TcpSendStream.{TcpSendStream}
 use Rattle.wasi_tcp.specs.declared.writer.WriteState.TheVariants as writing
 use Rattle.wasi_tcp.specs.declared.listener.Accepting.TheVariants as accepting
-use Rattle.wasi_records.specs.Ends.{ends_of}
-use Rattle.wasi_records.specs.Used.{held_in}
-use Rattle.wasi_records.specs.declared.udp.UdpRecord.{UdpRecord}
-use Rattle.wasi_records.specs.Udp.{udp_create_left}
+use Rattle.tcp_records.specs.Ends.{ends_of}
+use Rattle.tcp_records.specs.Used.{held_in}
+use Rattle.udp_records.specs.declared.udp.UdpRecord.{UdpRecord}
+use Rattle.udp_records.specs.Udp.{udp_create_left}
 use Rattle.wasi_udp.specs.Create.{Create}
 use Rattle.host_store.specs.Limits.{left}
 use Rattle.wasi_walks.proofs.fits.Law.{whatever}

@@ -4,7 +4,8 @@ use Rattle.std.proofs.lemmas.Bool.{eqb-true}
 use Rattle.wasi_records.proofs.Sums.{used_at, used_more, used_put}
 use Rattle.wasi_records.specs.Numbered.{item_at}
 use Rattle.wasi_records.specs.Records.{tcp2_at, tcp2_of, tcp2_put, tcp2_pushed}
-use Rattle.wasi_records.specs.Used.{held_in, used, used_by, used_in}
+use Rattle.tcp_records.specs.Used.{held_in, used_by}
+use Rattle.wasi_records.specs.Used.{used, used_in}
 use Rattle.wasi_records.specs.declared.records.Record.{Record}
 use Rattle.wasi_records.specs.declared.records.Record.TheVariants.{Tcp}
 use Rattle.host_store.specs.Limits.{left, limit_in, limit_or, with_limit, with_limit_by}

@@ -9,6 +9,7 @@ use Rattle.host_store.specs.declared.kind.Kind.TheVariants as kind
 use Rattle.host_store.specs.declared.kind.PlainOutput.{PlainOutput}
 use Rattle.wasi_steps.specs.declared.reply.Reply.TheVariants as reply
 use Rattle.wasi_steps.specs.declared.guest_call.GuestCall.TheVariants as guest
+use Rattle.wasi_steps.specs.declared.guest_call.StreamCall.TheVariants as stream_call
 use Rattle.wasi_steps.specs.declared.step.Step.TheVariants as step
 use Rattle.wasi_laws.proofs.Words.{Answered, Entry, Err, ErrorValue, Give, IsSomeAnd, Kind, Left, List, Machine, Named, None, Ok, OpId, Option, Over, Quiet, Reply, Result, Some, Standing, Starts, StreamStop, Streams, TcpRecord, Unused, WasiSocketsCtx, WriteState, WritesTo, [], ap, append-nil, asks_while, bind, check_write_asks, inl, is_full, make_asks, number_fields, output_at, own_of, permit_reply, quiet_if, quiet_then, reached, record_in, refl, side_at, side_in, side_of, stream_at, subst, sym, taken_in, with_store, writer_in, writer_of, writer_of_record, writer_side, ℕ, ⊤, ◌++◌, ◌<◌, ◌∙◌, ◌≡◌}
 use Rattle.wasi_laws.proofs.shapes.Shape.{Lives, HasStreams, StreamsShape, of_writer}
@@ -84,7 +85,7 @@ module _ (contexts : List WasiSocketsCtx) (side : OpId) (taken permitted : List 
   abbrev IsBusy : List Entry → Reply × Machine → Type 0
   IsBusy es done = done.0 ≡ reply.Busy
 
-  all_by : (standing : Option Standing) (entries : List Entry) (next : Machine) → Left (asks_while contexts m line (step.Call ctx (guest.CheckWrite output)) standing) entries (Give (reply.Ok (number_fields n), next)) → taken ++ taken_in side entries ≡ permitted
+  all_by : (standing : Option Standing) (entries : List Entry) (next : Machine) → Left (asks_while contexts m line (step.Call ctx (guest.Stream (stream_call.CheckWrite output))) standing) entries (Give (reply.Ok (number_fields n), next)) → taken ++ taken_in side entries ≡ permitted
   all_by None entries next walk =
       let asks = bind (check_asks m (own_of line) output) (λ done. Give (permit_reply done.0, done.1)) in
       let Q = Replies side taken permitted m (own_of line) output line h shaped named in
@@ -94,5 +95,5 @@ module _ (contexts : List WasiSocketsCtx) (side : OpId) (taken permitted : List 
   all_by (Some c) entries next walk =
       let e : reply.Ok (number_fields n) ≡ reply.Busy = reached (λ es o c. ⊤) IsBusy [] (Give (reply.Busy, m)) entries (Give (reply.Ok (number_fields n), next)) refl walk in absurd (cc)
 
-  pub all_taken : (entries : List Entry) (next : Machine) → Answered contexts m line (step.Call ctx (guest.CheckWrite output)) entries (reply.Ok (number_fields n)) next → taken ++ taken_in side entries ≡ permitted
+  pub all_taken : (entries : List Entry) (next : Machine) → Answered contexts m line (step.Call ctx (guest.Stream (stream_call.CheckWrite output))) entries (reply.Ok (number_fields n)) next → taken ++ taken_in side entries ≡ permitted
   all_taken entries next walk = all_by m.store.standing entries next walk

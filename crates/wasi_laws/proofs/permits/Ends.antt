@@ -22,14 +22,14 @@ use Rattle.wasi_tcp.specs.declared.writer.WriteState.TheVariants as writing
 use Rattle.wasi_tcp.specs.Halves.{polled_answer}
 use Rattle.wasi_tcp.specs.Taken.{IsFrontOf, taken_by, taken_in, took}
 use Rattle.wasi_records.specs.declared.records.Record.{Record}
-use Rattle.wasi_records.specs.declared.slot.StreamResult.{StreamResult}
-use Rattle.wasi_records.specs.declared.slot.StreamResult.TheVariants.{Dropped}
-use Rattle.wasi_records.specs.declared.socket.Streams.{Streams}
-use Rattle.wasi_records.specs.declared.socket.TcpRecord.{TcpRecord}
-use Rattle.wasi_records.specs.Ends.{ends_of, half_of, look_to_write, send_half, send_in, some_told}
-use Rattle.wasi_records.specs.Names.{own_of}
+use Rattle.tcp_records.specs.declared.slot.StreamResult.{StreamResult}
+use Rattle.tcp_records.specs.declared.slot.StreamResult.TheVariants.{Dropped}
+use Rattle.tcp_records.specs.declared.socket.Streams.{Streams}
+use Rattle.tcp_records.specs.declared.socket.TcpRecord.{TcpRecord}
+use Rattle.tcp_records.specs.Ends.{ends_of, half_of, look_to_write, send_half, send_in, some_told}
+use Rattle.record_common.specs.Names.{own_of}
 use Rattle.wasi_records.specs.Records.{tcp2_at, tcp2_put}
-use Rattle.wasi_records.specs.Slots.{StreamEnd}
+use Rattle.tcp_records.specs.Slots.{StreamEnd}
 use Rattle.host_store.specs.declared.kind.ConnectionEnd.{ConnectionEnd}
 use Rattle.host_store.specs.declared.machine.Machine.{Machine}
 use Rattle.host_store.specs.Block.{after_call, give as ends_with, last, or_trap}

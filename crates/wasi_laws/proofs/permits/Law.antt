@@ -1,8 +1,9 @@
 -- The law that what a network socket takes is a prefix of what it is let write.
 use Rattle.wasi_walks.proofs.walks.Moves.{AddsSlot, OfReceive, OfSend, TakesEnd}
 use Rattle.wasi_walks.proofs.PipeLists.{slot_push_same}
-use Rattle.wasi_records.specs.Ends.{ends_of}
+use Rattle.tcp_records.specs.Ends.{ends_of}
 use Rattle.wasi_steps.specs.declared.guest_call.GuestCall.{GuestCall}
+use Rattle.wasi_steps.specs.declared.guest_call.P3TcpCall.{P3TcpCall}
 use Rattle.wasi_world.specs.declared.call.Call.TheVariants as call
 use Rattle.wasi_world.specs.declared.call.Told.TheVariants as told
 use Rattle.wasi_tcp.specs.declared.halves.TcpSendStream.{TcpSendStream}
@@ -20,7 +21,7 @@ use Rattle.wasi_udp.specs.Receive.{receive_start, wanted_in, wanting}
 use Rattle.wasi_udp.specs.Send as send
 use Rattle.wasi_udp.specs.Send.{send_first, send_left, send_to}
 use Rattle.wasi_udp.specs.declared.send.Destination.{Destination}
-use Rattle.wasi_records.specs.declared.udp.OpenUdp.{OpenUdp}
+use Rattle.udp_records.specs.declared.udp.OpenUdp.{OpenUdp}
 use Rattle.host_store.specs.Beside.{beside_of}
 use Rattle.host_store.specs.declared.beside.Beside.{Beside}
 use Rattle.host_store.specs.declared.beside.BesideCall.{BesideCall}
@@ -28,8 +29,8 @@ use Rattle.wasi_walks.proofs.BesideLists.{found_has}
 use Rattle.wasi_addr.specs.declared.address.SocketAddressFamily.{SocketAddressFamily}
 use Rattle.wasi_laws.proofs.Words.{Err, ErrorCode, HandleTable, Result}
 use Rattle.wasi_walks.proofs.fits.Datagrams.{Datagrams, FitBeside}
-use Rattle.wasi_records.specs.declared.udp.UdpRecord.{UdpRecord}
-use Rattle.wasi_records.specs.Udp.{udp_create_left, udp_side}
+use Rattle.udp_records.specs.declared.udp.UdpRecord.{UdpRecord}
+use Rattle.udp_records.specs.Udp.{udp_create_left, udp_side}
 use Rattle.wasi_walks.proofs.walks.Moves.{JoinsFault, JoinsPlain, faulted, joined_plain}
 use Rattle.wasi_walks.proofs.claims.Polls.{send_plain, receive_plain, udp_connect_plain}
 use Rattle.wasi_walks.proofs.fits.DatagramPolls.{wanted_left}
@@ -146,7 +147,7 @@ ends_agree taken held (Some s) a = a
 
 -- a step that isn't a write of 0.3: what that is let write is known once it is answered
 abbrev pub NotOffer : Step → Type 0
-NotOffer (Step.Call ctx (GuestCall.P3Write end bytes)) = ⊥
+NotOffer (Step.Call ctx (GuestCall.P3Tcp (P3TcpCall.Write end bytes))) = ⊥
 NotOffer _ = ⊤
 
 module _ (side : OpId) (given : List ℕ) where

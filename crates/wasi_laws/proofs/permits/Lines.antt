@@ -18,6 +18,8 @@ use Rattle.host_store.specs.declared.store.StandingCall.{StandingCall}
 use Rattle.host_store.specs.declared.store.StandingCall.TheVariants.{Blocking}
 use Rattle.wasi_world.specs.declared.outcome.Answer.TheVariants.{Pending, Ready}
 use Rattle.wasi_steps.specs.declared.guest_call.GuestCall.TheVariants as guest
+use Rattle.wasi_steps.specs.declared.guest_call.StreamCall.TheVariants as stream_call
+use Rattle.wasi_steps.specs.declared.guest_call.P3TcpCall.TheVariants as p3_tcp_call
 use Rattle.wasi_steps.specs.declared.step.Step.TheVariants as step
 use Rattle.wasi_steps.specs.Reply.{no_values}
 use Rattle.wasi_steps.specs.declared.reply.Reply.TheVariants as reply
@@ -169,22 +171,22 @@ module _ (contexts : List WasiSocketsCtx) (side : OpId) where
     busy_lets s c e = simple line s given es m i tt (Some c) e tt (λ gs. refl)
 
     step_lets : (s : Step) → m.store.standing ≡ None → Along line s given es m i (permitted_in m side line None s) (asks_while contexts m line s None)
-    step_lets (step.Call ctx (guest.Write output bytes)) e = simple line (step.Call ctx (guest.Write output bytes)) given es m i tt None e tt (λ gs. write_is side m output bytes)
-    step_lets (step.Call ctx (guest.WriteZeroes output len)) e = simple line (step.Call ctx (guest.WriteZeroes output len)) given es m i tt None e tt (λ gs. write_is side m output (zeros len))
-    step_lets (step.Call ctx (guest.Splice to from len)) e =
-        let s = step.Call ctx (guest.Splice to from len) in
+    step_lets (step.Call ctx (guest.Stream (stream_call.Write output bytes))) e = simple line (step.Call ctx (guest.Stream (stream_call.Write output bytes))) given es m i tt None e tt (λ gs. write_is side m output bytes)
+    step_lets (step.Call ctx (guest.Stream (stream_call.WriteZeroes output len))) e = simple line (step.Call ctx (guest.Stream (stream_call.WriteZeroes output len))) given es m i tt None e tt (λ gs. write_is side m output (zeros len))
+    step_lets (step.Call ctx (guest.Stream (stream_call.Splice to from len))) e =
+        let s = step.Call ctx (guest.Stream (stream_call.Splice to from len)) in
         replied line s given es m i (stream_reply_of number_fields) (let_splice side m (own_of line) to from len) _ (splice_lets contexts side line s tt line (handles_of s) to from (inl refl) (inr (inl refl)) given es None m len (calls line s given es m i tt tt e))
-    step_lets (step.Call ctx (guest.BlockingWrite output bytes)) e =
-        let s = step.Call ctx (guest.BlockingWrite output bytes) in
+    step_lets (step.Call ctx (guest.Stream (stream_call.BlockingWrite output bytes))) e =
+        let s = step.Call ctx (guest.Stream (stream_call.BlockingWrite output bytes)) in
         replied line s given es m i (blocked_reply_of no_values line) (let_blocking_write side m (own_of line) output bytes (nat_lt 4096 (length bytes))) _ (blocking_write_lets contexts side line s tt (first_ids line) output given es None m bytes (calls line s given es m i tt tt e))
-    step_lets (step.Call ctx (guest.BlockingZeroes output len)) e =
-        let s = step.Call ctx (guest.BlockingZeroes output len) in
+    step_lets (step.Call ctx (guest.Stream (stream_call.BlockingZeroes output len))) e =
+        let s = step.Call ctx (guest.Stream (stream_call.BlockingZeroes output len)) in
         replied line s given es m i (blocked_reply_of no_values line) (let_blocking_write side m (own_of line) output (zeros len) (nat_lt 4096 len)) _ (blocking_zeroes_lets contexts side line s tt (first_ids line) output given es None m len (calls line s given es m i tt tt e))
-    step_lets (step.Call ctx (guest.BlockingSplice to from len)) e =
-        let s = step.Call ctx (guest.BlockingSplice to from len) in
+    step_lets (step.Call ctx (guest.Stream (stream_call.BlockingSplice to from len))) e =
+        let s = step.Call ctx (guest.Stream (stream_call.BlockingSplice to from len)) in
         replied line s given es m i (blocked_reply_of number_fields line) (let_blocking_splice side m (own_of line) to from len) _ (blocking_splice_lets contexts side line s tt (first_ids line) to from len given es None m (calls line s given es m i tt tt e))
-    step_lets (step.Call ctx (guest.P3Write end bytes)) e =
-        let s = step.Call ctx (guest.P3Write end bytes) in
+    step_lets (step.Call ctx (guest.P3Tcp (p3_tcp_call.Write end bytes))) e =
+        let s = step.Call ctx (guest.P3Tcp (p3_tcp_call.Write end bytes)) in
         replied line s given es m i (stream_result_reply number_fields) (let_end side m end bytes) _ (end_lets contexts side line s given es m end bytes e (begins line s given es m i))
     step_lets (step.Poll n) e = simple line (step.Poll n) given es m i tt None e tt (λ gs. none_polled n None gs e refl)
     step_lets s e = simple line s given es m i tt None e tt (λ gs. refl)

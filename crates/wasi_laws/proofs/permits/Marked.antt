@@ -11,6 +11,7 @@ use Rattle.host_streams.specs.StreamCalls.{check_asks, check_by, convert_asks, c
 use Rattle.host_store.specs.declared.kind.Kind.TheVariants.{Output}
 use Rattle.host_store.specs.declared.kind.PlainOutput.{PlainOutput}
 use Rattle.wasi_steps.specs.declared.guest_call.GuestCall.TheVariants as guest
+use Rattle.wasi_steps.specs.declared.guest_call.StreamCall.TheVariants as stream_call
 use Rattle.wasi_steps.specs.declared.reply.Reply.TheVariants as reply
 use Rattle.wasi_steps.specs.declared.step.Step.TheVariants as step
 use Rattle.wasi_machine.specs.Machine.{stream_reply_of}
@@ -112,10 +113,10 @@ module _ (contexts : List WasiSocketsCtx) (steps : List Step) (log : List Entry)
   replied (Err Closed, now) k n e some = absurd (cc)
   replied (Err (Traps kind), now) k n e some = absurd (cc)
 
-  by_standing : (line ctx : ℕ) (o : Option Standing) → Gives (λ fs done. Replied done) [] (asks_while contexts m line (step.Call ctx (guest.CheckWrite output)) o)
+  by_standing : (line ctx : ℕ) (o : Option Standing) → Gives (λ fs done. Replied done) [] (asks_while contexts m line (step.Call ctx (guest.Stream (stream_call.CheckWrite output))) o)
   by_standing line ctx None =
       gives_then (λ fs done. Told (writer_of_record (record_in m (output_at m output))) done) (λ fs done. Replied done) [] (check_asks m (own_of line) output) (λ done. Give (stream_reply_of number_fields done.0, done.1)) (by_plain (own_of line) (plain_output_of (kind_at m.table output)) refl []) (λ fs done k. replied done k)
   by_standing line ctx (Some c) = λ n e some. absurd (cc)
 
-  pub writes_to : (line ctx n : ℕ) (entries : List Entry) (next : Machine) → Answered contexts m line (step.Call ctx (guest.CheckWrite output)) entries (reply.Ok (number_fields n)) next → 0 < n → WritesTo m output side
-  writes_to line ctx n entries next a some = given (λ fs done. Replied done) (asks_while contexts m line (step.Call ctx (guest.CheckWrite output)) m.store.standing) entries (reply.Ok (number_fields n), next) (by_standing line ctx m.store.standing) a n refl some
+  pub writes_to : (line ctx n : ℕ) (entries : List Entry) (next : Machine) → Answered contexts m line (step.Call ctx (guest.Stream (stream_call.CheckWrite output))) entries (reply.Ok (number_fields n)) next → 0 < n → WritesTo m output side
+  writes_to line ctx n entries next a some = given (λ fs done. Replied done) (asks_while contexts m line (step.Call ctx (guest.Stream (stream_call.CheckWrite output))) m.store.standing) entries (reply.Ok (number_fields n), next) (by_standing line ctx m.store.standing) a n refl some

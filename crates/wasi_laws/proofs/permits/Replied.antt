@@ -11,6 +11,7 @@ use Rattle.host_streams.specs.StreamCalls.{convert_asks, converted, stopped, wri
 use Rattle.host_store.specs.declared.kind.Kind.TheVariants.{Output, PlainOutput}
 use Rattle.host_store.specs.declared.kind.PlainOutput.{PlainOutput as APlainOutput}
 use Rattle.wasi_steps.specs.declared.guest_call.GuestCall.TheVariants as guest
+use Rattle.wasi_steps.specs.declared.guest_call.StreamCall.TheVariants as stream_call
 use Rattle.wasi_steps.specs.declared.reply.Field.{Field}
 use Rattle.wasi_steps.specs.declared.reply.Reply.TheVariants as reply
 use Rattle.wasi_steps.specs.declared.step.Step.TheVariants as step
@@ -38,11 +39,11 @@ begin_front : (side : OpId) (bytes : List ℕ) (w : Option WriteState) → IsFro
 begin_front side bytes (Some (writing.Ready half permit)) = within_front permit bytes (nat_lt permit (length bytes)) (is_same half.side side)
 begin_front side bytes _ = (bytes, refl)
 
-permitted_front : (m : Machine) (side : OpId) (line ctx output : ℕ) (bytes : List ℕ) (entries : List Entry) (o : Option Standing) → IsFrontOf (permitted_in m side line o (step.Call ctx (guest.Write output bytes)) entries) bytes
+permitted_front : (m : Machine) (side : OpId) (line ctx output : ℕ) (bytes : List ℕ) (entries : List Entry) (o : Option Standing) → IsFrontOf (permitted_in m side line o (step.Call ctx (guest.Stream (stream_call.Write output bytes))) entries) bytes
 permitted_front m side line ctx output bytes entries None = begin_front side bytes (writer_at m output)
 permitted_front m side line ctx output bytes entries (Some c) = (bytes, refl)
 
-pub write_front : (m : Machine) (side : OpId) (line ctx output : ℕ) (bytes : List ℕ) (entries : List Entry) → IsFrontOf (permitted_by m side line (step.Call ctx (guest.Write output bytes)) entries) bytes
+pub write_front : (m : Machine) (side : OpId) (line ctx output : ℕ) (bytes : List ℕ) (entries : List Entry) → IsFrontOf (permitted_by m side line (step.Call ctx (guest.Stream (stream_call.Write output bytes))) entries) bytes
 write_front m side line ctx output bytes entries = permitted_front m side line ctx output bytes entries m.store.standing
 
 -- all of it is let begin, where it is done
@@ -119,7 +120,7 @@ module _ (contexts : List WasiSocketsCtx) (steps : List Step) (log : List Entry)
       place_none None names = refl
       place_none (Some place) names = record_none place (tcp2_at m.store.records place) names refl
 
-      others_let : (line ctx : ℕ) (entries : List Entry) (o : Option Standing) → permitted_in m side line o (step.Call ctx (guest.Write output bytes)) entries ≡ []
+      others_let : (line ctx : ℕ) (entries : List Entry) (o : Option Standing) → permitted_in m side line o (step.Call ctx (guest.Stream (stream_call.Write output bytes))) entries ≡ []
       others_let line ctx entries None = place_none (output_at m output) refl
       others_let line ctx entries (Some c) = refl
 
@@ -197,14 +198,14 @@ module _ (contexts : List WasiSocketsCtx) (steps : List Step) (log : List Entry)
     replied (Err Closed, now) k = tt
     replied (Err (Traps kind), now) k = tt
 
-    by_standing : (entries : List Entry) (o : Option Standing) → Gives (λ fs done. Replied (permitted_in m side line o (step.Call ctx (guest.Write output bytes)) entries) done.0) [] (asks_while contexts m line (step.Call ctx (guest.Write output bytes)) o)
+    by_standing : (entries : List Entry) (o : Option Standing) → Gives (λ fs done. Replied (permitted_in m side line o (step.Call ctx (guest.Stream (stream_call.Write output bytes))) entries) done.0) [] (asks_while contexts m line (step.Call ctx (guest.Stream (stream_call.Write output bytes))) o)
     by_standing entries None =
         gives_then (λ fs done. Whole (own_of line) output side its bytes (writer_at m output) done) (λ fs done. Replied (let_write side m output bytes) done.0) [] (write_asks m (own_of line) output bytes) (λ done. Give (stream_reply_of no_values done.0, done.1))
         (by_plain (own_of line) output side its bytes (plain_output_of (kind_at m.table output)) refl []) (λ fs done k. replied done k)
     by_standing entries (Some c) = tt
 
-    pub its_let : (entries : List Entry) (fields : List Field) (after : Machine) → Answered contexts m line (step.Call ctx (guest.Write output bytes)) entries (reply.Ok fields) after → permitted_by m side line (step.Call ctx (guest.Write output bytes)) entries ≡ bytes
-    its_let entries fields after a = given (λ fs done. Replied (permitted_by m side line (step.Call ctx (guest.Write output bytes)) entries) done.0) (asks_while contexts m line (step.Call ctx (guest.Write output bytes)) m.store.standing) entries (reply.Ok fields, after) (by_standing entries m.store.standing) a
+    pub its_let : (entries : List Entry) (fields : List Field) (after : Machine) → Answered contexts m line (step.Call ctx (guest.Stream (stream_call.Write output bytes))) entries (reply.Ok fields) after → permitted_by m side line (step.Call ctx (guest.Stream (stream_call.Write output bytes))) entries ≡ bytes
+    its_let entries fields after a = given (λ fs done. Replied (permitted_by m side line (step.Call ctx (guest.Stream (stream_call.Write output bytes))) entries) done.0) (asks_while contexts m line (step.Call ctx (guest.Stream (stream_call.Write output bytes))) m.store.standing) entries (reply.Ok fields, after) (by_standing entries m.store.standing) a
 
-  pub none_let : (line ctx output : ℕ) (bytes : List ℕ) (side : OpId) (entries : List Entry) → (IsSide log output side → ⊥) → permitted_by m side line (step.Call ctx (guest.Write output bytes)) entries ≡ []
+  pub none_let : (line ctx output : ℕ) (bytes : List ℕ) (side : OpId) (entries : List Entry) → (IsSide log output side → ⊥) → permitted_by m side line (step.Call ctx (guest.Stream (stream_call.Write output bytes))) entries ≡ []
   none_let line ctx output bytes side entries n = others_let output bytes side n line ctx entries m.store.standing

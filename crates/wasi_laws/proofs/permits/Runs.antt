@@ -1,6 +1,7 @@
 -- Along a run what a network socket took is a prefix of what was permitted; and where a check-write answers a permit, all of it.
 use Rattle.wasi_steps.specs.declared.reply.Reply.TheVariants as reply
 use Rattle.wasi_steps.specs.declared.guest_call.GuestCall.TheVariants as guest
+use Rattle.wasi_steps.specs.declared.guest_call.StreamCall.TheVariants as stream_call
 use Rattle.wasi_steps.specs.declared.step.Step.TheVariants as step
 use Rattle.wasi_laws.proofs.Words.{Answered, Asks, Did, Entry, Give, IsFrontOf, Left, List, Machine, OpId, Reply, Step, Then, WasiSocketsCtx, WritesTo, [], ap, append-nil, append_assoc, arith, first_base, first_state, inl, length, machine_asks, number_fields, permitted_by, refl, subst, suc, sym, taken_in, ℕ, ◌++◌, ◌+◌, ◌<◌, ◌∙◌, ◌≡◌}
 use Rattle.wasi_laws.proofs.permits.Calls.{Ends}
@@ -65,7 +66,7 @@ module _ (contexts : List WasiSocketsCtx) (side : OpId) where
 
   pub runs_take_all : (steps : List Step) (log : List Entry) (permitted : List ℕ) (after : Machine) (ctx output n : ℕ) (entries : List Entry) (next : Machine)
       → Did contexts side first_state 1 steps log permitted after → WritesTo after output side
-      → Answered contexts after (1 + length steps) (step.Call ctx (guest.CheckWrite output)) entries (reply.Ok (number_fields n)) next → 0 < n → taken_in side (log ++ entries) ≡ permitted
+      → Answered contexts after (1 + length steps) (step.Call ctx (guest.Stream (stream_call.CheckWrite output))) entries (reply.Ok (number_fields n)) next → 0 < n → taken_in side (log ++ entries) ≡ permitted
   runs_take_all steps log permitted after ctx output n entries next d w walk some =
       let k = done_lets steps log permitted after d in
       taken_append side log entries ∙ all_taken contexts side (taken_in side log) permitted (1 + length steps) after ctx output n k.stands.lives k.shaped k.base.named w some entries next walk

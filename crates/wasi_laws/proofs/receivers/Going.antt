@@ -10,7 +10,7 @@ use Rattle.wasi_walks.proofs.BesideLists.{with_at, with_other, without_at, witho
 use Rattle.wasi_records.specs.Numbered.{record_gone}
 use Rattle.wasi_records.specs.Records.{tcp2_put, tcp2_pushed, udp2_at, udp2_of, udp2_put, udp2_pushed}
 use Rattle.wasi_records.specs.declared.records.Record.{Record}
-use Rattle.wasi_records.specs.declared.udp.UdpRecord.{UdpRecord}
+use Rattle.udp_records.specs.declared.udp.UdpRecord.{UdpRecord}
 use Rattle.wasi_walks.proofs.GoneLists.{was_there}
 use Rattle.wasi_walks.proofs.Places.{push_found, push_was, put_found, put_was, tcp_sort, udp_sort}
 use Rattle.wasi_walks.proofs.walks.Here.{Grows, IsOlder}

@@ -20,7 +20,7 @@ use Rattle.host_lookups.specs.Resolves.{begun_lookup}
 use Rattle.host_store.specs.declared.beside.Beside.{Beside}
 use Rattle.host_store.specs.declared.beside.BesideCall.{BesideCall}
 use Rattle.host_store.specs.declared.beside.BesideCall.TheVariants.{Connect, Receive, Resolve, Send}
-use Rattle.wasi_records.specs.Binding.{left_of}
+use Rattle.record_common.specs.Binding.{left_of}
 use Rattle.wasi_walks.proofs.BesideLists.{found_has}
 use Rattle.wasi_walks.specs.Licence.{IsReceive}
 use Rattle.wasi_walks.specs.Lines.{step_at}
@@ -28,14 +28,14 @@ use Rattle.std.specs.Prelude.{suc}
 use Rattle.wasi_walks.proofs.fits.Datagrams.{FitBeside}
 use Rattle.wasi_laws.proofs.Words.{Bool, Err, Ok, Result, false, true}
 use Rattle.wasi_world.specs.Operation as item
-use Rattle.wasi_records.specs.Datagrams.{udp_connect_left, udp_reconnect_left}
-use Rattle.wasi_records.specs.Receiving.{receive_left, with_receiving}
-use Rattle.wasi_records.specs.Udp.{udp_create_left, udp_side}
-use Rattle.wasi_records.specs.declared.datagrams.Incoming.{Incoming}
-use Rattle.wasi_records.specs.declared.datagrams.Receiving.{Receiving}
+use Rattle.udp_records.specs.Datagrams.{udp_connect_left, udp_reconnect_left}
+use Rattle.udp_records.specs.Receiving.{receive_left, with_receiving}
+use Rattle.udp_records.specs.Udp.{udp_create_left, udp_side}
+use Rattle.udp_records.specs.declared.datagrams.Incoming.{Incoming}
+use Rattle.udp_records.specs.declared.datagrams.Receiving.{Receiving}
 use Rattle.wasi_records.specs.declared.records.Record.{Record}
-use Rattle.wasi_records.specs.declared.udp.OpenUdp.{OpenUdp}
-use Rattle.wasi_records.specs.declared.udp.UdpRecord.{UdpRecord}
+use Rattle.udp_records.specs.declared.udp.OpenUdp.{OpenUdp}
+use Rattle.udp_records.specs.declared.udp.UdpRecord.{UdpRecord}
 use Rattle.wasi_walks.proofs.Fronts as asked
 use Rattle.wasi_walks.proofs.fits.Records.{FitConnecting, FitSending, FitUdpProgress, SendOn, UdpBindOn, UdpConnectOn}
 use Rattle.wasi_walks.proofs.Lists.{Cut}

@@ -14,10 +14,10 @@ use Rattle.wasi_laws.proofs.asks.Trees.{GoesOn, InWriting, InClosing, turns_by}
 use Rattle.wasi_laws.proofs.shapes.Shape.{IsOfWrite, AreOfWrite, end_write, JobIs, WriterIs, writer_moves, HasStreams, StreamsShape, IsUsed, moves_used, ListenerShape, RecordShape, Unconnected, bare, sideless, restated, SocketsStay, sockets_stay}
 use Rattle.wasi_records.specs.Records.{tcp2_at, tcp2_of, tcp2_put, tcp2_pushed}
 use Rattle.wasi_walks.proofs.GoneLists.{was_there}
-use Rattle.wasi_records.specs.declared.udp.UdpRecord.{UdpRecord}
-use Rattle.wasi_records.specs.Udp.{udp_create_left}
+use Rattle.udp_records.specs.declared.udp.UdpRecord.{UdpRecord}
+use Rattle.udp_records.specs.Udp.{udp_create_left}
 use Rattle.wasi_udp.specs.Create.{Create}
-use Rattle.wasi_records.specs.Ends.{ends_of}
+use Rattle.tcp_records.specs.Ends.{ends_of}
 use Rattle.wasi_walks.proofs.PipeLists.{slot_push_same}
 use Rattle.wasi_walks.proofs.walks.Moves.{AddsSlot, OfReceive, OfSend, TakesEnd, GivesBack, CancelsBind, CancelsUdpBind, CancelsUdpConnect, DropsUdp, put_udp, udp_begun, with_records, Finds, UdpChanges, BeginsUdpBind, BeginsUdpConnect, BeginsSend, BeginsReceive, UdpCreates, UdpBindsOn, UdpConnectsOn, UdpReconnectsOn, SendsOn, ReceivesOn}
 use Rattle.wasi_records.specs.declared.records.Record.{Record}

@@ -8,8 +8,8 @@ use Rattle.wasi_laws.proofs.shapes.Shape.{some_same, Lives, Follows, SocketsStay
 use Rattle.wasi_records.specs.Numbered.{record_gone}
 use Rattle.wasi_records.specs.Records.{tcp2_at, tcp2_of, tcp2_put, tcp2_pushed, udp2_at, udp2_of, udp2_put, udp2_pushed}
 use Rattle.wasi_walks.proofs.GoneLists.{was_there}
-use Rattle.wasi_records.specs.declared.udp.UdpRecord.{UdpRecord}
-use Rattle.wasi_records.specs.Udp.{udp_side}
+use Rattle.udp_records.specs.declared.udp.UdpRecord.{UdpRecord}
+use Rattle.udp_records.specs.Udp.{udp_side}
 use Rattle.wasi_laws.specs.Opened.{UdpCreated}
 use Rattle.wasi_walks.proofs.walks.Moves.{put_udp, FoundUdp}
 use Rattle.wasi_records.specs.declared.records.Record.{Record}

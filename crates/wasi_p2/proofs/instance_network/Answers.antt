@@ -2,7 +2,7 @@ use Rattle.std.proofs.Common.{refl}
 use Rattle.wasi_world.proofs.Walks.{asks_gives}
 use Rattle.host_store.specs.Machine.{with_table}
 use Rattle.host_store.specs.Views.{state_of}
-use Rattle.wasi_records.proofs.Hosts.{host_fault}
+use Rattle.record_common.proofs.Hosts.{host_fault}
 use Rattle.wasi_p2.proofs.instance_network.Goals as goal
 
 pub returns-in_err-handle-clause-asked : goal.returns-in_err-handle-clause-asked

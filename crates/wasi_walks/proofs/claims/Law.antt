@@ -1,7 +1,7 @@
 -- The base law: numbers and network sockets are claimed once, and are of older lines. A network socket is claimed by the record
 -- that was made with it, and the name of an accept by the record of its listener.
 use Rattle.wasi_walks.proofs.walks.Moves.{AddsSlot, DropsUdp, OfReceive, OfSend, TakesEnd}
-use Rattle.wasi_records.specs.Slots.{slot_pushed}
+use Rattle.wasi_records.specs.Records.{slot_pushed}
 use Rattle.wasi_walks.proofs.PipeLists.{slot_push_same}
 use Rattle.wasi_walks.proofs.Words.{Bool, Machine, Accepting, Accepts, Allows, Asks, Begins, Done, End, Entry, Err, ErrorCode}
 use Rattle.wasi_walks.proofs.Words.{HoldsAccept, IsAcceptOn, IsLeftOfAccept, Item, List, Listener, Listening, None, Not, Ok, OpId, Operation}
@@ -28,13 +28,13 @@ use Rattle.wasi_walks.proofs.fits.DatagramLaw.{datagrams, datagrams_begin}
 use Rattle.wasi_walks.proofs.fits.UdpPolls.{create_side}
 use Rattle.wasi_walks.proofs.fits.UdpFits.{connected_side, reconnected_side}
 use Rattle.wasi_tcp.specs.Accept as accept
-use Rattle.wasi_records.specs.Datagrams.{udp_connect_left, udp_reconnect_left, with_sending}
-use Rattle.wasi_records.specs.Receiving.{receive_left, with_receiving}
+use Rattle.udp_records.specs.Datagrams.{udp_connect_left, udp_reconnect_left, with_sending}
+use Rattle.udp_records.specs.Receiving.{receive_left, with_receiving}
 use Rattle.wasi_records.specs.Records.{tcp2_at, tcp2_of, tcp2_put, tcp2_pushed, udp2_at, udp2_of, udp2_pushed}
-use Rattle.wasi_records.specs.declared.name_lookup.LookupOp.{LookupOp}
+use Rattle.lookup_records.specs.declared.name_lookup.LookupOp.{LookupOp}
 use Rattle.wasi_records.specs.declared.records.Record.{Record}
-use Rattle.wasi_records.specs.declared.udp.UdpRecord.{UdpRecord}
-use Rattle.wasi_records.specs.Udp.{udp_bind_progress, udp_create_left, udp_side, with_udp_progress}
+use Rattle.udp_records.specs.declared.udp.UdpRecord.{UdpRecord}
+use Rattle.udp_records.specs.Udp.{udp_bind_progress, udp_create_left, udp_side, with_udp_progress}
 use Rattle.wasi_udp.specs.Create.{new_create, after_create as udp_after_create}
 use Rattle.wasi_walks.proofs.walks.Moves.{EndsConnect, RecallsConnect, RecallsStreams, ToConnect, with_records, SameSockets, Finds, put_udp, FoundUdp, udp_begun, Names, UdpChanges, BeginsUdpBind, BeginsUdpConnect, BeginsSend, BeginsReceive, Counts, SpendsNames, UdpCreates, UdpBindsOn, UdpConnectsOn, UdpReconnectsOn, SendsOn, ReceivesOn, GivesBack, without_record}
 use Rattle.wasi_walks.proofs.Places.{push_found, push_new, push_was, put_finds, put_found, put_was, tcp_sort, udp_sort}

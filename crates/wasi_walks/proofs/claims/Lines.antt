@@ -4,7 +4,7 @@ use Rattle.wasi_world.specs.declared.outcome.WasiSocketsCtx.{WasiSocketsCtx}
 use Rattle.host_store.specs.declared.machine.Machine.{Machine}
 use Rattle.host_store.specs.Machine.{first_state}
 use Rattle.wasi_steps.specs.declared.step.Step.{Step}
-use Rattle.wasi_records.specs.Udp.{udp_side}
+use Rattle.udp_records.specs.Udp.{udp_side}
 use Rattle.wasi_walks.proofs.walks.Here.{older_unused}
 use Rattle.wasi_walks.proofs.walks.Moves.{Own, Unused}
 use Rattle.wasi_walks.proofs.walks.States.{Starts, Over}

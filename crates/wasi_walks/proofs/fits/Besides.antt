@@ -2,7 +2,7 @@
 use Rattle.std.specs.Prelude.{◌≡◌, ◌⊎◌, ℕ, zero, suc, ◌==◌, ◌||◌, Bool, true, false, not, List, [], ◌∷◌, Option, Some, None, slice_set, position, if◌then◌else◌, refl}
 use Rattle.std.proofs.Common.{ap, eqb-true, inl, inr, subst, sym, ◌∙◌}
 use Rattle.wasi_world.specs.Operation.{End, Item, Operation, Waits, Done, Refused}
-use Rattle.wasi_records.specs.Binding.{left_of}
+use Rattle.record_common.specs.Binding.{left_of}
 use Rattle.host_store.specs.declared.beside.Beside.{Beside}
 use Rattle.host_store.specs.declared.beside.BesideCall.{BesideCall}
 use Rattle.host_store.specs.Beside.{beside_as, beside_in, beside_put, beside_with, beside_without}

@@ -13,15 +13,16 @@ use Rattle.wasi_table.specs.Table.{Live}
 use Rattle.wasi_udp.specs.Create.{Create, after_create as udp_after_create}
 use Rattle.wasi_udp.specs.Receive.{receive_start}
 use Rattle.wasi_udp.specs.Send.{send_start}
-use Rattle.wasi_records.specs.declared.datagrams.Incoming.{Incoming as IncomingStream}
-use Rattle.wasi_records.specs.declared.udp.OpenUdp.{OpenUdp}
-use Rattle.wasi_records.specs.declared.udp.UdpRecord.{UdpRecord}
-use Rattle.wasi_records.specs.Binding.{left_of}
-use Rattle.wasi_records.specs.Datagrams.{udp_connect_left, udp_reconnect_left}
-use Rattle.wasi_records.specs.Names.{own_of}
-use Rattle.wasi_records.specs.Records.{open_of, udp2_at}
-use Rattle.wasi_records.specs.Slots.{slot_pushed}
-use Rattle.wasi_records.specs.Udp.{udp_create_left, without_udp_socket}
+use Rattle.udp_records.specs.declared.datagrams.Incoming.{Incoming as IncomingStream}
+use Rattle.udp_records.specs.declared.udp.OpenUdp.{OpenUdp}
+use Rattle.udp_records.specs.declared.udp.UdpRecord.{UdpRecord}
+use Rattle.record_common.specs.Binding.{left_of}
+use Rattle.udp_records.specs.Datagrams.{udp_connect_left, udp_reconnect_left}
+use Rattle.record_common.specs.Names.{own_of}
+use Rattle.udp_records.specs.Udp.{open_of}
+use Rattle.wasi_records.specs.Records.{udp2_at}
+use Rattle.wasi_records.specs.Records.{slot_pushed}
+use Rattle.udp_records.specs.Udp.{udp_create_left, without_udp_socket}
 use Rattle.host_store.specs.declared.beside.Beside.{Beside}
 use Rattle.host_store.specs.declared.beside.BesideCall.{BesideCall}
 use Rattle.host_store.specs.declared.beside.BesideCall.TheVariants.{Connect, Resolve, Send, Receive}

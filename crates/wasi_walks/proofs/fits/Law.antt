@@ -1,7 +1,7 @@
 -- The law that what a socket is bound by is a bind, what it connects by a connect, what a listener accepts by an accept, and
 -- that a bind is in progress where one stands.
 use Rattle.wasi_walks.proofs.walks.Moves.{AddsSlot, OfReceive, OfSend, TakesEnd}
-use Rattle.wasi_records.specs.Slots.{slot_pushed}
+use Rattle.wasi_records.specs.Records.{slot_pushed}
 use Rattle.wasi_walks.proofs.PipeLists.{slot_push_same}
 use Rattle.wasi_walks.proofs.Words.{Accepting, Accepts, Listener, listen_first, Allows, Ask, AskWrite, Asks, Bool, End, Entry, Err, ErrorCode, Give, HoldsAccept}
 use Rattle.wasi_walks.proofs.Words.{HoldsConnect, InProgress, IpSocketAddress, IsAcceptOn, IsConnect, IsLeftOfBind, IsLeftOfConnect, IsLeftOfListen}
@@ -29,13 +29,13 @@ use Rattle.wasi_walks.specs.Waiting as binding
 use Rattle.wasi_records.specs.Records.{tcp2_at, tcp2_of, tcp2_put, tcp2_pushed, udp2_at, udp2_of, udp2_put, udp2_pushed}
 use Rattle.host_udp.specs.SocketDatagrams.{is_udp_held}
 use Rattle.wasi_walks.proofs.GoneLists.{was_there}
-use Rattle.wasi_records.specs.declared.name_lookup.LookupOp.{LookupOp}
-use Rattle.wasi_records.specs.declared.udp.OpenUdp.{OpenUdp}
-use Rattle.wasi_records.specs.declared.udp.UdpRecord.{UdpRecord}
-use Rattle.wasi_records.specs.declared.udp.UdpInProgress.{UdpInProgress}
-use Rattle.wasi_records.specs.Datagrams.{udp_connect_left, udp_reconnect_left, with_sending}
-use Rattle.wasi_records.specs.Receiving.{receive_left, with_receiving}
-use Rattle.wasi_records.specs.Udp.{udp_bind_progress, udp_create_left, with_udp_inner, with_udp_progress, without_udp_socket}
+use Rattle.lookup_records.specs.declared.name_lookup.LookupOp.{LookupOp}
+use Rattle.udp_records.specs.declared.udp.OpenUdp.{OpenUdp}
+use Rattle.udp_records.specs.declared.udp.UdpRecord.{UdpRecord}
+use Rattle.udp_records.specs.declared.udp.UdpInProgress.{UdpInProgress}
+use Rattle.udp_records.specs.Datagrams.{udp_connect_left, udp_reconnect_left, with_sending}
+use Rattle.udp_records.specs.Receiving.{receive_left, with_receiving}
+use Rattle.udp_records.specs.Udp.{udp_bind_progress, udp_create_left, with_udp_inner, with_udp_progress, without_udp_socket}
 use Rattle.wasi_udp.specs.Bind as udp
 use Rattle.wasi_udp.specs.Receive.{IsLeftOfReceive, receive_start, wanting}
 use Rattle.wasi_udp.specs.Send.{IsLeftOfSend, at_remote, send_start}

@@ -4,18 +4,18 @@ use Rattle.wasi_world.specs.declared.ids.OpId.{OpId}
 use Rattle.wasi_world.specs.Operation.{Operation, UdpWritable, CloseLast}
 use Rattle.wasi_udp.specs.Bind.{IsBind as IsUdpBind}
 use Rattle.wasi_udp.specs.Create.{Create}
-use Rattle.wasi_records.specs.declared.udp.OpenUdp.{OpenUdp}
-use Rattle.wasi_records.specs.declared.udp.UdpRecord.{UdpRecord}
-use Rattle.wasi_records.specs.declared.udp.UdpInProgress.{UdpInProgress}
+use Rattle.udp_records.specs.declared.udp.OpenUdp.{OpenUdp}
+use Rattle.udp_records.specs.declared.udp.UdpRecord.{UdpRecord}
+use Rattle.udp_records.specs.declared.udp.UdpInProgress.{UdpInProgress}
 use Rattle.wasi_tcp.specs.Connecting.{HoldsConnect}
 use Rattle.wasi_tcp.specs.Listen.{IsListen}
 use Rattle.wasi_tcp.specs.Listener.{HoldsAccept}
 use Rattle.wasi_tcp.specs.declared.socket.TcpState.{TcpState}
 use Rattle.wasi_records.specs.Records.{tcp2_at, udp2_at}
 use Rattle.wasi_records.specs.declared.records.Record.{Record}
-use Rattle.wasi_records.specs.declared.tcp_binding.InProgress.{InProgress}
-use Rattle.wasi_records.specs.declared.tcp_listening.Listening.{Listening}
-use Rattle.wasi_records.specs.declared.socket.TcpRecord.{TcpRecord}
+use Rattle.tcp_records.specs.declared.tcp_binding.InProgress.{InProgress}
+use Rattle.tcp_records.specs.declared.tcp_listening.Listening.{Listening}
+use Rattle.tcp_records.specs.declared.socket.TcpRecord.{TcpRecord}
 use Rattle.host_store.specs.declared.store.StandingCall.{StandingCall}
 use Rattle.wasi_udp.specs.Receive.{IsReceive}
 use Rattle.wasi_udp.specs.Send.{IsSend}

@@ -3,7 +3,7 @@ use Rattle.std.specs.Prelude.{◌≡◌, ⊤, ℕ, suc, List, [], ◌∷◌}
 use Rattle.wasi_walks.proofs.Words.{Allows, Done, End, Entry, Item, Operation, Polled, Refused, Waits, Who, bind, poll_asks, polled_front, refl, subst, sym, told_polled}
 use Rattle.wasi_world.specs.Operation.{UdpWritable, CloseLast, polls, round, after}
 use Rattle.wasi_udp.specs.Create.{Create}
-use Rattle.wasi_records.specs.Udp.{udp_create_left, udp_side}
+use Rattle.udp_records.specs.Udp.{udp_create_left, udp_side}
 use Rattle.wasi_walks.proofs.fits.Polls.{Anything}
 use Rattle.wasi_walks.proofs.fits.Records.{FitUdp}
 

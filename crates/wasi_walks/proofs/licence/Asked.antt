@@ -17,7 +17,7 @@ use Rattle.wasi_walks.proofs.licence.Binds.{learned_told, NoLocal, MayQuietly}
 use Rattle.wasi_walks.proofs.licence.Line.{some_same, local_side, ListenGoesOn, JoinedIsFine, Licensed, put_fine}
 use Rattle.wasi_walks.proofs.licence.Moves.{held_side, same_listen}
 use Rattle.wasi_records.specs.Records.{tcp2_at}
-use Rattle.wasi_records.specs.Udp.{udp_side}
+use Rattle.udp_records.specs.Udp.{udp_side}
 use Rattle.wasi_walks.proofs.licence.Unbound.{MayAskSo}
 
 module _ (contexts : List WasiSocketsCtx) (steps : List Step) (line : ℕ) (origin : Step) (is_line : step_at steps line ≡ Some origin) where

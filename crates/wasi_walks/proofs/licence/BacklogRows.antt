@@ -13,16 +13,17 @@ use Rattle.wasi_addr.specs.declared.code.ErrorCode.TheVariants as code
 use Rattle.wasi_world.specs.declared.call.HandleKind.TheVariants as kind
 use Rattle.wasi_world.specs.declared.call.Opt.TheVariants as opt
 use Rattle.wasi_records.specs.declared.records.Record.TheVariants as rec
+use Rattle.wasi_steps.specs.declared.guest_call.TcpCall.{TcpCall}
 
 -- == a backlog is set before the listen, which takes it, and again after it; and an option is set and reported
 abbrev script : List Step
 script = bind_script
-    ++ (Step.Call 0 (GuestCall.TcpSet 2 (TcpSetting.ListenBacklogSize 7))
-    ∷ Step.Call 0 (GuestCall.TcpStartListen 2)
-    ∷ Step.Call 0 (GuestCall.TcpFinishListen 2)
-    ∷ Step.Call 0 (GuestCall.TcpSet 2 (TcpSetting.ListenBacklogSize 9))
-    ∷ Step.Call 0 (GuestCall.TcpSet 2 (TcpSetting.Option (Setting.HopLimit 3)))
-    ∷ Step.Call 0 (GuestCall.TcpGet 2 opt.HopLimit)
+    ++ (Step.Call 0 (GuestCall.Tcp (TcpCall.Set 2 (TcpSetting.ListenBacklogSize 7)))
+    ∷ Step.Call 0 (GuestCall.Tcp (TcpCall.StartListen 2))
+    ∷ Step.Call 0 (GuestCall.Tcp (TcpCall.FinishListen 2))
+    ∷ Step.Call 0 (GuestCall.Tcp (TcpCall.Set 2 (TcpSetting.ListenBacklogSize 9)))
+    ∷ Step.Call 0 (GuestCall.Tcp (TcpCall.Set 2 (TcpSetting.Option (Setting.HopLimit 3))))
+    ∷ Step.Call 0 (GuestCall.Tcp (TcpCall.Get 2 opt.HopLimit))
     ∷ [])
 
 -- until the listen was answered this
@@ -78,29 +79,29 @@ refused_listen h =
 by_a_bind : IsLicensed allowed script (listens Told.Done ++ set_by (own_of 3) ∷ []) [] → ⊥
 by_a_bind h =
     let may = h.each (listens Told.Done) (set_by (own_of 3)) [] refl in
-    at_line (IsBacklogSet 9) (Step.Call 0 (GuestCall.TcpStartBind 2 1 local_80)) may.1.origin may.1.at may.1.holds
+    at_line (IsBacklogSet 9) (Step.Call 0 (GuestCall.Tcp (TcpCall.StartBind 2 1 local_80))) may.1.origin may.1.at may.1.holds
 
 by_another_set : IsLicensed allowed script (listens Told.Done ++ set_by (own_of 9) ∷ []) [] → ⊥
 by_another_set h =
     let may = h.each (listens Told.Done) (set_by (own_of 9)) [] refl in
-    at_line (IsBacklogSet 9) (Step.Call 0 (GuestCall.TcpSet 2 (TcpSetting.Option (Setting.HopLimit 3)))) may.1.origin may.1.at may.1.holds
+    at_line (IsBacklogSet 9) (Step.Call 0 (GuestCall.Tcp (TcpCall.Set 2 (TcpSetting.Option (Setting.HopLimit 3))))) may.1.origin may.1.at may.1.holds
 
 -- == another option than that of the line is asked for, or another value set
 another_option : IsLicensed allowed script (listens Told.Done ++ entry (own_of 10) (Call.GetOption (own_of 2) opt.SendBufferSize) (Told.Value 3) ∷ []) [] → ⊥
 another_option h =
     let may = h.each (listens Told.Done) (entry (own_of 10) (Call.GetOption (own_of 2) opt.SendBufferSize) (Told.Value 3)) [] refl in
-    let is : opt.HopLimit ≡ opt.SendBufferSize = at_line (IsGetOf opt.SendBufferSize) (Step.Call 0 (GuestCall.TcpGet 2 opt.HopLimit)) may.1.origin may.1.at may.1.holds in cc
+    let is : opt.HopLimit ≡ opt.SendBufferSize = at_line (IsGetOf opt.SendBufferSize) (Step.Call 0 (GuestCall.Tcp (TcpCall.Get 2 opt.HopLimit))) may.1.origin may.1.at may.1.holds in cc
 
 another_value : IsLicensed allowed script (listens Told.Done ++ entry (own_of 9) (Call.SetOption (own_of 2) opt.HopLimit 4) Told.Done ∷ []) [] → ⊥
 another_value h =
     let may = h.each (listens Told.Done) (entry (own_of 9) (Call.SetOption (own_of 2) opt.HopLimit 4) Told.Done) [] refl in
-    let is : ◌≡◌ {A = ℕ} 4 3 = (at_line (IsSetTo opt.HopLimit 4) (Step.Call 0 (GuestCall.TcpSet 2 (TcpSetting.Option (Setting.HopLimit 3)))) may.1.origin may.1.at may.1.holds).1 in
+    let is : ◌≡◌ {A = ℕ} 4 3 = (at_line (IsSetTo opt.HopLimit 4) (Step.Call 0 (GuestCall.Tcp (TcpCall.Set 2 (TcpSetting.Option (Setting.HopLimit 3))))) may.1.origin may.1.at may.1.holds).1 in
     let same : false ≡ true = ap (λ (n : ℕ). n == 3) is in
     cc
 
 -- == another socket listens
 abbrev two_sockets : List Step
-two_sockets = bind_script ++ (Step.Call 0 (GuestCall.TcpCreate SocketAddressFamily.Ipv4) ∷ Step.Call 0 (GuestCall.TcpStartListen 2) ∷ Step.Call 0 (GuestCall.TcpSet 3 (TcpSetting.ListenBacklogSize 9)) ∷ [])
+two_sockets = bind_script ++ (Step.Call 0 (GuestCall.Tcp (TcpCall.Create SocketAddressFamily.Ipv4)) ∷ Step.Call 0 (GuestCall.Tcp (TcpCall.StartListen 2)) ∷ Step.Call 0 (GuestCall.Tcp (TcpCall.Set 3 (TcpSetting.ListenBacklogSize 9))) ∷ [])
 
 abbrev one_listens : List Entry
 one_listens = bind_log

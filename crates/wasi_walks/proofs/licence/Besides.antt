@@ -7,7 +7,7 @@ use Rattle.wasi_world.specs.declared.asks.Polled.{Polled}
 use Rattle.wasi_world.specs.declared.asks.Polled.TheVariants as polled
 use Rattle.wasi_world.specs.declared.call.Entry.{Entry}
 use Rattle.wasi_world.specs.declared.outcome.WasiSocketsCtx.{WasiSocketsCtx}
-use Rattle.wasi_records.specs.Names.{own_of}
+use Rattle.record_common.specs.Names.{own_of}
 use Rattle.host_store.specs.declared.beside.Beside.{Beside}
 use Rattle.host_store.specs.declared.beside.BesideCall.{BesideCall}
 use Rattle.host_store.specs.declared.beside.BesideCall.TheVariants.{Connect, Resolve, Send, Receive}

@@ -2,9 +2,9 @@
 use Rattle.wasi_walks.proofs.Words.{Allows, BeganBy, Done, End, Entry, Item, List, None, OpId, Operation, Refused, Some, Step, Told, Waits, WasiSocketsCtx, allows_weaker, ap, own_of, poll_asks, refl, step_at, subst, sym, ℕ, ◌∙◌, ◌≡◌}
 use Rattle.wasi_udp.specs.Receive.{receive_start, wanting}
 use Rattle.wasi_udp.specs.Send.{at_remote, send_start, send_to}
-use Rattle.wasi_records.specs.Binding.{left_of}
-use Rattle.wasi_records.specs.declared.udp.OpenUdp.{OpenUdp}
-use Rattle.wasi_records.specs.declared.udp.UdpRecord.{UdpRecord}
+use Rattle.record_common.specs.Binding.{left_of}
+use Rattle.udp_records.specs.declared.udp.OpenUdp.{OpenUdp}
+use Rattle.udp_records.specs.declared.udp.UdpRecord.{UdpRecord}
 use Rattle.host_store.specs.declared.beside.Beside.{Beside}
 use Rattle.host_store.specs.declared.beside.BesideCall.{BesideCall}
 use Rattle.host_store.specs.declared.beside.BesideCall.TheVariants.{Send, Receive}

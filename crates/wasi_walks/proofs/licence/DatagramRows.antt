@@ -12,6 +12,8 @@ use Rattle.wasi_walks.proofs.Lists.{has_back}
 use Rattle.wasi_walks.proofs.licence.Rows.{allowed, local_80}
 use Rattle.wasi_walks.proofs.licence.Refused.{Each, NotYes, of_each, at_line, local_81}
 use Rattle.wasi_walks.proofs.licence.UdpRows.{udp_log}
+use Rattle.wasi_steps.specs.declared.guest_call.UdpCall.{UdpCall}
+use Rattle.wasi_steps.specs.declared.guest_call.NameCall.{NameCall}
 
 -- a datagram of one byte
 abbrev sent : OutgoingDatagram
@@ -19,7 +21,7 @@ sent = record { bytes = 1 ∷ []; remote_address = Some local_81 }
 
 -- a socket is made, bound, gets its streams, sends a datagram and receives
 abbrev datagram_script : List Step
-datagram_script = Step.Call 0 GuestCall.Network ∷ Step.Call 0 (GuestCall.UdpCreate SocketAddressFamily.Ipv4) ∷ Step.Call 0 (GuestCall.UdpStartBind 2 1 local_80) ∷ Step.Call 0 (GuestCall.UdpFinishBind 2) ∷ Step.Call 0 (GuestCall.UdpStream 2 None) ∷ Step.Call 0 (GuestCall.UdpSend 4 (sent ∷ [])) ∷ Step.Call 0 (GuestCall.UdpReceive 3 1) ∷ []
+datagram_script = Step.Call 0 (GuestCall.Names NameCall.Network) ∷ Step.Call 0 (GuestCall.Udp (UdpCall.Create SocketAddressFamily.Ipv4)) ∷ Step.Call 0 (GuestCall.Udp (UdpCall.StartBind 2 1 local_80)) ∷ Step.Call 0 (GuestCall.Udp (UdpCall.FinishBind 2)) ∷ Step.Call 0 (GuestCall.Udp (UdpCall.Stream 2 None)) ∷ Step.Call 0 (GuestCall.Udp (UdpCall.Send 4 (sent ∷ []))) ∷ Step.Call 0 (GuestCall.Udp (UdpCall.Receive 3 1)) ∷ []
 
 -- the first datagram of the sixth line
 abbrev first : OpId
@@ -57,7 +59,7 @@ first_byte (x ∷ xs) = x
 other_bytes : IsLicensed allowed datagram_script (told_yes ++ sends (2 ∷ []) ∷ []) [] → ⊥
 other_bytes h =
     let may = h.each told_yes (sends (2 ∷ [])) [] refl in
-    let its = at_line (SendsItem told_yes first (own_of 2) local_81 (2 ∷ [])) (Step.Call 0 (GuestCall.UdpSend 4 (sent ∷ []))) may.1.origin may.1.at may.1.holds in
+    let its = at_line (SendsItem told_yes first (own_of 2) local_81 (2 ∷ [])) (Step.Call 0 (GuestCall.Udp (UdpCall.Send 4 (sent ∷ [])))) may.1.origin may.1.at may.1.holds in
     let one : List ℕ = 1 ∷ [] in
     let two : List ℕ = 2 ∷ [] in
     let bytes : one ≡ two = ap (λ (d : OutgoingDatagram). d.bytes) its.item ∙ its.bytes_are in

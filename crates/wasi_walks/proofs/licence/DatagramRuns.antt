@@ -21,6 +21,8 @@ use Rattle.wasi_world.specs.Operation.{polls}
 use Rattle.host_store.specs.declared.machine.Machine.{Machine}
 use Rattle.host_store.specs.Machine.{first_state, own_of}
 use Rattle.wasi_steps.specs.declared.guest_call.GuestCall.TheVariants as guest
+use Rattle.wasi_steps.specs.declared.guest_call.PollableCall.TheVariants as pollable_call
+use Rattle.wasi_steps.specs.declared.guest_call.P3UdpCall.TheVariants as p3_udp_call
 use Rattle.wasi_steps.specs.declared.reply.Reply.{Reply}
 use Rattle.wasi_steps.specs.declared.reply.Reply.TheVariants as reply
 use Rattle.wasi_steps.specs.declared.setting.UdpSetting.TheVariants as setting
@@ -71,7 +73,7 @@ to a bytes = record { bytes = bytes; remote_address = Some a }
 
 -- == created
 abbrev creates : List Step
-creates = step.Call 0 (guest.P3UdpCreate family.Ipv4) ∷ []
+creates = step.Call 0 (guest.P3Udp (p3_udp_call.Create family.Ipv4)) ∷ []
 
 abbrev created : List Entry
 created = entry (own_of 1) (call.UdpCreate 0 family.Ipv4) told.Done ∷ entry (own_of 1) (call.UdpWritable (own_of 1)) told.Done ∷ entry (own_of 1) (call.Made 1 Udp3 None (Some (own_of 1))) told.Done ∷ []
@@ -86,7 +88,7 @@ zeroes zero = []
 zeroes (suc n) = 0 ∷ zeroes n
 
 abbrev large : List Step
-large = creates ++ step.Call 0 (guest.P3UdpSend 1 (to_peer (zeroes 65536))) ∷ []
+large = creates ++ step.Call 0 (guest.P3Udp (p3_udp_call.Send 1 (to_peer (zeroes 65536)))) ∷ []
 
 abbrev large_log : List Entry
 large_log = created ++ entry (own_of 2) (call.Local (own_of 1)) (told.Addr anywhere) ∷ []
@@ -102,9 +104,9 @@ large_replies = refl
 -- == one that is late
 abbrev late : List Step
 late = creates
-    ++ (step.Call 0 (guest.P3UdpConnect 1 (port 7))
-    ∷ step.Call 0 (guest.P3UdpSend 1 (to_peer (1 ∷ [])))
-    ∷ step.Call 0 (guest.P3UdpConnect 1 (port 8))
+    ++ (step.Call 0 (guest.P3Udp (p3_udp_call.Connect 1 (port 7)))
+    ∷ step.Call 0 (guest.P3Udp (p3_udp_call.Send 1 (to_peer (1 ∷ []))))
+    ∷ step.Call 0 (guest.P3Udp (p3_udp_call.Connect 1 (port 8)))
     ∷ step.Poll 3
     ∷ [])
 
@@ -137,17 +139,17 @@ late_replies = refl
 -- == a receive
 abbrev comes : List Step
 comes = creates
-    ++ (step.Call 0 (guest.P3UdpDisconnect 1)
-    ∷ step.Call 0 (guest.P3UdpReceive 1)
-    ∷ step.Call 0 (guest.P3UdpBind 1 (port 53))
-    ∷ step.Call 0 (guest.P3UdpReceive 1)
+    ++ (step.Call 0 (guest.P3Udp (p3_udp_call.Disconnect 1))
+    ∷ step.Call 0 (guest.P3Udp (p3_udp_call.Receive 1))
+    ∷ step.Call 0 (guest.P3Udp (p3_udp_call.Bind 1 (port 53)))
+    ∷ step.Call 0 (guest.P3Udp (p3_udp_call.Receive 1))
     ∷ step.Poll 5
-    ∷ step.Call 0 (guest.P3UdpConnect 1 (port 9))
-    ∷ step.Call 0 (guest.P3UdpRemoteAddress 1)
-    ∷ step.Call 0 (guest.P3UdpDisconnect 1)
-    ∷ step.Call 0 (guest.P3UdpRemoteAddress 1)
-    ∷ step.Call 0 (guest.P3UdpSend 1 (to (port 9) (5 ∷ [])))
-    ∷ step.Call 0 (guest.P3UdpSet 1 (setting.HopLimit 9))
+    ∷ step.Call 0 (guest.P3Udp (p3_udp_call.Connect 1 (port 9)))
+    ∷ step.Call 0 (guest.P3Udp (p3_udp_call.RemoteAddress 1))
+    ∷ step.Call 0 (guest.P3Udp (p3_udp_call.Disconnect 1))
+    ∷ step.Call 0 (guest.P3Udp (p3_udp_call.RemoteAddress 1))
+    ∷ step.Call 0 (guest.P3Udp (p3_udp_call.Send 1 (to (port 9) (5 ∷ []))))
+    ∷ step.Call 0 (guest.P3Udp (p3_udp_call.Set 1 (setting.HopLimit 9)))
     ∷ [])
 
 abbrev comes_log : List Entry
@@ -188,10 +190,10 @@ comes_replies = refl
 -- == the last one closes
 abbrev holds : List Step
 holds = creates
-    ++ (step.Call 0 (guest.P3UdpBind 1 (port 53))
-    ∷ step.Call 0 (guest.P3UdpSend 1 (to (port 9) (1 ∷ [])))
-    ∷ step.Call 0 (guest.P3UdpReceive 1)
-    ∷ step.Call 0 (guest.Drop 1)
+    ++ (step.Call 0 (guest.P3Udp (p3_udp_call.Bind 1 (port 53)))
+    ∷ step.Call 0 (guest.P3Udp (p3_udp_call.Send 1 (to (port 9) (1 ∷ []))))
+    ∷ step.Call 0 (guest.P3Udp (p3_udp_call.Receive 1))
+    ∷ step.Call 0 (guest.Pollable (pollable_call.Drop 1))
     ∷ step.Poll 3
     ∷ step.Cancel 4
     ∷ [])

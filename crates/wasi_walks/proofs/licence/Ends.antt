@@ -5,9 +5,9 @@ use Rattle.wasi_walks.proofs.Words.{Some, GuestCall, Step, TcpRecord, WasiSocket
 use Rattle.wasi_walks.proofs.Words.{kind_at, length, name_of, refl, step_at, subst, sym, ℕ, ◌∙◌, ◌≡◌}
 use Rattle.wasi_walks.specs.Licence.{IsTcpName}
 use Rattle.wasi_records.specs.Records.{tcp2_at, udp2_at}
-use Rattle.wasi_records.specs.Slots.{slot_pushed}
+use Rattle.wasi_records.specs.Records.{slot_pushed}
 use Rattle.wasi_records.specs.declared.records.Record.{Record}
-use Rattle.wasi_records.specs.declared.slot.Slot.{Slot}
+use Rattle.tcp_records.specs.declared.slot.Slot.{Slot}
 use Rattle.host_store.specs.declared.kind.ConnectionEnd.{ConnectionEnd}
 use Rattle.host_store.specs.declared.kind.Kind.TheVariants.{Receive3, Send3}
 use Rattle.wasi_world.specs.declared.call.HandleKind.TheVariants as name
@@ -18,6 +18,8 @@ use Rattle.wasi_walks.proofs.licence.State.{HandleIsFine, NamesEnd, NamesEndIf, 
 use Rattle.wasi_walks.proofs.licence.Line.{IsAccept, Licensed, NamesMade, NamesTcpHere, NamesUdpHere, elsewhere, pair_first, pair_second, remade}
 use Rattle.wasi_walks.proofs.licence.LookupMoves.{records_fine}
 use Rattle.wasi_walks.proofs.licence.UdpMoves.{not_both}
+use Rattle.wasi_steps.specs.declared.guest_call.TcpCall.{TcpCall}
+use Rattle.wasi_steps.specs.declared.guest_call.P3TcpCall.{P3TcpCall}
 
 -- == what an end's handle says
 names_end : (es : List Entry) (records : List Record) (handle place : ℕ) (k : Option Kind) (end : ConnectionEnd) → end_of k ≡ Some end → end.socket ≡ Some place → ((kind : Kind) → k ≡ Some kind → HandleIsFine es records handle kind) → NamesEnd es records handle place
@@ -36,28 +38,28 @@ end_handle es records handle place socket _ end s m e is n = absurd m
 
 -- == its mark, and that of its slot
 pub end_mark : (es : List Entry) (op : OpId) (socket : ℕ) (kind : Kind) (sock : Option OpId) → IsMarkedWith es socket sock → (s : Step) → MakesEnd socket kind s → IsMarkOf es op (name_of kind) (Some socket) sock s
-end_mark es op socket (Receive3 end) sock w (Step.Call c (GuestCall.P3TcpReceive s)) e = (inl refl, (ap (λ (n : ℕ). Some n) (sym e), subst (λ (n : ℕ). IsMarkedWith es n sock) (sym e) w))
-end_mark es op socket (Send3 end) sock w (Step.Call c (GuestCall.P3TcpSend s)) e = (inl refl, (ap (λ (n : ℕ). Some n) (sym e), subst (λ (n : ℕ). IsMarkedWith es n sock) (sym e) w))
+end_mark es op socket (Receive3 end) sock w (Step.Call c (GuestCall.P3Tcp (P3TcpCall.Receive s))) e = (inl refl, (ap (λ (n : ℕ). Some n) (sym e), subst (λ (n : ℕ). IsMarkedWith es n sock) (sym e) w))
+end_mark es op socket (Send3 end) sock w (Step.Call c (GuestCall.P3Tcp (P3TcpCall.Send s))) e = (inl refl, (ap (λ (n : ℕ). Some n) (sym e), subst (λ (n : ℕ). IsMarkedWith es n sock) (sym e) w))
 end_mark es op socket _ sock w _ e = absurd e
 
 pub result_mark : (es : List Entry) (op : OpId) (socket : ℕ) (sock : Option OpId) → IsMarkedWith es socket sock → (s : Step) → MakesEnds socket s → IsMarkOf es op name.Result3 (Some socket) sock s
-result_mark es op socket sock w (Step.Call c (GuestCall.P3TcpReceive s)) e = (inr refl, (ap (λ (n : ℕ). Some n) (sym e), subst (λ (n : ℕ). IsMarkedWith es n sock) (sym e) w))
-result_mark es op socket sock w (Step.Call c (GuestCall.P3TcpSend s)) e = (inr refl, (ap (λ (n : ℕ). Some n) (sym e), subst (λ (n : ℕ). IsMarkedWith es n sock) (sym e) w))
+result_mark es op socket sock w (Step.Call c (GuestCall.P3Tcp (P3TcpCall.Receive s))) e = (inr refl, (ap (λ (n : ℕ). Some n) (sym e), subst (λ (n : ℕ). IsMarkedWith es n sock) (sym e) w))
+result_mark es op socket sock w (Step.Call c (GuestCall.P3Tcp (P3TcpCall.Send s))) e = (inr refl, (ap (λ (n : ℕ). Some n) (sym e), subst (λ (n : ℕ). IsMarkedWith es n sock) (sym e) w))
 result_mark es op socket sock w _ e = absurd e
 
 -- neither is an accept's, nor of a TCP socket
 pub end_no_accept : (socket : ℕ) (kind : Kind) (s : Step) → MakesEnd socket kind s → IsAccept s → ⊥
-end_no_accept socket (Receive3 end) (Step.Call c (GuestCall.TcpAccept listener)) m is = m
-end_no_accept socket (Receive3 end) (Step.Call c (GuestCall.P3Accept listener remaining)) m is = m
+end_no_accept socket (Receive3 end) (Step.Call c (GuestCall.Tcp (TcpCall.Accept listener))) m is = m
+end_no_accept socket (Receive3 end) (Step.Call c (GuestCall.P3Tcp (P3TcpCall.Accept listener remaining))) m is = m
 end_no_accept socket (Receive3 end) _ m is = is
-end_no_accept socket (Send3 end) (Step.Call c (GuestCall.TcpAccept listener)) m is = m
-end_no_accept socket (Send3 end) (Step.Call c (GuestCall.P3Accept listener remaining)) m is = m
+end_no_accept socket (Send3 end) (Step.Call c (GuestCall.Tcp (TcpCall.Accept listener))) m is = m
+end_no_accept socket (Send3 end) (Step.Call c (GuestCall.P3Tcp (P3TcpCall.Accept listener remaining))) m is = m
 end_no_accept socket (Send3 end) _ m is = is
 end_no_accept socket _ s m is = absurd m
 
 pub ends_no_accept : (socket : ℕ) (s : Step) → MakesEnds socket s → IsAccept s → ⊥
-ends_no_accept socket (Step.Call c (GuestCall.TcpAccept listener)) m is = m
-ends_no_accept socket (Step.Call c (GuestCall.P3Accept listener remaining)) m is = m
+ends_no_accept socket (Step.Call c (GuestCall.Tcp (TcpCall.Accept listener))) m is = m
+ends_no_accept socket (Step.Call c (GuestCall.P3Tcp (P3TcpCall.Accept listener remaining))) m is = m
 ends_no_accept socket _ m is = is
 
 pub end_no_tcp : (socket : ℕ) (kind : Kind) (s : Step) → MakesEnd socket kind s → IsTcpName (name_of kind) → ⊥

@@ -15,6 +15,9 @@ use Rattle.wasi_walks.proofs.licence.Line.{IsAccept, Licensed, names_record}
 use Rattle.wasi_walks.proofs.licence.StreamMoves.{made_for}
 use Rattle.wasi_walks.proofs.licence.UdpMarks.{mark_fine}
 use Rattle.wasi_walks.proofs.licence.Unbound.{MayAskSo}
+use Rattle.wasi_steps.specs.declared.guest_call.TcpCall.{TcpCall}
+use Rattle.wasi_steps.specs.declared.guest_call.StreamCall.{StreamCall}
+use Rattle.wasi_steps.specs.declared.guest_call.P3TcpCall.{P3TcpCall}
 
 module _ (contexts : List WasiSocketsCtx) (steps : List Step) (line : ℕ) (origin : Step) (is_line : step_at steps line ≡ Some origin) where
   module _ (es : List Entry) (op : OpId) (handle : ℕ) (sock : Option OpId) (w : IsMarkedWith es handle sock) (f : HasFailed es op handle sock) where
@@ -30,19 +33,19 @@ module _ (contexts : List WasiSocketsCtx) (steps : List Step) (line : ℕ) (orig
     of_two to from i = elim i [ inl e ↦ inl (of_stream to e) | inr k ↦ inr (of_one from k) ]
 
     error_mark : (s : Step) → IsStreamCall s → Has (handles_of s) handle → IsMarkOf es op name.ErrorValue (Some handle) sock s
-    error_mark (Step.Call c (GuestCall.Read input len)) m i = of_one input i
-    error_mark (Step.Call c (GuestCall.Skip input len)) m i = of_one input i
-    error_mark (Step.Call c (GuestCall.BlockingRead input len)) m i = of_one input i
-    error_mark (Step.Call c (GuestCall.BlockingSkip input len)) m i = of_one input i
-    error_mark (Step.Call c (GuestCall.CheckWrite output)) m i = of_one output i
-    error_mark (Step.Call c (GuestCall.Write output bytes)) m i = of_one output i
-    error_mark (Step.Call c (GuestCall.WriteZeroes output len)) m i = of_one output i
-    error_mark (Step.Call c (GuestCall.Flush output)) m i = of_one output i
-    error_mark (Step.Call c (GuestCall.BlockingWrite output bytes)) m i = of_one output i
-    error_mark (Step.Call c (GuestCall.BlockingZeroes output len)) m i = of_one output i
-    error_mark (Step.Call c (GuestCall.BlockingFlush output)) m i = of_one output i
-    error_mark (Step.Call c (GuestCall.Splice output input len)) m i = of_two output input i
-    error_mark (Step.Call c (GuestCall.BlockingSplice output input len)) m i = of_two output input i
+    error_mark (Step.Call c (GuestCall.Stream (StreamCall.Read input len))) m i = of_one input i
+    error_mark (Step.Call c (GuestCall.Stream (StreamCall.Skip input len))) m i = of_one input i
+    error_mark (Step.Call c (GuestCall.Stream (StreamCall.BlockingRead input len))) m i = of_one input i
+    error_mark (Step.Call c (GuestCall.Stream (StreamCall.BlockingSkip input len))) m i = of_one input i
+    error_mark (Step.Call c (GuestCall.Stream (StreamCall.CheckWrite output))) m i = of_one output i
+    error_mark (Step.Call c (GuestCall.Stream (StreamCall.Write output bytes))) m i = of_one output i
+    error_mark (Step.Call c (GuestCall.Stream (StreamCall.WriteZeroes output len))) m i = of_one output i
+    error_mark (Step.Call c (GuestCall.Stream (StreamCall.Flush output))) m i = of_one output i
+    error_mark (Step.Call c (GuestCall.Stream (StreamCall.BlockingWrite output bytes))) m i = of_one output i
+    error_mark (Step.Call c (GuestCall.Stream (StreamCall.BlockingZeroes output len))) m i = of_one output i
+    error_mark (Step.Call c (GuestCall.Stream (StreamCall.BlockingFlush output))) m i = of_one output i
+    error_mark (Step.Call c (GuestCall.Stream (StreamCall.Splice output input len))) m i = of_two output input i
+    error_mark (Step.Call c (GuestCall.Stream (StreamCall.BlockingSplice output input len))) m i = of_two output input i
     error_mark _ m i = absurd m
 
   -- an accept is no call of a stream
@@ -53,8 +56,8 @@ module _ (contexts : List WasiSocketsCtx) (steps : List Step) (line : ℕ) (orig
       no_accept b.origin b.holds.0 (subst IsAccept q is)
     where
       no_accept : (s : Step) → IsStreamCall s → IsAccept s → ⊥
-      no_accept (Step.Call c (GuestCall.TcpAccept listener)) m is = m
-      no_accept (Step.Call c (GuestCall.P3Accept listener remaining)) m is = m
+      no_accept (Step.Call c (GuestCall.Tcp (TcpCall.Accept listener))) m is = m
+      no_accept (Step.Call c (GuestCall.P3Tcp (P3TcpCall.Accept listener remaining))) m is = m
       no_accept _ m is = is
 
   -- a writer that is closed with a code was told one

@@ -10,6 +10,14 @@ use Rattle.wasi_walks.proofs.licence.Frames.{Spared, Free}
 use Rattle.wasi_walks.specs.Licence.{IsTcpName, UdpCreated}
 use Rattle.wasi_world.specs.declared.call.HandleKind.TheVariants as name
 use Rattle.wasi_records.specs.declared.records.Record.{Record}
+use Rattle.wasi_steps.specs.declared.guest_call.TcpCall.{TcpCall}
+use Rattle.wasi_steps.specs.declared.guest_call.UdpCall.{UdpCall}
+use Rattle.wasi_steps.specs.declared.guest_call.NameCall.{NameCall}
+use Rattle.wasi_steps.specs.declared.guest_call.StreamCall.{StreamCall}
+use Rattle.wasi_steps.specs.declared.guest_call.PipeCall.{PipeCall}
+use Rattle.wasi_steps.specs.declared.guest_call.PollableCall.{PollableCall}
+use Rattle.wasi_steps.specs.declared.guest_call.P3TcpCall.{P3TcpCall}
+use Rattle.wasi_steps.specs.declared.guest_call.P3UdpCall.{P3UdpCall}
 
 -- no mark is by this operation
 abbrev pub NoMadeBy : List Entry → OpId → Type 0
@@ -87,44 +95,44 @@ module _ (contexts : List WasiSocketsCtx) (steps : List Step) where
     no_tcp its other (inr is) e two three = three (sym e ∙ is)
 
     marked_below : (its : HandleKind) → IsTcpName its → (op : OpId) (parent : Option ℕ) (x : OpId) (c : Entry) (k : Cut log c) (s : Step) → op.step ≤ length steps → IsMarkOf k.front op its parent (Some x) s → x.step ≤ length steps
-    marked_below its is op parent x c k (Step.Call ctx GuestCall.Network) b m = absurd (no_tcp its _ is m.0 (λ e. cc) (λ e. cc))
-    marked_below its is op parent x c k (Step.Call ctx (GuestCall.TcpCreate family)) b m = let e : x ≡ op = (let q = m.2 in cc) in subst (λ (o : OpId). o.step ≤ length steps) (sym e) b
-    marked_below its is op parent x c k (Step.Call ctx (GuestCall.P3TcpCreate family)) b m = let e : x ≡ op = (let q = m.2 in cc) in subst (λ (o : OpId). o.step ≤ length steps) (sym e) b
-    marked_below its is op parent x c k (Step.Call ctx (GuestCall.UdpCreate family)) b m = absurd (no_tcp its _ is m.0 (λ e. cc) (λ e. cc))
-    marked_below its is op parent x c k (Step.Call ctx (GuestCall.P3UdpCreate family)) b m = absurd (no_tcp its _ is m.0 (λ e. cc) (λ e. cc))
-    marked_below its is op parent x c k (Step.Call ctx (GuestCall.TcpAccept socket)) b (inl m) =
+    marked_below its is op parent x c k (Step.Call ctx (GuestCall.Names NameCall.Network)) b m = absurd (no_tcp its _ is m.0 (λ e. cc) (λ e. cc))
+    marked_below its is op parent x c k (Step.Call ctx (GuestCall.Tcp (TcpCall.Create family))) b m = let e : x ≡ op = (let q = m.2 in cc) in subst (λ (o : OpId). o.step ≤ length steps) (sym e) b
+    marked_below its is op parent x c k (Step.Call ctx (GuestCall.P3Tcp (P3TcpCall.Create family))) b m = let e : x ≡ op = (let q = m.2 in cc) in subst (λ (o : OpId). o.step ≤ length steps) (sym e) b
+    marked_below its is op parent x c k (Step.Call ctx (GuestCall.Udp (UdpCall.Create family))) b m = absurd (no_tcp its _ is m.0 (λ e. cc) (λ e. cc))
+    marked_below its is op parent x c k (Step.Call ctx (GuestCall.P3Udp (P3UdpCall.Create family))) b m = absurd (no_tcp its _ is m.0 (λ e. cc) (λ e. cc))
+    marked_below its is op parent x c k (Step.Call ctx (GuestCall.Tcp (TcpCall.Accept socket))) b (inl m) =
         let e : m.accept ≡ x = (let q = m.side in cc) in
         subst (λ (o : OpId). o.step ≤ length steps) e (handed_below m.accept m.on m.peer m.told (front_in c _ k m.handed))
-    marked_below its is op parent x c k (Step.Call ctx (GuestCall.TcpAccept socket)) b (inr m) = absurd (elim m.stream [ inl e ↦ no_tcp its _ is e (λ q. cc) (λ q. cc) | inr e ↦ no_tcp its _ is e (λ q. cc) (λ q. cc) ])
-    marked_below its is op parent x c k (Step.Call ctx (GuestCall.P3TcpListen socket)) b m = absurd (no_tcp its _ is m.0 (λ e. cc) (λ e. cc))
-    marked_below its is op parent x c k (Step.Call ctx (GuestCall.P3Accept listener remaining)) b (inl m) =
+    marked_below its is op parent x c k (Step.Call ctx (GuestCall.Tcp (TcpCall.Accept socket))) b (inr m) = absurd (elim m.stream [ inl e ↦ no_tcp its _ is e (λ q. cc) (λ q. cc) | inr e ↦ no_tcp its _ is e (λ q. cc) (λ q. cc) ])
+    marked_below its is op parent x c k (Step.Call ctx (GuestCall.P3Tcp (P3TcpCall.Listen socket))) b m = absurd (no_tcp its _ is m.0 (λ e. cc) (λ e. cc))
+    marked_below its is op parent x c k (Step.Call ctx (GuestCall.P3Tcp (P3TcpCall.Accept listener remaining))) b (inl m) =
         let e : m.accept ≡ x = (let q = m.side in cc) in
         subst (λ (o : OpId). o.step ≤ length steps) e (handed_below m.accept m.on m.peer m.told (front_in c _ k m.handed))
-    marked_below its is op parent x c k (Step.Call ctx (GuestCall.P3Accept listener remaining)) b (inr m) = absurd (let q = m.2 in cc)
-    marked_below its is op parent x c k (Step.Call ctx (GuestCall.TcpFinishConnect socket)) b m = absurd (elim m.0 [ inl e ↦ no_tcp its _ is e (λ q. cc) (λ q. cc) | inr e ↦ no_tcp its _ is e (λ q. cc) (λ q. cc) ])
-    marked_below its is op parent x c k (Step.Call ctx (GuestCall.PipeIn bytes)) b m = absurd (no_tcp its _ is m.0 (λ e. cc) (λ e. cc))
-    marked_below its is op parent x c k (Step.Call ctx (GuestCall.PipeOut capacity)) b m = absurd (no_tcp its _ is m.0 (λ e. cc) (λ e. cc))
-    marked_below its is op parent x c k (Step.Call ctx GuestCall.Sink) b m = absurd (no_tcp its _ is m.0 (λ e. cc) (λ e. cc))
-    marked_below its is op parent x c k (Step.Call ctx GuestCall.ClosedIn) b m = absurd (no_tcp its _ is m.0 (λ e. cc) (λ e. cc))
-    marked_below its is op parent x c k (Step.Call ctx GuestCall.ClosedOut) b m = absurd (no_tcp its _ is m.0 (λ e. cc) (λ e. cc))
-    marked_below its is op parent x c k (Step.Call ctx (GuestCall.Read input len)) b m = absurd (no_tcp its _ is m.0 (λ e. cc) (λ e. cc))
-    marked_below its is op parent x c k (Step.Call ctx (GuestCall.Skip input len)) b m = absurd (no_tcp its _ is m.0 (λ e. cc) (λ e. cc))
-    marked_below its is op parent x c k (Step.Call ctx (GuestCall.CheckWrite output)) b m = absurd (no_tcp its _ is m.0 (λ e. cc) (λ e. cc))
-    marked_below its is op parent x c k (Step.Call ctx (GuestCall.Write output bytes)) b m = absurd (no_tcp its _ is m.0 (λ e. cc) (λ e. cc))
-    marked_below its is op parent x c k (Step.Call ctx (GuestCall.WriteZeroes output len)) b m = absurd (no_tcp its _ is m.0 (λ e. cc) (λ e. cc))
-    marked_below its is op parent x c k (Step.Call ctx (GuestCall.Flush output)) b m = absurd (no_tcp its _ is m.0 (λ e. cc) (λ e. cc))
-    marked_below its is op parent x c k (Step.Call ctx (GuestCall.BlockingRead input len)) b m = absurd (no_tcp its _ is m.0 (λ e. cc) (λ e. cc))
-    marked_below its is op parent x c k (Step.Call ctx (GuestCall.BlockingSkip input len)) b m = absurd (no_tcp its _ is m.0 (λ e. cc) (λ e. cc))
-    marked_below its is op parent x c k (Step.Call ctx (GuestCall.BlockingWrite output bytes)) b m = absurd (no_tcp its _ is m.0 (λ e. cc) (λ e. cc))
-    marked_below its is op parent x c k (Step.Call ctx (GuestCall.BlockingZeroes output len)) b m = absurd (no_tcp its _ is m.0 (λ e. cc) (λ e. cc))
-    marked_below its is op parent x c k (Step.Call ctx (GuestCall.BlockingFlush output)) b m = absurd (no_tcp its _ is m.0 (λ e. cc) (λ e. cc))
-    marked_below its is op parent x c k (Step.Call ctx (GuestCall.Splice output input len)) b m = absurd (elim m [ inl e ↦ no_tcp its _ is e.0 (λ q. cc) (λ q. cc) | inr e ↦ no_tcp its _ is e.0 (λ q. cc) (λ q. cc) ])
-    marked_below its is op parent x c k (Step.Call ctx (GuestCall.BlockingSplice output input len)) b m = absurd (elim m [ inl e ↦ no_tcp its _ is e.0 (λ q. cc) (λ q. cc) | inr e ↦ no_tcp its _ is e.0 (λ q. cc) (λ q. cc) ])
-    marked_below its is op parent x c k (Step.Call ctx (GuestCall.Resolve network host)) b m = absurd (no_tcp its _ is m.0 (λ e. cc) (λ e. cc))
-    marked_below its is op parent x c k (Step.Call ctx (GuestCall.Subscribe handle)) b m = absurd (no_tcp its _ is m.0 (λ e. cc) (λ e. cc))
-    marked_below its is op parent x c k (Step.Call ctx (GuestCall.P3TcpSend socket)) b m = absurd (elim m.0 [ inl e ↦ no_tcp its _ is e (λ q. cc) (λ q. cc) | inr e ↦ no_tcp its _ is e (λ q. cc) (λ q. cc) ])
-    marked_below its is op parent x c k (Step.Call ctx (GuestCall.P3TcpReceive socket)) b m = absurd (elim m.0 [ inl e ↦ no_tcp its _ is e (λ q. cc) (λ q. cc) | inr e ↦ no_tcp its _ is e (λ q. cc) (λ q. cc) ])
-    marked_below its is op parent x c k (Step.Call ctx (GuestCall.UdpStream socket remote)) b m = absurd (elim m.0 [ inl e ↦ no_tcp its _ is e (λ q. cc) (λ q. cc) | inr e ↦ no_tcp its _ is e (λ q. cc) (λ q. cc) ])
+    marked_below its is op parent x c k (Step.Call ctx (GuestCall.P3Tcp (P3TcpCall.Accept listener remaining))) b (inr m) = absurd (let q = m.2 in cc)
+    marked_below its is op parent x c k (Step.Call ctx (GuestCall.Tcp (TcpCall.FinishConnect socket))) b m = absurd (elim m.0 [ inl e ↦ no_tcp its _ is e (λ q. cc) (λ q. cc) | inr e ↦ no_tcp its _ is e (λ q. cc) (λ q. cc) ])
+    marked_below its is op parent x c k (Step.Call ctx (GuestCall.Pipe (PipeCall.In bytes))) b m = absurd (no_tcp its _ is m.0 (λ e. cc) (λ e. cc))
+    marked_below its is op parent x c k (Step.Call ctx (GuestCall.Pipe (PipeCall.Out capacity))) b m = absurd (no_tcp its _ is m.0 (λ e. cc) (λ e. cc))
+    marked_below its is op parent x c k (Step.Call ctx (GuestCall.Pipe PipeCall.Sink)) b m = absurd (no_tcp its _ is m.0 (λ e. cc) (λ e. cc))
+    marked_below its is op parent x c k (Step.Call ctx (GuestCall.Pipe PipeCall.ClosedIn)) b m = absurd (no_tcp its _ is m.0 (λ e. cc) (λ e. cc))
+    marked_below its is op parent x c k (Step.Call ctx (GuestCall.Pipe PipeCall.ClosedOut)) b m = absurd (no_tcp its _ is m.0 (λ e. cc) (λ e. cc))
+    marked_below its is op parent x c k (Step.Call ctx (GuestCall.Stream (StreamCall.Read input len))) b m = absurd (no_tcp its _ is m.0 (λ e. cc) (λ e. cc))
+    marked_below its is op parent x c k (Step.Call ctx (GuestCall.Stream (StreamCall.Skip input len))) b m = absurd (no_tcp its _ is m.0 (λ e. cc) (λ e. cc))
+    marked_below its is op parent x c k (Step.Call ctx (GuestCall.Stream (StreamCall.CheckWrite output))) b m = absurd (no_tcp its _ is m.0 (λ e. cc) (λ e. cc))
+    marked_below its is op parent x c k (Step.Call ctx (GuestCall.Stream (StreamCall.Write output bytes))) b m = absurd (no_tcp its _ is m.0 (λ e. cc) (λ e. cc))
+    marked_below its is op parent x c k (Step.Call ctx (GuestCall.Stream (StreamCall.WriteZeroes output len))) b m = absurd (no_tcp its _ is m.0 (λ e. cc) (λ e. cc))
+    marked_below its is op parent x c k (Step.Call ctx (GuestCall.Stream (StreamCall.Flush output))) b m = absurd (no_tcp its _ is m.0 (λ e. cc) (λ e. cc))
+    marked_below its is op parent x c k (Step.Call ctx (GuestCall.Stream (StreamCall.BlockingRead input len))) b m = absurd (no_tcp its _ is m.0 (λ e. cc) (λ e. cc))
+    marked_below its is op parent x c k (Step.Call ctx (GuestCall.Stream (StreamCall.BlockingSkip input len))) b m = absurd (no_tcp its _ is m.0 (λ e. cc) (λ e. cc))
+    marked_below its is op parent x c k (Step.Call ctx (GuestCall.Stream (StreamCall.BlockingWrite output bytes))) b m = absurd (no_tcp its _ is m.0 (λ e. cc) (λ e. cc))
+    marked_below its is op parent x c k (Step.Call ctx (GuestCall.Stream (StreamCall.BlockingZeroes output len))) b m = absurd (no_tcp its _ is m.0 (λ e. cc) (λ e. cc))
+    marked_below its is op parent x c k (Step.Call ctx (GuestCall.Stream (StreamCall.BlockingFlush output))) b m = absurd (no_tcp its _ is m.0 (λ e. cc) (λ e. cc))
+    marked_below its is op parent x c k (Step.Call ctx (GuestCall.Stream (StreamCall.Splice output input len))) b m = absurd (elim m [ inl e ↦ no_tcp its _ is e.0 (λ q. cc) (λ q. cc) | inr e ↦ no_tcp its _ is e.0 (λ q. cc) (λ q. cc) ])
+    marked_below its is op parent x c k (Step.Call ctx (GuestCall.Stream (StreamCall.BlockingSplice output input len))) b m = absurd (elim m [ inl e ↦ no_tcp its _ is e.0 (λ q. cc) (λ q. cc) | inr e ↦ no_tcp its _ is e.0 (λ q. cc) (λ q. cc) ])
+    marked_below its is op parent x c k (Step.Call ctx (GuestCall.Names (NameCall.Resolve network host))) b m = absurd (no_tcp its _ is m.0 (λ e. cc) (λ e. cc))
+    marked_below its is op parent x c k (Step.Call ctx (GuestCall.Pollable (PollableCall.Subscribe handle))) b m = absurd (no_tcp its _ is m.0 (λ e. cc) (λ e. cc))
+    marked_below its is op parent x c k (Step.Call ctx (GuestCall.P3Tcp (P3TcpCall.Send socket))) b m = absurd (elim m.0 [ inl e ↦ no_tcp its _ is e (λ q. cc) (λ q. cc) | inr e ↦ no_tcp its _ is e (λ q. cc) (λ q. cc) ])
+    marked_below its is op parent x c k (Step.Call ctx (GuestCall.P3Tcp (P3TcpCall.Receive socket))) b m = absurd (elim m.0 [ inl e ↦ no_tcp its _ is e (λ q. cc) (λ q. cc) | inr e ↦ no_tcp its _ is e (λ q. cc) (λ q. cc) ])
+    marked_below its is op parent x c k (Step.Call ctx (GuestCall.Udp (UdpCall.Stream socket remote))) b m = absurd (elim m.0 [ inl e ↦ no_tcp its _ is e (λ q. cc) (λ q. cc) | inr e ↦ no_tcp its _ is e (λ q. cc) (λ q. cc) ])
     marked_below its is op parent x c k _ b m = absurd m
 
     socket_below : (op : OpId) (handle : ℕ) (its : HandleKind) → IsTcpName its → (parent : Option ℕ) (x : OpId) (t : Told) → Has log (entry op (Call.Made handle its parent (Some x)) t) → x.step ≤ length steps

@@ -14,6 +14,10 @@ use Rattle.wasi_world.specs.Operation.{polls}
 use Rattle.host_store.specs.Machine.{first_state}
 use Rattle.wasi_steps.specs.declared.guest_call.GuestCall.{GuestCall}
 use Rattle.wasi_steps.specs.declared.guest_call.GuestCall.TheVariants as guest
+use Rattle.wasi_steps.specs.declared.guest_call.TcpCall.TheVariants as tcp_call
+use Rattle.wasi_steps.specs.declared.guest_call.NameCall.TheVariants as name_call
+use Rattle.wasi_steps.specs.declared.guest_call.StreamCall.TheVariants as stream_call
+use Rattle.wasi_steps.specs.declared.guest_call.PollableCall.TheVariants as pollable_call
 use Rattle.wasi_steps.specs.declared.reply.Reply.{Reply}
 use Rattle.wasi_steps.specs.declared.reply.Reply.TheVariants as reply
 use Rattle.wasi_steps.specs.declared.step.Step.{Step}
@@ -58,10 +62,10 @@ by c = step.Call 0 c
 
 -- a connection, and a second one
 abbrev one : List Step → List Step
-one more = by guest.Network ∷ by (guest.TcpCreate family.Ipv4) ∷ by (guest.TcpStartConnect 2 1 (to 80)) ∷ by (guest.TcpFinishConnect 2) ∷ more
+one more = by (guest.Names name_call.Network) ∷ by (guest.Tcp (tcp_call.Create family.Ipv4)) ∷ by (guest.Tcp (tcp_call.StartConnect 2 1 (to 80))) ∷ by (guest.Tcp (tcp_call.FinishConnect 2)) ∷ more
 
 abbrev two_of : ℕ → List Step → List Step
-two_of c more = one (step.Call c (guest.TcpCreate family.Ipv4) ∷ step.Call c (guest.TcpStartConnect 5 1 (to 81)) ∷ step.Call c (guest.TcpFinishConnect 5) ∷ more)
+two_of c more = one (step.Call c (guest.Tcp (tcp_call.Create family.Ipv4)) ∷ step.Call c (guest.Tcp (tcp_call.StartConnect 5 1 (to 81))) ∷ step.Call c (guest.Tcp (tcp_call.FinishConnect 5)) ∷ more)
 
 abbrev two : List Step → List Step
 two more = two_of 0 more
@@ -86,33 +90,33 @@ sixty = replicate 60 97
 
 -- what one of the writers holds isn't left to the other: a permit, and then the bytes that are to be written
 shared_limit : runs 100 [] []
-    (two (by (guest.CheckWrite 4) ∷ by (guest.CheckWrite 7) ∷ by (guest.Write 4 sixty) ∷ by (guest.CheckWrite 7) ∷ by (guest.CheckWrite 4) ∷ by (guest.CheckWrite 7) ∷ by (guest.Drop 7) ∷ by (guest.CheckWrite 4) ∷ []))
+    (two (by (guest.Stream (stream_call.CheckWrite 4)) ∷ by (guest.Stream (stream_call.CheckWrite 7)) ∷ by (guest.Stream (stream_call.Write 4 sixty)) ∷ by (guest.Stream (stream_call.CheckWrite 7)) ∷ by (guest.Stream (stream_call.CheckWrite 4)) ∷ by (guest.Stream (stream_call.CheckWrite 7)) ∷ by (guest.Pollable (pollable_call.Drop 7)) ∷ by (guest.Stream (stream_call.CheckWrite 4)) ∷ []))
     ≡ two_replies (count 100 ∷ count 0 ∷ done ∷ count 100 ∷ count 0 ∷ count 100 ∷ done ∷ count 100 ∷ [])
 unfolding bind polls plays plain
 shared_limit = refl
 
 -- bytes of a write in progress are held until they are taken
 held_until_taken : runs 100 (told.Took (replicate 10 97) ∷ told.Pending ∷ []) []
-    (two (by (guest.CheckWrite 4) ∷ by (guest.Write 4 sixty) ∷ by (guest.CheckWrite 7) ∷ step.Turn ∷ by (guest.CheckWrite 7) ∷ []))
+    (two (by (guest.Stream (stream_call.CheckWrite 4)) ∷ by (guest.Stream (stream_call.Write 4 sixty)) ∷ by (guest.Stream (stream_call.CheckWrite 7)) ∷ step.Turn ∷ by (guest.Stream (stream_call.CheckWrite 7)) ∷ []))
     ≡ two_replies (count 100 ∷ done ∷ count 50 ∷ done ∷ count 100 ∷ [])
 unfolding bind polls plays plain
 held_until_taken = refl
 
 -- where the limit is 0 nothing can be written
-no_limit_left : runs 0 [] [] (one (by (guest.CheckWrite 4) ∷ by (guest.Write 4 []) ∷ by (guest.Write 4 (1 ∷ [])) ∷ []))
+no_limit_left : runs 0 [] [] (one (by (guest.Stream (stream_call.CheckWrite 4)) ∷ by (guest.Stream (stream_call.Write 4 [])) ∷ by (guest.Stream (stream_call.Write 4 (1 ∷ []))) ∷ []))
     ≡ one_replies (count 0 ∷ done ∷ reply.Trap NotPermitted ∷ [])
 unfolding bind polls plays plain
 no_limit_left = refl
 
 -- a permit ends with its handle, also where the drop waits
 ends_with_handle : runs 100 [] (told.Done ∷ told.Done ∷ told.Pending ∷ [])
-    (two (by (guest.CheckWrite 4) ∷ by (guest.CheckWrite 7) ∷ by (guest.Drop 4) ∷ step.Cancel 10 ∷ by (guest.CheckWrite 7) ∷ []))
+    (two (by (guest.Stream (stream_call.CheckWrite 4)) ∷ by (guest.Stream (stream_call.CheckWrite 7)) ∷ by (guest.Pollable (pollable_call.Drop 4)) ∷ step.Cancel 10 ∷ by (guest.Stream (stream_call.CheckWrite 7)) ∷ []))
     ≡ two_replies (count 100 ∷ count 0 ∷ reply.Pending 10 ∷ done ∷ count 100 ∷ [])
 unfolding bind polls plays plain
 ends_with_handle = refl
 
 -- a writer is of the context that made its socket, whichever line checks it; and one that is full leaves another its limit
-by_maker : (plays [] [] (run (limited 0 100 ∷ limited 1 50 ∷ []) [] first_state 1 (two_of 1 (by (guest.CheckWrite 4) ∷ by (guest.CheckWrite 7) ∷ step.Call 1 (guest.CheckWrite 4) ∷ step.Call 1 (guest.CheckWrite 7) ∷ [])))).0
+by_maker : (plays [] [] (run (limited 0 100 ∷ limited 1 50 ∷ []) [] first_state 1 (two_of 1 (by (guest.Stream (stream_call.CheckWrite 4)) ∷ by (guest.Stream (stream_call.CheckWrite 7)) ∷ step.Call 1 (guest.Stream (stream_call.CheckWrite 4)) ∷ step.Call 1 (guest.Stream (stream_call.CheckWrite 7)) ∷ [])))).0
     ≡ two_replies (count 100 ∷ count 50 ∷ count 100 ∷ count 50 ∷ [])
 unfolding bind polls plays plain
 by_maker = refl

@@ -13,10 +13,12 @@ use Rattle.wasi_walks.proofs.licence.Frames.{KeepsListening, KeepsRecord, same_r
 use Rattle.wasi_walks.proofs.licence.States.{state_put, state_put_udp}
 use Rattle.wasi_world.specs.declared.call.HandleKind.TheVariants as name
 use Rattle.wasi_records.specs.Records.{tcp2_at, tcp2_pushed, udp2_at}
-use Rattle.wasi_records.specs.Udp.{udp_side}
+use Rattle.udp_records.specs.Udp.{udp_side}
 use Rattle.wasi_records.specs.declared.records.Record.{Record}
-use Rattle.wasi_records.specs.declared.udp.UdpRecord.{UdpRecord}
+use Rattle.udp_records.specs.declared.udp.UdpRecord.{UdpRecord}
 use Rattle.wasi_walks.proofs.Places.{push_finds, put_found, put_was, tcp_sort, udp_sort}
+use Rattle.wasi_steps.specs.declared.guest_call.TcpCall.{TcpCall}
+use Rattle.wasi_steps.specs.declared.guest_call.P3TcpCall.{P3TcpCall}
 
 pub names_record : (es : List Entry) (records : List Record) (handle place : ℕ) (k : Option Kind) → record_of k ≡ Some place → ((kind : Kind) → k ≡ Some kind → HandleIsFine es records handle kind) → NamesRecord es records handle place
 names_record es records handle place None e h = absurd (cc)
@@ -125,13 +127,13 @@ NamesUdpHere steps es h = (place n : ℕ) (u : UdpRecord) → h.at ≡ Some (pla
 
 -- a step that accepts, and one of the interface on this listener
 abbrev pub IsAccept : Step → Type 0
-IsAccept (Step.Call c (GuestCall.TcpAccept listener)) = ⊤
-IsAccept (Step.Call c (GuestCall.P3Accept listener remaining)) = ⊤
+IsAccept (Step.Call c (GuestCall.Tcp (TcpCall.Accept listener))) = ⊤
+IsAccept (Step.Call c (GuestCall.P3Tcp (P3TcpCall.Accept listener remaining))) = ⊤
 IsAccept _ = ⊥
 
 abbrev pub AcceptsFor : Interface → ℕ → Step → Type 0
-AcceptsFor P2 listener (Step.Call c (GuestCall.TcpAccept s)) = s ≡ listener
-AcceptsFor P3 listener (Step.Call c (GuestCall.P3Accept s remaining)) = s ≡ listener
+AcceptsFor P2 listener (Step.Call c (GuestCall.Tcp (TcpCall.Accept s))) = s ≡ listener
+AcceptsFor P3 listener (Step.Call c (GuestCall.P3Tcp (P3TcpCall.Accept s remaining))) = s ≡ listener
 AcceptsFor face listener _ = ⊥
 
 -- A record was taken from the listener that the line names, and has no mark yet.

@@ -17,11 +17,13 @@ use Rattle.host_store.specs.Kinds.{tcp3_of}
 use Rattle.host_store.specs.declared.kind.Kind.TheVariants.{Listen3, Tcp3}
 use Rattle.wasi_records.specs.Records.{tcp2_at}
 use Rattle.wasi_world.specs.declared.call.HandleKind.TheVariants as name
+use Rattle.wasi_steps.specs.declared.guest_call.TcpCall.{TcpCall}
+use Rattle.wasi_steps.specs.declared.guest_call.P3TcpCall.{P3TcpCall}
 
 module _ (contexts : List WasiSocketsCtx) (steps : List Step) (line : ℕ) (origin : Step) (is_line : step_at steps line ≡ Some origin) where
   -- == a listener
   listener_mark : (es : List Entry) (op : OpId) (handle : ℕ) (sock : Option OpId) → IsMarkedWith es handle sock → (s : Step) → ListensFor (Some handle) s → IsMarkOf es op name.Listen3 (Some handle) sock s
-  listener_mark es op handle sock w (Step.Call c (GuestCall.P3TcpListen socket)) e = (refl, (ap (λ (n : ℕ). Some n) (sym e), subst (λ (n : ℕ). IsMarkedWith es n sock) (sym e) w))
+  listener_mark es op handle sock w (Step.Call c (GuestCall.P3Tcp (P3TcpCall.Listen socket))) e = (refl, (ap (λ (n : ℕ). Some n) (sym e), subst (λ (n : ℕ). IsMarkedWith es n sock) (sym e) w))
   listener_mark es op handle sock w _ e = absurd e
 
   -- an accept is no listen
@@ -32,8 +34,8 @@ module _ (contexts : List WasiSocketsCtx) (steps : List Step) (line : ℕ) (orig
       no_accept b.origin b.holds (subst IsAccept q is)
     where
       no_accept : (s : Step) → ListensFor (Some handle) s → IsAccept s → ⊥
-      no_accept (Step.Call c (GuestCall.TcpAccept listener)) m is = m
-      no_accept (Step.Call c (GuestCall.P3Accept listener remaining)) m is = m
+      no_accept (Step.Call c (GuestCall.Tcp (TcpCall.Accept listener))) m is = m
+      no_accept (Step.Call c (GuestCall.P3Tcp (P3TcpCall.Accept listener remaining))) m is = m
       no_accept _ m is = is
 
   no_tcp : IsTcpName name.Listen3 → ⊥
@@ -69,9 +71,9 @@ module _ (contexts : List WasiSocketsCtx) (steps : List Step) (line : ℕ) (orig
 
   -- what its mark says, and that it is the name of no accept
   abbrev Says : List Entry → Here → ℕ → ℕ → ℕ → ℕ → Type 0
-  Says es h c s remaining place = (let sock = side_at (tcp2_at h.machine.store.records place) in IsMarkOf es (own_of line) name.Tcp3 (Some s) sock (Step.Call c (GuestCall.P3Accept s remaining)) × Spared h.machine.store.records (own_of line) (Mark h (Some s) sock))
+  Says es h c s remaining place = (let sock = side_at (tcp2_at h.machine.store.records place) in IsMarkOf es (own_of line) name.Tcp3 (Some s) sock (Step.Call c (GuestCall.P3Tcp (P3TcpCall.Accept s remaining))) × Spared h.machine.store.records (own_of line) (Mark h (Some s) sock))
 
-  pub plain_marked : (es : List Entry) (h : Here) (c s remaining place : ℕ) (r : TcpRecord) → origin ≡ Step.Call c (GuestCall.P3Accept s remaining) → (h.made ≡ Joined P3 place) ⊎ (h.made ≡ Faulted place) → h.own ≡ Used → Found h place r → Named line h → Licensed contexts steps line origin es h
+  pub plain_marked : (es : List Entry) (h : Here) (c s remaining place : ℕ) (r : TcpRecord) → origin ≡ Step.Call c (GuestCall.P3Tcp (P3TcpCall.Accept s remaining)) → (h.made ≡ Joined P3 place) ⊎ (h.made ≡ Faulted place) → h.own ≡ Used → Found h place r → Named line h → Licensed contexts steps line origin es h
       → Allows (MayAskSo contexts steps) (λ fs made. Licensed contexts steps line origin fs (record h { machine = record h.machine { table = made.1 }; made = Past })) es (make_asks h.machine.table (own_of line) (Tcp3 place) (Some s) (side_at (tcp2_at h.machine.store.records place)))
   plain_marked es h c s remaining place r is either o g b i =
       let sock = side_at (tcp2_at h.machine.store.records place) in

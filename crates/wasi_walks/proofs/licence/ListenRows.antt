@@ -11,6 +11,7 @@ use Rattle.wasi_walks.proofs.licence.Refused.{local_81, of_each, at_line}
 use Rattle.wasi_world.specs.declared.call.HandleKind.TheVariants as kind
 use Rattle.host_store.specs.declared.kind.Kind.TheVariants as slot
 use Rattle.wasi_records.specs.declared.records.Record.TheVariants as rec
+use Rattle.wasi_steps.specs.declared.guest_call.TcpCall.{TcpCall}
 
 abbrev peer : ℕ → IpSocketAddress
 peer port = IpSocketAddress.Ipv4 (record { port = port; address = (127, 0, 0, 1) })
@@ -21,7 +22,7 @@ sixth = record { step = 6; part = 1 }
 
 -- == a socket is bound, listens and accepts
 abbrev script : List Step
-script = bind_script ++ (Step.Call 0 (GuestCall.TcpStartListen 2) ∷ Step.Call 0 (GuestCall.TcpAccept 2) ∷ [])
+script = bind_script ++ (Step.Call 0 (GuestCall.Tcp (TcpCall.StartListen 2)) ∷ Step.Call 0 (GuestCall.Tcp (TcpCall.Accept 2)) ∷ [])
 
 -- by this operation it listens
 abbrev pub listens_by : OpId → ℕ → Told → List Entry
@@ -202,11 +203,11 @@ moved_away h = by_cases (h.each moves listen [] refl).2
 abbrev unhanded : Entry
 unhanded = entry (own_of 6) (Call.Made 3 kind.Tcp2 (Some 2) (Some sixth)) Told.Done
 
-no_mark : IsMarkOf listens (own_of 6) kind.Tcp2 (Some 2) (Some sixth) (Step.Call 0 (GuestCall.TcpAccept 2)) → ⊥
+no_mark : IsMarkOf listens (own_of 6) kind.Tcp2 (Some 2) (Some sixth) (Step.Call 0 (GuestCall.Tcp (TcpCall.Accept 2))) → ⊥
 no_mark (inl m) = of_each (λ e. NoHand e.call) listens _ (tt, (tt, (tt, (tt, (tt, (tt, (tt, (tt, (tt, (tt, tt)))))))))) m.handed
 no_mark (inr m) = elim m.stream [ inl e ↦ absurd (cc) | inr e ↦ absurd (cc) ]
 
 handed_to_nobody : IsLicensed allowed script (listens ++ unhanded ∷ []) [] → ⊥
 handed_to_nobody h =
     let may = h.each listens unhanded [] refl in
-    no_mark (at_line (IsMarkOf listens (own_of 6) kind.Tcp2 (Some 2) (Some sixth)) (Step.Call 0 (GuestCall.TcpAccept 2)) may.1.origin may.1.at may.1.holds)
+    no_mark (at_line (IsMarkOf listens (own_of 6) kind.Tcp2 (Some 2) (Some sixth)) (Step.Call 0 (GuestCall.Tcp (TcpCall.Accept 2))) may.1.origin may.1.at may.1.holds)

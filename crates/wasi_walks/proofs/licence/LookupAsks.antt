@@ -16,10 +16,12 @@ use Rattle.host_store.specs.declared.beside.BesideCall.TheVariants.{Resolve}
 use Rattle.host_store.specs.Beside.{beside_as, beside_of}
 use Rattle.host_lookups.specs.Resolves.{begun_lookup}
 use Rattle.wasi_records.specs.Records.{lookup_at}
-use Rattle.wasi_records.specs.declared.name_lookup.Lookup.{Lookup}
-use Rattle.wasi_records.specs.declared.name_lookup.LookupOp.{LookupOp}
+use Rattle.lookup_records.specs.declared.name_lookup.Lookup.{Lookup}
+use Rattle.lookup_records.specs.declared.name_lookup.LookupOp.{LookupOp}
 use Rattle.wasi_records.specs.declared.records.Record.{Record}
 use Rattle.wasi_walks.proofs.licence.Unbound.{MayAskSo}
+use Rattle.wasi_steps.specs.declared.guest_call.NameCall.{NameCall}
+use Rattle.wasi_steps.specs.declared.guest_call.P3NameCall.{P3NameCall}
 
 module _ (contexts : List WasiSocketsCtx) (steps : List Step) (line : ℕ) (origin : Step) (is_line : step_at steps line ≡ Some origin) where
   -- a context that isn't there may look no name up
@@ -28,8 +30,8 @@ module _ (contexts : List WasiSocketsCtx) (steps : List Step) (line : ℕ) (orig
   may_look n (Some ctx) e l = record { ctx = ctx; at = e; lookup = l }
 
   is_lookup : (host : List ℕ) (s : Step) → LooksUp contexts host s → IsLookupOf contexts host s
-  is_lookup host (Step.Call n (GuestCall.Resolve network name)) l = (may_look n (slice_get contexts n) refl l.0, l.1)
-  is_lookup host (Step.Call n (GuestCall.P3Resolve name)) l = (may_look n (slice_get contexts n) refl l.0, l.1)
+  is_lookup host (Step.Call n (GuestCall.Names (NameCall.Resolve network name))) l = (may_look n (slice_get contexts n) refl l.0, l.1)
+  is_lookup host (Step.Call n (GuestCall.P3Names (P3NameCall.Resolve name))) l = (may_look n (slice_get contexts n) refl l.0, l.1)
   is_lookup host _ l = absurd l
 
   -- what it is answered is nothing to the sockets

@@ -7,17 +7,17 @@ use Rattle.wasi_walks.proofs.owners.Owned.{NoneOf, Owned, named_by, none_named, 
 use Rattle.host_store.specs.GivingBack.{given_back}
 use Rattle.wasi_records.specs.Numbered.{record_gone}
 use Rattle.wasi_records.specs.Records.{lookup_of, tcp2_at, tcp2_of, udp2_at, udp2_of}
-use Rattle.wasi_records.specs.declared.udp.UdpRecord.{UdpRecord}
+use Rattle.udp_records.specs.declared.udp.UdpRecord.{UdpRecord}
 use Rattle.wasi_walks.proofs.fits.Datagrams.{CallHeld, Datagrams}
 use Rattle.wasi_walks.proofs.fits.Law.{Fit}
 use Rattle.wasi_walks.proofs.fits.Records.{FitCall}
-use Rattle.wasi_records.specs.declared.name_lookup.Lookup.{Lookup}
+use Rattle.lookup_records.specs.declared.name_lookup.Lookup.{Lookup}
 use Rattle.wasi_walks.proofs.walks.Moves.{Found, GoesBack, Here, IsOfHandle, WhenClosed, WhenIdle, SameSockets, record_of, udp_record_of, with_records, without_record}
 use Rattle.wasi_walks.proofs.licence.Lookups.{LookupIsFine, lookups_same}
 use Rattle.wasi_walks.proofs.licence.State.{CreateStands, LineNames, NamesEndIf, HandleIsFine, NamesIf, NamesUdpIf, OfTcp, OfUdp, StandingIsFine, StateIsFine}
 use Rattle.wasi_walks.proofs.licence.UdpFrames.{KeepsSides, handle_kept, standing_kept}
 use Rattle.wasi_walks.proofs.licence.Line.{Licensed}
-use Rattle.wasi_records.specs.declared.name_lookup.LookupOp.{LookupOp}
+use Rattle.lookup_records.specs.declared.name_lookup.LookupOp.{LookupOp}
 use Rattle.wasi_records.specs.declared.records.Record.{Record}
 use Rattle.wasi_records.specs.declared.records.Record.TheVariants.{Gone}
 use Rattle.wasi_walks.proofs.Places.{there_put}

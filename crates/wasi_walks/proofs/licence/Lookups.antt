@@ -5,8 +5,8 @@ use Rattle.wasi_walks.proofs.Words.{ap, sym, ◌∙◌}
 use Rattle.wasi_walks.proofs.Words.{BeganBy, Entry, IsMarkedWith, Kind, List, None, Pollable, Some, Step, Watched, WasiSocketsCtx, [], slice_set}
 use Rattle.wasi_walks.proofs.Words.{inl, inr, ℕ, ⊤, ◌++◌, ◌∷◌, ◌≡◌}
 use Rattle.wasi_records.specs.Records.{lookup_at, lookup_of}
-use Rattle.wasi_records.specs.declared.name_lookup.Lookup.{Lookup}
-use Rattle.wasi_records.specs.declared.name_lookup.LookupOp.{LookupOp}
+use Rattle.lookup_records.specs.declared.name_lookup.Lookup.{Lookup}
+use Rattle.lookup_records.specs.declared.name_lookup.LookupOp.{LookupOp}
 use Rattle.wasi_records.specs.declared.records.Record.{Record}
 use Rattle.wasi_walks.specs.Licence.{IsLookupOf}
 use Rattle.wasi_walks.proofs.walks.Moves.{SameSockets}

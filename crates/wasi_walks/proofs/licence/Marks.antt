@@ -23,16 +23,21 @@ use Rattle.wasi_walks.proofs.licence.Asked.{listens_on, joined_on}
 use Rattle.wasi_walks.proofs.licence.Binds.{MayQuietly}
 use Rattle.wasi_world.specs.declared.call.HandleKind.TheVariants as name
 use Rattle.wasi_records.specs.Records.{tcp2_at, udp2_at}
-use Rattle.wasi_records.specs.Udp.{udp_side}
+use Rattle.udp_records.specs.Udp.{udp_side}
 use Rattle.host_udp.specs.UdpCreates.{udp_side_at}
 use Rattle.host_store.specs.declared.kind.PlainInput.TheVariants as plain_input
 use Rattle.host_store.specs.declared.kind.PlainOutput.TheVariants as plain_output
 use Rattle.host_store.specs.Kinds.{watched_by}
 use Rattle.host_store.specs.declared.kind.Watched.{Watched}
-use Rattle.wasi_records.specs.declared.udp.UdpRecord.{UdpRecord}
+use Rattle.udp_records.specs.declared.udp.UdpRecord.{UdpRecord}
 use Rattle.wasi_records.specs.declared.records.Record.{Record}
 use Rattle.wasi_walks.proofs.Places.{push_finds, push_new, tcp_sort}
 use Rattle.wasi_walks.proofs.licence.Unbound.{MayAskSo}
+use Rattle.wasi_steps.specs.declared.guest_call.TcpCall.{TcpCall}
+use Rattle.wasi_steps.specs.declared.guest_call.NameCall.{NameCall}
+use Rattle.wasi_steps.specs.declared.guest_call.PipeCall.{PipeCall}
+use Rattle.wasi_steps.specs.declared.guest_call.PollableCall.{PollableCall}
+use Rattle.wasi_steps.specs.declared.guest_call.P3TcpCall.{P3TcpCall}
 
 not_used : Used ≡ Unused → ⊥
 not_used e = absurd (cc)
@@ -148,16 +153,16 @@ module _ (contexts : List WasiSocketsCtx) (steps : List Step) (line : ℕ) (orig
   not_accept s n e is h u = n (subst IsAccept e is)
 
   plain_no_accept : (s : Step) (kind : Kind) → MakesPlain s kind → IsAccept s → ⊥
-  plain_no_accept (Step.Call c (GuestCall.TcpAccept listener)) kind m is = m
-  plain_no_accept (Step.Call c (GuestCall.P3Accept listener remaining)) kind m is = m
+  plain_no_accept (Step.Call c (GuestCall.Tcp (TcpCall.Accept listener))) kind m is = m
+  plain_no_accept (Step.Call c (GuestCall.P3Tcp (P3TcpCall.Accept listener remaining))) kind m is = m
   plain_no_accept _ kind m is = is
 
   plain_mark : (es : List Entry) (op : OpId) (s : Step) (kind : Kind) → MakesPlain s kind → IsMarkOf es op (name_of kind) None None s
-  plain_mark es op (Step.Call c (GuestCall.PipeIn bytes)) (Kind.PlainInput (plain_input.Pipe place)) m = (refl, refl, refl)
-  plain_mark es op (Step.Call c (GuestCall.PipeOut capacity)) (Kind.PlainOutput (plain_output.Pipe place)) m = (refl, refl, refl)
-  plain_mark es op (Step.Call c GuestCall.Sink) (Kind.PlainOutput plain_output.Sink) m = (refl, refl, refl)
-  plain_mark es op (Step.Call c GuestCall.ClosedIn) (Kind.PlainInput plain_input.Closed) m = (refl, refl, refl)
-  plain_mark es op (Step.Call c GuestCall.ClosedOut) (Kind.PlainOutput plain_output.Closed) m = (refl, refl, refl)
+  plain_mark es op (Step.Call c (GuestCall.Pipe (PipeCall.In bytes))) (Kind.PlainInput (plain_input.Pipe place)) m = (refl, refl, refl)
+  plain_mark es op (Step.Call c (GuestCall.Pipe (PipeCall.Out capacity))) (Kind.PlainOutput (plain_output.Pipe place)) m = (refl, refl, refl)
+  plain_mark es op (Step.Call c (GuestCall.Pipe PipeCall.Sink)) (Kind.PlainOutput plain_output.Sink) m = (refl, refl, refl)
+  plain_mark es op (Step.Call c (GuestCall.Pipe PipeCall.ClosedIn)) (Kind.PlainInput plain_input.Closed) m = (refl, refl, refl)
+  plain_mark es op (Step.Call c (GuestCall.Pipe PipeCall.ClosedOut)) (Kind.PlainOutput plain_output.Closed) m = (refl, refl, refl)
   plain_mark es op _ _ m = absurd m
 
   plain_name : (kind : Kind) → IsPlain kind → IsTcpName (name_of kind) → ⊥
@@ -182,13 +187,13 @@ module _ (contexts : List WasiSocketsCtx) (steps : List Step) (line : ℕ) (orig
   pub marked_fine : (es : List Entry) (h : Here) (kind : Kind) (parent : Option ℕ) (sock : Option OpId) → Marks origin h kind parent sock → Licensed contexts steps line origin es h
       → Allows (MayAskSo contexts steps) (λ fs made. Licensed contexts steps line origin fs (record h { machine = record h.machine { table = made.1 } })) es (make_asks h.machine.table (own_of line) kind parent sock)
   marked_fine es h _ _ _ (ANetwork c e) i =
-      other_fine es h Network None None (record { origin = origin; at = is_line; holds = subst (IsMarkOf es (own_of line) name.Network None None) (sym e) (refl, refl, refl) }) (λ p. elim p [ inl e ↦ cc | inr e ↦ cc ]) (λ is. not_accept (Step.Call c GuestCall.Network) (λ none. none) e is h) (λ t. (tt, tt, tt, tt)) i
+      other_fine es h Network None None (record { origin = origin; at = is_line; holds = subst (IsMarkOf es (own_of line) name.Network None None) (sym e) (refl, refl, refl) }) (λ p. elim p [ inl e ↦ cc | inr e ↦ cc ]) (λ is. not_accept (Step.Call c (GuestCall.Names NameCall.Network)) (λ none. none) e is h) (λ t. (tt, tt, tt, tt)) i
   marked_fine es h kind _ _ (AStream c handle place _ is which e) i =
       let sock = side_at (tcp2_at h.machine.store.records place) in
       let n = names_record es h.machine.store.records handle place (kind_at h.machine.table handle) (ap record_of e.socket) (i.fine.handles handle) in
       let w : IsMarkedWith es handle sock = subst (IsMarkedWith es handle) (sym (ap side_at n.at)) n.marked in
       other_fine es h kind (Some handle) sock (record { origin = origin; at = is_line; holds = subst (IsMarkOf es (own_of line) (name_of kind) (Some handle) sock) (sym is) (stream_name kind place which, (refl, w)) })
-      (no_socket (name_of kind) (stream_name kind place which)) (λ p. not_accept (Step.Call c (GuestCall.TcpFinishConnect handle)) (λ none. none) is p h)
+      (no_socket (name_of kind) (stream_name kind place which)) (λ p. not_accept (Step.Call c (GuestCall.Tcp (TcpCall.FinishConnect handle))) (λ none. none) is p h)
       (λ t. stream_handle _ h.machine.store.records h.machine.table.next place kind which (new_names es h h.machine.table.next place (name_of kind) (Some handle) n.found t n.at)) i
   marked_fine es h kind _ _ (AnAcceptedStream c listener handle place _ r is which m o g) i =
       let sock = side_at (tcp2_at h.machine.store.records place) in
@@ -202,7 +207,7 @@ module _ (contexts : List WasiSocketsCtx) (steps : List Step) (line : ℕ) (orig
       let sock = side_at (tcp2_at h.machine.store.records place) in
       let n = names_record es h.machine.store.records handle place (kind_at h.machine.table handle) e (i.fine.handles handle) in
       let k : IsMarkedWith es handle sock = subst (IsMarkedWith es handle) (sym (ap side_at n.at)) n.marked in
-      other_fine es h (Pollable w) (Some handle) sock (record { origin = origin; at = is_line; holds = subst (IsMarkOf es (own_of line) name.Pollable (Some handle) sock) (sym is) (refl, (refl, k)) }) (λ p. elim p [ inl e ↦ cc | inr e ↦ cc ]) (λ p. not_accept (Step.Call c (GuestCall.Subscribe handle)) (λ none. none) is p h)
+      other_fine es h (Pollable w) (Some handle) sock (record { origin = origin; at = is_line; holds = subst (IsMarkOf es (own_of line) name.Pollable (Some handle) sock) (sym is) (refl, (refl, k)) }) (λ p. elim p [ inl e ↦ cc | inr e ↦ cc ]) (λ p. not_accept (Step.Call c (GuestCall.Pollable (PollableCall.Subscribe handle))) (λ none. none) is p h)
       (λ t. pollable_handle _ h.machine.store.records h.machine.table.next w p (new_names es h h.machine.table.next place name.Pollable (Some handle) n.found t n.at)) i
   marked_fine es h _ _ _ (AUdpPollable c handle w is p e by) i =
       let place = place_in w in
@@ -210,14 +215,14 @@ module _ (contexts : List WasiSocketsCtx) (steps : List Step) (line : ℕ) (orig
       let n = names_udp es h.machine.store.records handle place (kind_at h.machine.table handle) e (i.fine.handles handle) in
       let k : IsMarkedWith es handle sock = subst (IsMarkedWith es handle) (sym (ap udp_side_at n.at)) n.marked in
       other_fine es h (Pollable w) (Some handle) sock (record { origin = origin; at = is_line; holds = subst (IsMarkOf es (own_of line) name.Pollable (Some handle) sock) (sym is) (refl, (refl, k)) }) (λ p. elim p [ inl e ↦ cc | inr e ↦ cc ])
-      (λ p. not_accept (Step.Call c (GuestCall.Subscribe handle)) (λ none. none) is p h)
+      (λ p. not_accept (Step.Call c (GuestCall.Pollable (PollableCall.Subscribe handle))) (λ none. none) is p h)
       (λ t. udp_pollable_handle _ h.machine.store.records h.machine.table.next w p (new_udp_names es h h.machine.table.next place name.Pollable (Some handle) n.found t n.at)) i
   marked_fine es h _ _ _ (ALookup c network place host e there made) i =
-      other_fine es h (Kind.Lookup place) (Some network) None (record { origin = origin; at = is_line; holds = subst (IsMarkOf es (own_of line) name.Lookup (Some network) None) (sym e) (refl, refl, refl) }) (λ p. elim p [ inl e ↦ cc | inr e ↦ cc ]) (λ p. not_accept (Step.Call c (GuestCall.Resolve network host)) (λ none. none) e p h)
+      other_fine es h (Kind.Lookup place) (Some network) None (record { origin = origin; at = is_line; holds = subst (IsMarkOf es (own_of line) name.Lookup (Some network) None) (sym e) (refl, refl, refl) }) (λ p. elim p [ inl e ↦ cc | inr e ↦ cc ]) (λ p. not_accept (Step.Call c (GuestCall.Names (NameCall.Resolve network host))) (λ none. none) e p h)
       (λ t. (tt, tt, marks_none es h.machine.table.next name.Lookup (Some network) t, tt)) i
   marked_fine es h _ _ _ (ALookupPollable c handle place is e) i =
       let k : IsMarkedWith es handle None = (i.fine.handles handle (Kind.Lookup place) e).2 in
-      other_fine es h (Pollable (Watched.Lookup place)) (Some handle) None (record { origin = origin; at = is_line; holds = subst (IsMarkOf es (own_of line) name.Pollable (Some handle) None) (sym is) (refl, (refl, k)) }) (λ p. elim p [ inl e ↦ cc | inr e ↦ cc ]) (λ p. not_accept (Step.Call c (GuestCall.Subscribe handle)) (λ none. none) is p h)
+      other_fine es h (Pollable (Watched.Lookup place)) (Some handle) None (record { origin = origin; at = is_line; holds = subst (IsMarkOf es (own_of line) name.Pollable (Some handle) None) (sym is) (refl, (refl, k)) }) (λ p. elim p [ inl e ↦ cc | inr e ↦ cc ]) (λ p. not_accept (Step.Call c (GuestCall.Pollable (PollableCall.Subscribe handle))) (λ none. none) is p h)
       (λ t. (tt, tt, marks_none es h.machine.table.next name.Pollable (Some handle) t, tt)) i
   marked_fine es h kind _ _ (AnEnd socket place _ end r m in_it e g is made) i =
       let sock = side_at (tcp2_at h.machine.store.records place) in
@@ -232,11 +237,11 @@ module _ (contexts : List WasiSocketsCtx) (steps : List Step) (line : ℕ) (orig
       (λ t. plain_handle _ h.machine.store.records h.machine.table.next kind p (marks_none es h.machine.table.next (name_of kind) None t)) i
   marked_fine es h _ _ _ (APlainPollable c handle is e) i =
       let k : IsMarkedWith es handle None = plain_named es h.machine.store.records handle (kind_at h.machine.table handle) e (i.fine.handles handle) in
-      other_fine es h (Pollable Watched.Plain) (Some handle) None (record { origin = origin; at = is_line; holds = subst (IsMarkOf es (own_of line) name.Pollable (Some handle) None) (sym is) (refl, (refl, k)) }) (λ p. elim p [ inl e ↦ cc | inr e ↦ cc ]) (λ p. not_accept (Step.Call c (GuestCall.Subscribe handle)) (λ none. none) is p h)
+      other_fine es h (Pollable Watched.Plain) (Some handle) None (record { origin = origin; at = is_line; holds = subst (IsMarkOf es (own_of line) name.Pollable (Some handle) None) (sym is) (refl, (refl, k)) }) (λ p. elim p [ inl e ↦ cc | inr e ↦ cc ]) (λ p. not_accept (Step.Call c (GuestCall.Pollable (PollableCall.Subscribe handle))) (λ none. none) is p h)
       (λ t. (tt, tt, marks_none es h.machine.table.next name.Pollable (Some handle) t, tt)) i
 
   -- the mark of what was accepted
-  pub accepted_fine : (es : List Entry) (h : Here) (c s place : ℕ) (r : TcpRecord) → origin ≡ Step.Call c (GuestCall.TcpAccept s) → h.made ≡ Joined P2 place → h.own ≡ Used → Found h place r → Named line h → Licensed contexts steps line origin es h
+  pub accepted_fine : (es : List Entry) (h : Here) (c s place : ℕ) (r : TcpRecord) → origin ≡ Step.Call c (GuestCall.Tcp (TcpCall.Accept s)) → h.made ≡ Joined P2 place → h.own ≡ Used → Found h place r → Named line h → Licensed contexts steps line origin es h
       → Allows (MayAskSo contexts steps) (λ fs made. Licensed contexts steps line origin fs (record h { machine = record h.machine { table = made.1 }; made = made_so place made.0 })) es (make_asks h.machine.table (own_of line) (Tcp2 place) (Some s) (side_at (tcp2_at h.machine.store.records place)))
   unfolding bind
   accepted_fine es h c s place r is e o g b i =
@@ -289,10 +294,10 @@ module _ (contexts : List WasiSocketsCtx) (steps : List Step) (line : ℕ) (orig
   may_use n (Some ctx) e t = record { ctx = ctx; at = e; named = refl; tcp = t }
 
   may_create : (ctx : WasiSocketsCtx) (family : SocketAddressFamily) (face : Interface) (s : Step) → Creates contexts ctx family face s → ctx.tcp ≡ true → IsTcpCreate contexts ctx.name family s
-  may_create ctx family face (Step.Call n (GuestCall.TcpCreate f)) c t =
+  may_create ctx family face (Step.Call n (GuestCall.Tcp (TcpCall.Create f))) c t =
       let T : WasiSocketsCtx → Type 0 = λ x. x.tcp ≡ true → MayUseTcp contexts n x.name in
       (subst T c.0 (may_use n (slice_get contexts n) refl) t, c.1)
-  may_create ctx family face (Step.Call n (GuestCall.P3TcpCreate f)) c t =
+  may_create ctx family face (Step.Call n (GuestCall.P3Tcp (P3TcpCall.Create f))) c t =
       let T : WasiSocketsCtx → Type 0 = λ x. x.tcp ≡ true → MayUseTcp contexts n x.name in
       (subst T c.0 (may_use n (slice_get contexts n) refl) t, c.1)
   may_create ctx family face _ c t = absurd c
@@ -312,24 +317,24 @@ module _ (contexts : List WasiSocketsCtx) (steps : List Step) (line : ℕ) (orig
       allows_if (MayQuietly contexts steps) (CreatedIsFine ctx.name family) es ctx.tcp _ _ (λ t. (((record { origin = origin; at = is_line; holds = may_create ctx family face origin c t }, tt), tt), λ u fits. fine_told es ctx.name family u fits)) (λ t. tt)
 
   created_mark : (face : Interface) (place : ℕ) (es : List Entry) (maker : ℕ) (family : SocketAddressFamily) (ctx : WasiSocketsCtx) (its : SocketAddressFamily) (s : Step) → Creates contexts ctx its face s → Has es (entry (own_of line) (Call.TcpCreate maker family) Told.Done) → IsMarkOf es (own_of line) (name_of (tcp_kind face place)) None (Some (own_of line)) s
-  created_mark face place es maker family ctx its (Step.Call n (GuestCall.TcpCreate f)) c k = (ap (λ (f : Interface). name_of (tcp_kind f place)) c.2, refl, refl, (maker, family, k))
-  created_mark face place es maker family ctx its (Step.Call n (GuestCall.P3TcpCreate f)) c k = (ap (λ (f : Interface). name_of (tcp_kind f place)) c.2, refl, refl, (maker, family, k))
+  created_mark face place es maker family ctx its (Step.Call n (GuestCall.Tcp (TcpCall.Create f))) c k = (ap (λ (f : Interface). name_of (tcp_kind f place)) c.2, refl, refl, (maker, family, k))
+  created_mark face place es maker family ctx its (Step.Call n (GuestCall.P3Tcp (P3TcpCall.Create f))) c k = (ap (λ (f : Interface). name_of (tcp_kind f place)) c.2, refl, refl, (maker, family, k))
   created_mark face place es maker family ctx its _ c k = absurd c
 
   maker_is : (es : List Entry) (maker : ℕ) (family : SocketAddressFamily) (side : OpId) → Some (own_of line) ≡ Some side → IsMaker es maker family (own_of line) → IsMaker es maker family side
   maker_is es maker family side e i = subst (IsMaker es maker family) (sym (some_same side (own_of line) e)) i
 
   makes_tcp : (face : Interface) (ctx : WasiSocketsCtx) (family : SocketAddressFamily) (s : Step) → Creates contexts ctx family face s → MakesTcp s
-  makes_tcp face ctx family (Step.Call n (GuestCall.TcpCreate f)) c = tt
-  makes_tcp face ctx family (Step.Call n (GuestCall.P3TcpCreate f)) c = tt
+  makes_tcp face ctx family (Step.Call n (GuestCall.Tcp (TcpCall.Create f))) c = tt
+  makes_tcp face ctx family (Step.Call n (GuestCall.P3Tcp (P3TcpCall.Create f))) c = tt
   makes_tcp face ctx family _ c = c
 
   creates_only : (face : Interface) (ctx : WasiSocketsCtx) (family : SocketAddressFamily) → Creates contexts ctx family face origin → IsAccept origin → ⊥
   creates_only face ctx family k is = no_accept origin k is
     where
       no_accept : (s : Step) → Creates contexts ctx family face s → IsAccept s → ⊥
-      no_accept (Step.Call n (GuestCall.TcpAccept listener)) k is = k
-      no_accept (Step.Call n (GuestCall.P3Accept listener remaining)) k is = k
+      no_accept (Step.Call n (GuestCall.Tcp (TcpCall.Accept listener))) k is = k
+      no_accept (Step.Call n (GuestCall.P3Tcp (P3TcpCall.Accept listener remaining))) k is = k
       no_accept _ k is = is
 
   -- the handle of a TCP socket, of either interface, names its record

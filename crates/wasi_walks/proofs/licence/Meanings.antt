@@ -5,6 +5,10 @@ use Rattle.wasi_walks.proofs.Words.{handles_of, inl, inr, marked_by, marks_in, r
 use Rattle.wasi_walks.specs.Licence.{IsMarkedWith, IsUdpCreate, MayUseUdp, UdpCreated}
 use Rattle.wasi_world.specs.declared.call.Call.TheVariants.{UdpCreate}
 use Rattle.wasi_walks.proofs.Lists.{entry_call, Cut, cut_of}
+use Rattle.wasi_steps.specs.declared.guest_call.TcpCall.{TcpCall}
+use Rattle.wasi_steps.specs.declared.guest_call.UdpCall.{UdpCall}
+use Rattle.wasi_steps.specs.declared.guest_call.P3TcpCall.{P3TcpCall}
+use Rattle.wasi_steps.specs.declared.guest_call.P3UdpCall.{P3UdpCall}
 
 -- where a list is cut twice, the cuts are one or each holds the other's entry in front of it
 same_or_before : (f g : List Entry) (x y : Entry) (b d : List Entry) → f ++ x ∷ b ≡ g ++ y ∷ d → (x ≡ y) ⊎ (Has g x ⊎ Has f y)
@@ -60,13 +64,13 @@ module _ (contexts : List WasiSocketsCtx) (steps : List Step) (log : List Entry)
   created_by side ctx family t i = may_at _ (cut_of log _ i)
 
   one_create : (s : Step) (c d : ℕ) (f g : SocketAddressFamily) → IsTcpCreate contexts c f s → IsTcpCreate contexts d g s → (c ≡ d) × (f ≡ g)
-  one_create (Step.Call ctx (GuestCall.TcpCreate family)) c d f g a b =
+  one_create (Step.Call ctx (GuestCall.Tcp (TcpCall.Create family))) c d f g a b =
       let p = a.0.at in
       let q = b.0.at in
       let e : a.0.ctx ≡ b.0.ctx = cc in
       let n = ap (λ (x : WasiSocketsCtx). x.name) e in
       (sym a.0.named ∙ (n ∙ b.0.named), sym a.1 ∙ b.1)
-  one_create (Step.Call ctx (GuestCall.P3TcpCreate family)) c d f g a b =
+  one_create (Step.Call ctx (GuestCall.P3Tcp (P3TcpCall.Create family))) c d f g a b =
       let p = a.0.at in
       let q = b.0.at in
       let e : a.0.ctx ≡ b.0.ctx = cc in
@@ -76,8 +80,8 @@ module _ (contexts : List WasiSocketsCtx) (steps : List Step) (log : List Entry)
 
   -- a create names no listener
   names_none : (s : Step) (c : ℕ) (f : SocketAddressFamily) (handle : ℕ) → IsTcpCreate contexts c f s → Has (handles_of s) handle → ⊥
-  names_none (Step.Call ctx (GuestCall.TcpCreate family)) c f handle a i = i
-  names_none (Step.Call ctx (GuestCall.P3TcpCreate family)) c f handle a i = i
+  names_none (Step.Call ctx (GuestCall.Tcp (TcpCall.Create family))) c f handle a i = i
+  names_none (Step.Call ctx (GuestCall.P3Tcp (P3TcpCall.Create family))) c f handle a i = i
   names_none _ c f handle a i = absurd a
 
   -- the same of a UDP socket
@@ -93,19 +97,19 @@ module _ (contexts : List WasiSocketsCtx) (steps : List Step) (log : List Entry)
       sym a.named ∙ (ap (λ (x : WasiSocketsCtx). x.name) e ∙ b.named)
 
   one_udp_create : (s : Step) (c d : ℕ) (f g : SocketAddressFamily) → IsUdpCreate contexts c f s → IsUdpCreate contexts d g s → (c ≡ d) × (f ≡ g)
-  one_udp_create (Step.Call ctx (GuestCall.UdpCreate family)) c d f g a b = (one_user ctx c d a.0 b.0, sym a.1 ∙ b.1)
-  one_udp_create (Step.Call ctx (GuestCall.P3UdpCreate family)) c d f g a b = (one_user ctx c d a.0 b.0, sym a.1 ∙ b.1)
+  one_udp_create (Step.Call ctx (GuestCall.Udp (UdpCall.Create family))) c d f g a b = (one_user ctx c d a.0 b.0, sym a.1 ∙ b.1)
+  one_udp_create (Step.Call ctx (GuestCall.P3Udp (P3UdpCall.Create family))) c d f g a b = (one_user ctx c d a.0 b.0, sym a.1 ∙ b.1)
   one_udp_create _ c d f g a b = absurd a
 
   udp_names_none : (s : Step) (c : ℕ) (f : SocketAddressFamily) (handle : ℕ) → IsUdpCreate contexts c f s → Has (handles_of s) handle → ⊥
-  udp_names_none (Step.Call ctx (GuestCall.UdpCreate family)) c f handle a i = i
-  udp_names_none (Step.Call ctx (GuestCall.P3UdpCreate family)) c f handle a i = i
+  udp_names_none (Step.Call ctx (GuestCall.Udp (UdpCall.Create family))) c f handle a i = i
+  udp_names_none (Step.Call ctx (GuestCall.P3Udp (P3UdpCall.Create family))) c f handle a i = i
   udp_names_none _ c f handle a i = absurd a
 
   -- a step makes a TCP socket or a UDP socket
   one_kind : (s : Step) (c d : ℕ) (f g : SocketAddressFamily) → IsTcpCreate contexts c f s → IsUdpCreate contexts d g s → ⊥
-  one_kind (Step.Call ctx (GuestCall.TcpCreate family)) c d f g a b = b
-  one_kind (Step.Call ctx (GuestCall.P3TcpCreate family)) c d f g a b = b
+  one_kind (Step.Call ctx (GuestCall.Tcp (TcpCall.Create family))) c d f g a b = b
+  one_kind (Step.Call ctx (GuestCall.P3Tcp (P3TcpCall.Create family))) c d f g a b = b
   one_kind _ c d f g a b = a
 
   kinds_apart : (c d : ℕ) (f g : SocketAddressFamily) (side : OpId) (t u : Told) → Has log (entry side (TcpCreate c f) t) → Has log (entry side (UdpCreate d g) u) → ⊥

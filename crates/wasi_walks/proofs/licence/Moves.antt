@@ -1,6 +1,6 @@
 -- Each move keeps that the state fits the log.
 use Rattle.wasi_walks.proofs.licence.Ends.{adds_slot, reaches_end}
-use Rattle.wasi_records.specs.Ends.{ends_of}
+use Rattle.tcp_records.specs.Ends.{ends_of}
 use Rattle.wasi_walks.proofs.walks.Moves.{AddsSlot, DropsUdp, MakesRoom, put_udp, OfReceive, OfSend, ReachesEnd, TakesEnd, TakesHalf, with_receive, with_send}
 use Rattle.wasi_walks.proofs.walks.Moves.{Frees, Freed, IsUnheld, Joined, JoinsFault, JoinsPlain, P2, P3, RecallsListen, RemembersListen, StandsListen, ToListen, Unmade, faulted, joined_plain, joins_as, record_of, FoundUdp, Awaited, AwaitsCreate, Begun, CreateIsFor, Interface, MakesUdpFor, Recalled, Emptied, Empties, GivesBack, Numbers}
 use Rattle.wasi_walks.proofs.owners.Law.{left_none}
@@ -27,8 +27,8 @@ use Rattle.wasi_walks.proofs.licence.UdpMoves.{begins_receive, begins_send, begi
 use Rattle.wasi_walks.proofs.licence.StreamMoves.{calls_handles, is_side, reaches, reaches_handle, recalls_call, stands_blocking}
 use Rattle.wasi_records.specs.Records.{tcp2_at, tcp2_put}
 use Rattle.wasi_records.specs.declared.records.Record.{Record}
-use Rattle.wasi_records.specs.declared.udp.UdpRecord.{UdpRecord}
-use Rattle.wasi_records.specs.Udp.{udp_side, without_udp_socket}
+use Rattle.udp_records.specs.declared.udp.UdpRecord.{UdpRecord}
+use Rattle.udp_records.specs.Udp.{udp_side, without_udp_socket}
 use Rattle.wasi_udp.specs.Create.{Create}
 use Rattle.wasi_addr.specs.declared.code.ErrorCode.{ErrorCode}
 use Rattle.wasi_tcp.specs.Writer.{error_of_code}

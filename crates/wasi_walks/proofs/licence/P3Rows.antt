@@ -5,8 +5,8 @@ use Rattle.wasi_walks.proofs.Words.{Handed, sym, is_wildcard, Created, IsBoundSi
 use Rattle.wasi_walks.proofs.Words.{SocketAddrUse, SocketAddressFamily, Some, GuestCall, Step, TcpRecord, TcpState, Told, [], accepted_socket, accepted_state, ap, arith, bind, entry, false, first_state}
 use Rattle.wasi_walks.proofs.Words.{inl, inr, new_record, number_fields, own_of, polls, port_of, refl, run, wildcard, ℕ, ⊤, ◌++◌, ◌∷◌, ◌≡◌}
 use Rattle.wasi_steps.specs.Reply.{bytes_fields, pair_fields}
-use Rattle.wasi_records.specs.Ends.{take_receive_end}
-use Rattle.wasi_records.specs.declared.slot.Slot.TheVariants.{Unfilled}
+use Rattle.tcp_records.specs.Ends.{take_receive_end}
+use Rattle.tcp_records.specs.declared.slot.Slot.TheVariants.{Unfilled}
 use Rattle.wasi_records.specs.declared.records.Record.TheVariants as rec
 use Rattle.host_store.specs.declared.kind.Kind.TheVariants as slot
 use Rattle.wasi_world.specs.declared.call.HandleKind.TheVariants as kind
@@ -14,6 +14,7 @@ use Rattle.wasi_walks.specs.Licence.{UdpCreated}
 use Rattle.wasi_walks.proofs.licence.Runs.{whole_licensed}
 use Rattle.wasi_walks.proofs.licence.Rows.{allowed, local_80}
 use Rattle.wasi_walks.proofs.licence.Refused.{at_line, of_each}
+use Rattle.wasi_steps.specs.declared.guest_call.P3TcpCall.{P3TcpCall}
 
 abbrev anywhere : IpSocketAddress
 anywhere = wildcard SocketAddressFamily.Ipv4
@@ -27,7 +28,7 @@ third = record { step = 3; part = 1 }
 
 -- == a socket listens and accepts, and the connection is read
 abbrev script : List Step
-script = Step.Call 0 (GuestCall.P3TcpCreate SocketAddressFamily.Ipv4) ∷ Step.Call 0 (GuestCall.P3TcpListen 1) ∷ Step.Call 0 (GuestCall.P3Accept 2 1) ∷ Step.Call 0 (GuestCall.P3TcpReceive 3) ∷ Step.Call 0 (GuestCall.P3Read 4 8) ∷ []
+script = Step.Call 0 (GuestCall.P3Tcp (P3TcpCall.Create SocketAddressFamily.Ipv4)) ∷ Step.Call 0 (GuestCall.P3Tcp (P3TcpCall.Listen 1)) ∷ Step.Call 0 (GuestCall.P3Tcp (P3TcpCall.Accept 2 1)) ∷ Step.Call 0 (GuestCall.P3Tcp (P3TcpCall.Receive 3)) ∷ Step.Call 0 (GuestCall.P3Tcp (P3TcpCall.Read 4 8)) ∷ []
 
 -- it is created, and isn't bound
 abbrev begins : List Entry
@@ -150,7 +151,7 @@ bound_elsewhere : IsLicensed allowed script (checked_80 ++ binds_80 ∷ []) [] �
 bound_elsewhere h =
     let may = h.each checked_80 binds_80 [] refl in
     elim may.1 [
-      | inl by_bind ↦ at_line (IsBindTo local_80) (Step.Call 0 (GuestCall.P3TcpListen 1)) by_bind.origin by_bind.at by_bind.holds
+      | inl by_bind ↦ at_line (IsBindTo local_80) (Step.Call 0 (GuestCall.P3Tcp (P3TcpCall.Listen 1))) by_bind.origin by_bind.at by_bind.holds
       | inr by_listen ↦ no_wildcard by_listen.1.family by_listen.1.is
     ]
 
@@ -178,13 +179,13 @@ unbound_listen h = may_not (h.each checked listens [] refl).2
 abbrev result : Entry
 result = entry (own_of 2) (Call.Made 2 kind.Result3 (Some 1) (Some (own_of 1))) Told.Done
 
-no_result : IsMarkOf begins (own_of 2) kind.Result3 (Some 1) (Some (own_of 1)) (Step.Call 0 (GuestCall.P3TcpListen 1)) → ⊥
+no_result : IsMarkOf begins (own_of 2) kind.Result3 (Some 1) (Some (own_of 1)) (Step.Call 0 (GuestCall.P3Tcp (P3TcpCall.Listen 1))) → ⊥
 no_result m = let p = m.0 in absurd (cc)
 
 marked_by_listen : IsLicensed allowed script (begins ++ result ∷ []) [] → ⊥
 marked_by_listen h =
     let may = h.each begins result [] refl in
-    no_result (at_line (IsMarkOf begins (own_of 2) kind.Result3 (Some 1) (Some (own_of 1))) (Step.Call 0 (GuestCall.P3TcpListen 1)) may.1.origin may.1.at may.1.holds)
+    no_result (at_line (IsMarkOf begins (own_of 2) kind.Result3 (Some 1) (Some (own_of 1))) (Step.Call 0 (GuestCall.P3Tcp (P3TcpCall.Listen 1))) may.1.origin may.1.at may.1.holds)
 
 -- == an end is of its socket's network socket
 -- the handle of the connection is marked with its network socket alone, and so is its end's
@@ -198,13 +199,13 @@ no_other e = let p : own_of 1 ≡ third = cc in let line = ap (λ (o : OpId). o.
 abbrev marked_other : Entry
 marked_other = entry (own_of 4) (Call.Made 4 kind.Receive3 (Some 3) (Some (own_of 1))) Told.Done
 
-no_end : IsMarkOf accepts (own_of 4) kind.Receive3 (Some 3) (Some (own_of 1)) (Step.Call 0 (GuestCall.P3TcpReceive 3)) → ⊥
+no_end : IsMarkOf accepts (own_of 4) kind.Receive3 (Some 3) (Some (own_of 1)) (Step.Call 0 (GuestCall.P3Tcp (P3TcpCall.Receive 3))) → ⊥
 no_end m = no_other (of_each (λ e. OfThird 3 e.call) accepts _ (tt, ((λ e. absurd (cc)), (tt, (tt, (tt, (tt, (tt, ((λ e. absurd (cc)), (tt, (tt, (tt, ((λ e. refl), tt)))))))))))) m.1.1.mark refl)
 
 end_of_another : IsLicensed allowed script (accepts ++ marked_other ∷ []) [] → ⊥
 end_of_another h =
     let may = h.each accepts marked_other [] refl in
-    no_end (at_line (IsMarkOf accepts (own_of 4) kind.Receive3 (Some 3) (Some (own_of 1))) (Step.Call 0 (GuestCall.P3TcpReceive 3)) may.1.origin may.1.at may.1.holds)
+    no_end (at_line (IsMarkOf accepts (own_of 4) kind.Receive3 (Some 3) (Some (own_of 1))) (Step.Call 0 (GuestCall.P3Tcp (P3TcpCall.Receive 3))) may.1.origin may.1.at may.1.holds)
 
 -- == and reads from none but that
 abbrev reads_other : Entry
@@ -217,7 +218,7 @@ of_fourth handle (inl e) is =
 of_fourth handle (inr e) is = e
 
 reaches_none : ReachesSide script ends (own_of 5) (own_of 1) → ⊥
-reaches_none (inl b) = let n = at_line (NamesSide ends (own_of 1)) (Step.Call 0 (GuestCall.P3Read 4 8)) b.origin b.at b.holds in of_fourth n.handle n.named n.is
+reaches_none (inl b) = let n = at_line (NamesSide ends (own_of 1)) (Step.Call 0 (GuestCall.P3Tcp (P3TcpCall.Read 4 8))) b.origin b.at b.holds in of_fourth n.handle n.named n.is
 reaches_none (inr e) = let line = ap (λ (o : OpId). o.step) e in cc
 
 read_of_another : IsLicensed allowed script (ends ++ reads_other ∷ []) [] → ⊥

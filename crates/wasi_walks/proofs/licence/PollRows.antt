@@ -9,22 +9,24 @@ use Rattle.wasi_walks.proofs.licence.Rows.{allowed, bind_log, bind_script}
 use Rattle.wasi_walks.proofs.licence.Runs.{whole_licensed}
 use Rattle.wasi_walks.proofs.walks.Moves.{part_of}
 use Rattle.wasi_world.specs.declared.call.HandleKind.TheVariants as kind
+use Rattle.wasi_steps.specs.declared.guest_call.TcpCall.{TcpCall}
+use Rattle.wasi_steps.specs.declared.guest_call.PollableCall.{PollableCall}
 
 -- two listeners, with a pollable each; the call names the first of these twice
 abbrev script : List Step
 script = bind_script
-    ++ (Step.Call 0 (GuestCall.TcpStartListen 2)
-    ∷ Step.Call 0 (GuestCall.TcpFinishListen 2)
-    ∷ Step.Call 0 (GuestCall.Subscribe 2)
-    ∷ Step.Call 0 (GuestCall.TcpCreate SocketAddressFamily.Ipv4)
-    ∷ Step.Call 0 (GuestCall.TcpStartBind 4 1 local_81)
-    ∷ Step.Call 0 (GuestCall.TcpFinishBind 4)
-    ∷ Step.Call 0 (GuestCall.TcpStartListen 4)
-    ∷ Step.Call 0 (GuestCall.TcpFinishListen 4)
-    ∷ Step.Call 0 (GuestCall.Subscribe 4)
-    ∷ Step.Call 0 (GuestCall.PollList (3 ∷ 5 ∷ 3 ∷ []))
+    ++ (Step.Call 0 (GuestCall.Tcp (TcpCall.StartListen 2))
+    ∷ Step.Call 0 (GuestCall.Tcp (TcpCall.FinishListen 2))
+    ∷ Step.Call 0 (GuestCall.Pollable (PollableCall.Subscribe 2))
+    ∷ Step.Call 0 (GuestCall.Tcp (TcpCall.Create SocketAddressFamily.Ipv4))
+    ∷ Step.Call 0 (GuestCall.Tcp (TcpCall.StartBind 4 1 local_81))
+    ∷ Step.Call 0 (GuestCall.Tcp (TcpCall.FinishBind 4))
+    ∷ Step.Call 0 (GuestCall.Tcp (TcpCall.StartListen 4))
+    ∷ Step.Call 0 (GuestCall.Tcp (TcpCall.FinishListen 4))
+    ∷ Step.Call 0 (GuestCall.Pollable (PollableCall.Subscribe 4))
+    ∷ Step.Call 0 (GuestCall.Pollable (PollableCall.PollList (3 ∷ 5 ∷ 3 ∷ [])))
     ∷ Step.Poll 14
-    ∷ Step.Call 0 (GuestCall.TcpAccept 4)
+    ∷ Step.Call 0 (GuestCall.Tcp (TcpCall.Accept 4))
     ∷ [])
 
 abbrev peer : IpSocketAddress

@@ -7,6 +7,8 @@ use Rattle.wasi_walks.proofs.licence.Rows.{begins, creates, allowed, two_context
 use Rattle.wasi_walks.specs.Licence.{BeganBy, BindsAnywhere, IsDisconnect, IsUdpConnectTo, Receives, UdpCreated}
 use Rattle.wasi_addr.specs.declared.code.ErrorCode.TheVariants as code
 use Rattle.wasi_world.specs.declared.call.HandleKind.TheVariants as kind
+use Rattle.wasi_steps.specs.declared.guest_call.TcpCall.{TcpCall}
+use Rattle.wasi_steps.specs.declared.guest_call.NameCall.{NameCall}
 
 abbrev pub local_81 : IpSocketAddress
 local_81 = IpSocketAddress.Ipv4 (record { port = 81; address = (127, 0, 0, 1) })
@@ -75,7 +77,7 @@ refused_check h = let may = h.each told_no bind_80 [] refl in of_each (λ e. Not
 
 -- == the yes is of another line
 abbrev two_binds : List Step
-two_binds = Step.Call 0 GuestCall.Network ∷ Step.Call 0 (GuestCall.TcpCreate SocketAddressFamily.Ipv4) ∷ Step.Call 0 (GuestCall.TcpStartBind 2 1 local_80) ∷ Step.Call 0 (GuestCall.TcpStartBind 2 1 local_80) ∷ []
+two_binds = Step.Call 0 (GuestCall.Names NameCall.Network) ∷ Step.Call 0 (GuestCall.Tcp (TcpCall.Create SocketAddressFamily.Ipv4)) ∷ Step.Call 0 (GuestCall.Tcp (TcpCall.StartBind 2 1 local_80)) ∷ Step.Call 0 (GuestCall.Tcp (TcpCall.StartBind 2 1 local_80)) ∷ []
 
 abbrev first_bind : List Entry
 first_bind = begins
@@ -130,11 +132,11 @@ at_line P s x e h = let p : x ≡ s = cc in subst P p h
 other_address : IsLicensed allowed bind_script (asks_81 ++ bind_81 ∷ []) [] → ⊥
 other_address h =
     let may = h.each asks_81 bind_81 [] refl in
-    elim may.1 [ inl by_bind ↦ bound by_bind | inr by_listen ↦ at_line BindsAnywhere (Step.Call 0 (GuestCall.TcpStartBind 2 1 local_80)) by_listen.0.origin by_listen.0.at by_listen.0.holds ]
+    elim may.1 [ inl by_bind ↦ bound by_bind | inr by_listen ↦ at_line BindsAnywhere (Step.Call 0 (GuestCall.Tcp (TcpCall.StartBind 2 1 local_80))) by_listen.0.origin by_listen.0.at by_listen.0.holds ]
   where
     bound : BeganBy bind_script bind_81.op (IsBindTo local_81) → ⊥
     bound b =
-        let same = at_line (IsBindTo local_81) (Step.Call 0 (GuestCall.TcpStartBind 2 1 local_80)) b.origin b.at b.holds in
+        let same = at_line (IsBindTo local_81) (Step.Call 0 (GuestCall.Tcp (TcpCall.StartBind 2 1 local_80))) b.origin b.at b.holds in
         let port = ap port_of same in
         omega arith
 
@@ -152,12 +154,12 @@ no_tcp ctx e t = let p : record { name = 0; ip_name_lookup = true; udp = true; t
 forbidden_create : IsLicensed forbidden bind_script (before_create ++ create ∷ []) [] → ⊥
 forbidden_create h =
     let may = h.each before_create create [] refl in
-    let m = at_line (IsTcpCreate forbidden 0 SocketAddressFamily.Ipv4) (Step.Call 0 (GuestCall.TcpCreate SocketAddressFamily.Ipv4)) may.origin may.at may.holds in
+    let m = at_line (IsTcpCreate forbidden 0 SocketAddressFamily.Ipv4) (Step.Call 0 (GuestCall.Tcp (TcpCall.Create SocketAddressFamily.Ipv4))) may.origin may.at may.holds in
     no_tcp m.0.ctx m.0.at m.0.tcp
 
 -- == a network socket that the line doesn't name
 abbrev two_sockets : List Step
-two_sockets = Step.Call 0 GuestCall.Network ∷ Step.Call 0 (GuestCall.TcpCreate SocketAddressFamily.Ipv4) ∷ Step.Call 0 (GuestCall.TcpCreate SocketAddressFamily.Ipv4) ∷ Step.Call 0 (GuestCall.TcpStartBind 2 1 local_80) ∷ []
+two_sockets = Step.Call 0 (GuestCall.Names NameCall.Network) ∷ Step.Call 0 (GuestCall.Tcp (TcpCall.Create SocketAddressFamily.Ipv4)) ∷ Step.Call 0 (GuestCall.Tcp (TcpCall.Create SocketAddressFamily.Ipv4)) ∷ Step.Call 0 (GuestCall.Tcp (TcpCall.StartBind 2 1 local_80)) ∷ []
 
 abbrev checked_first : List Entry
 checked_first = creates 0 SocketAddressFamily.Ipv4
@@ -183,7 +185,7 @@ not_named handle (inr (inr a)) e = a
 not_reached : ReachesSide two_sockets checked_first (own_of 4) (own_of 3) → ⊥
 not_reached (inr e) = let line = ap (λ (op : OpId). op.step) e in cc
 not_reached (inl b) =
-    let n = at_line (NamesSide checked_first (own_of 3)) (Step.Call 0 (GuestCall.TcpStartBind 2 1 local_80)) b.origin b.at b.holds in
+    let n = at_line (NamesSide checked_first (own_of 3)) (Step.Call 0 (GuestCall.Tcp (TcpCall.StartBind 2 1 local_80))) b.origin b.at b.holds in
     let third = of_each (λ e. OnlyThird e.call) checked_first _ ((λ e. absurd (cc)), (tt, ((λ e. absurd (second e)), (tt, ((λ e. refl), (tt, (tt, tt))))))) n.is.mark in
     not_named n.handle n.named (third refl)
   where
@@ -202,26 +204,26 @@ NoCreate _ = ⊤
 not_created : IsLicensed allowed bind_script (before_create ++ entry (own_of 2) (Call.Made 2 kind.Tcp2 None (Some (own_of 2))) Told.Done ∷ []) [] → ⊥
 not_created h =
     let may = h.each before_create (entry (own_of 2) (Call.Made 2 kind.Tcp2 None (Some (own_of 2))) Told.Done) [] refl in
-    let m = at_line (IsMarkOf before_create (own_of 2) kind.Tcp2 None (Some (own_of 2))) (Step.Call 0 (GuestCall.TcpCreate SocketAddressFamily.Ipv4)) may.1.origin may.1.at may.1.holds in
+    let m = at_line (IsMarkOf before_create (own_of 2) kind.Tcp2 None (Some (own_of 2))) (Step.Call 0 (GuestCall.Tcp (TcpCall.Create SocketAddressFamily.Ipv4))) may.1.origin may.1.at may.1.holds in
     of_each (λ e. NoCreate e.call) before_create _ (tt, tt) m.3.2
 
 -- == a step that makes no datagram streams connects a UDP socket
 unmade : IsLicensed allowed bind_script (begins ++ entry (own_of 3) (Call.UdpConnect (own_of 2) local_80) Told.Done ∷ []) [] → ⊥
 unmade h =
     let may = h.each begins (entry (own_of 3) (Call.UdpConnect (own_of 2) local_80) Told.Done) [] refl in
-    at_line (IsUdpConnectTo local_80) (Step.Call 0 (GuestCall.TcpStartBind 2 1 local_80)) may.1.origin may.1.at may.1.holds
+    at_line (IsUdpConnectTo local_80) (Step.Call 0 (GuestCall.Tcp (TcpCall.StartBind 2 1 local_80))) may.1.origin may.1.at may.1.holds
 
 -- == and disconnects one
 undone : IsLicensed allowed bind_script (begins ++ entry (own_of 3) (Call.UdpDisconnect (own_of 2)) Told.Done ∷ []) [] → ⊥
 undone h =
     let may = h.each begins (entry (own_of 3) (Call.UdpDisconnect (own_of 2)) Told.Done) [] refl in
-    at_line IsDisconnect (Step.Call 0 (GuestCall.TcpStartBind 2 1 local_80)) may.1.origin may.1.at may.1.holds
+    at_line IsDisconnect (Step.Call 0 (GuestCall.Tcp (TcpCall.StartBind 2 1 local_80))) may.1.origin may.1.at may.1.holds
 
 -- == and receives
 no_receive : IsLicensed allowed bind_script (begins ++ entry (own_of 3) (Call.Recv (own_of 2)) (Told.Datagram [] local_81) ∷ []) [] → ⊥
 no_receive h =
     let may = h.each begins (entry (own_of 3) (Call.Recv (own_of 2)) (Told.Datagram [] local_81)) [] refl in
-    at_line Receives (Step.Call 0 (GuestCall.TcpStartBind 2 1 local_80)) may.1.origin may.1.at may.1.holds
+    at_line Receives (Step.Call 0 (GuestCall.Tcp (TcpCall.StartBind 2 1 local_80))) may.1.origin may.1.at may.1.holds
 
 -- == the backlog of a network socket that doesn't listen is set
 -- no listen
@@ -238,4 +240,4 @@ unasked h =
 no_listen : IsLicensed allowed bind_script (begins ++ entry (own_of 3) (Call.Listen (own_of 2) 128) Told.Done ∷ []) [] → ⊥
 no_listen h =
     let may = h.each begins (entry (own_of 3) (Call.Listen (own_of 2) 128) Told.Done) [] refl in
-    at_line IsListenStep (Step.Call 0 (GuestCall.TcpStartBind 2 1 local_80)) may.1.origin may.1.at may.1.holds
+    at_line IsListenStep (Step.Call 0 (GuestCall.Tcp (TcpCall.StartBind 2 1 local_80))) may.1.origin may.1.at may.1.holds

@@ -8,6 +8,8 @@ use Rattle.wasi_walks.specs.Licence.{HandsAs, HandsOne, HandsOut, IsNone, IsRece
 use Rattle.wasi_walks.proofs.Lists.{cut_more, has_parts, has_front}
 use Rattle.wasi_walks.proofs.licence.Frames.{Goes, began_more, maker_more, names_on, side_more}
 use Rattle.wasi_walks.proofs.received.Handed.{order_more}
+use Rattle.wasi_steps.specs.declared.guest_call.UdpCall.{UdpCall}
+use Rattle.wasi_steps.specs.declared.guest_call.P3UdpCall.{P3UdpCall}
 
 -- == the lines that were served
 -- none of these entries asks for a datagram by the own operation of this line
@@ -28,7 +30,7 @@ is_none line (n ∷ ns) k = (k n (inl refl), is_none line ns (λ x h. k x (inr h
 
 -- those that were served stay so
 by_keeps : (n : ℕ) (o : Option Step) (served : List ℕ) (x : ℕ) → Has served x → Has (served_by n o served) x
-by_keeps n (Some (Step.Call ctx (GuestCall.P3UdpReceive socket))) served x h = inr h
+by_keeps n (Some (Step.Call ctx (GuestCall.P3Udp (P3UdpCall.Receive socket)))) served x h = inr h
 by_keeps n _ served x h = h
 
 pub serves_keeps : (steps : List Step) (line : ℕ) (s : Step) (r : Reply) (served : List ℕ) (x : ℕ) → Has served x → Has (serves steps line s r served) x
@@ -96,12 +98,12 @@ module _ {steps now : List Step} (goes : Goes steps now) (es fs : List Entry) wh
   as_more served n (Some s) fields e none h = subst (λ (o : Option Step). HandsAs now (es ++ fs) served n o fields) (sym (goes.at n s e)) (of s none h)
     where
       of : (s : Step) → AskNoMore (served_by n (Some s) served) fs → HandsAs steps es served n (Some s) fields → HandsAs now (es ++ fs) served n (Some s) fields
-      of (Step.Call ctx (GuestCall.P3UdpReceive socket)) none h = one_more served n fields (none n (inl refl)) h
+      of (Step.Call ctx (GuestCall.P3Udp (P3UdpCall.Receive socket))) none h = one_more served n fields (none n (inl refl)) h
       of _ none h = h
 
   may_more : (served : List ℕ) (line : ℕ) (s : Step) (r : Reply) → AskNoMore (serves steps line s r served) fs → MayReply steps es served line s r → MayReply now (es ++ fs) served line s r
-  may_more served line (Step.Call ctx (GuestCall.UdpReceive handle most)) (Reply.Ok fields) none h = hands_more es fs handle fields h
-  may_more served line (Step.Call ctx (GuestCall.P3UdpReceive socket)) (Reply.Ok fields) none h = one_more served line fields (none line (inl refl)) h
+  may_more served line (Step.Call ctx (GuestCall.Udp (UdpCall.Receive handle most))) (Reply.Ok fields) none h = hands_more es fs handle fields h
+  may_more served line (Step.Call ctx (GuestCall.P3Udp (P3UdpCall.Receive socket))) (Reply.Ok fields) none h = one_more served line fields (none line (inl refl)) h
   may_more served line (Step.Poll n) (Reply.Ok fields) none h = as_more served n (step_at steps n) fields refl none h
   may_more served line _ _ none h = h
 

@@ -12,6 +12,8 @@ use Rattle.wasi_world.specs.declared.call.HandleKind.TheVariants as kind
 use Rattle.wasi_steps.specs.declared.reply.CodeWord.TheVariants as word
 use Rattle.host_store.specs.declared.kind.Kind.TheVariants as slot
 use Rattle.wasi_records.specs.declared.records.Record.TheVariants as rec
+use Rattle.wasi_steps.specs.declared.guest_call.TcpCall.{TcpCall}
+use Rattle.wasi_steps.specs.declared.guest_call.NameCall.{NameCall}
 
 -- contexts that may use all
 abbrev pub context : ℕ → WasiSocketsCtx
@@ -43,7 +45,7 @@ with_socket ctx f doing standing = record {
 
 -- == a bind
 abbrev pub bind_script : List Step
-bind_script = Step.Call 0 GuestCall.Network ∷ Step.Call 0 (GuestCall.TcpCreate SocketAddressFamily.Ipv4) ∷ Step.Call 0 (GuestCall.TcpStartBind 2 1 local_80) ∷ Step.Call 0 (GuestCall.TcpFinishBind 2) ∷ []
+bind_script = Step.Call 0 (GuestCall.Names NameCall.Network) ∷ Step.Call 0 (GuestCall.Tcp (TcpCall.Create SocketAddressFamily.Ipv4)) ∷ Step.Call 0 (GuestCall.Tcp (TcpCall.StartBind 2 1 local_80)) ∷ Step.Call 0 (GuestCall.Tcp (TcpCall.FinishBind 2)) ∷ []
 
 -- a network, and a socket that the second line makes by this context
 abbrev pub creates : ℕ → SocketAddressFamily → List Entry
@@ -67,7 +69,7 @@ bind_run = ((refl, refl, tt), ((refl, refl, tt), ((refl, refl, tt), ((refl, refl
 -- the third line names the socket, where the log has its mark
 names_socket : (before : List Entry) → Has before (entry (own_of 2) (Call.Made 2 kind.Tcp2 None (Some (own_of 2))) Told.Done) → BeganBy bind_script (own_of 3) (NamesSide before (own_of 2))
 names_socket before h = record {
-  origin = Step.Call 0 (GuestCall.TcpStartBind 2 1 local_80);
+  origin = Step.Call 0 (GuestCall.Tcp (TcpCall.StartBind 2 1 local_80));
   at = refl;
   holds = record { handle = 2; named = inl refl; is = record { op = own_of 2; kind = kind.Tcp2; parent = None; told = Told.Done; mark = h } };
 }
@@ -75,11 +77,11 @@ names_socket before h = record {
 -- by hand
 bind_licensed : IsLicensed allowed bind_script bind_log []
 bind_licensed = licensed allowed bind_script bind_log (
-  (refl, record { origin = Step.Call 0 GuestCall.Network; at = refl; holds = (refl, refl, refl) }),
+  (refl, record { origin = Step.Call 0 (GuestCall.Names NameCall.Network); at = refl; holds = (refl, refl, refl) }),
   (
-    record { origin = Step.Call 0 (GuestCall.TcpCreate SocketAddressFamily.Ipv4); at = refl; holds = (record { ctx = context 0; at = refl; named = refl; tcp = refl }, refl) },
+    record { origin = Step.Call 0 (GuestCall.Tcp (TcpCall.Create SocketAddressFamily.Ipv4)); at = refl; holds = (record { ctx = context 0; at = refl; named = refl; tcp = refl }, refl) },
     (
-      (refl, record { origin = Step.Call 0 (GuestCall.TcpCreate SocketAddressFamily.Ipv4); at = refl; holds = (refl, refl, refl, (0, SocketAddressFamily.Ipv4, inr (inl refl))) }),
+      (refl, record { origin = Step.Call 0 (GuestCall.Tcp (TcpCall.Create SocketAddressFamily.Ipv4)); at = refl; holds = (refl, refl, refl, (0, SocketAddressFamily.Ipv4, inr (inl refl))) }),
       (
         inl (names_socket _ (inr (inr (inl refl)))),
         (
@@ -87,9 +89,9 @@ bind_licensed = licensed allowed bind_script bind_log (
           (
             (
               inl (names_socket _ (inr (inr (inl refl)))),
-              inl (record { origin = Step.Call 0 (GuestCall.TcpStartBind 2 1 local_80); at = refl; holds = refl }),
+              inl (record { origin = Step.Call 0 (GuestCall.Tcp (TcpCall.StartBind 2 1 local_80)); at = refl; holds = refl }),
               record { ctx = 0; family = SocketAddressFamily.Ipv4; maker = Created (own_of 2) Told.Done (inr (inl refl)); checked = inr (inr (inr (inr (inl refl)))) },
-              record { origin = Step.Call 0 (GuestCall.TcpCreate SocketAddressFamily.Ipv4); at = refl; holds = tt },
+              record { origin = Step.Call 0 (GuestCall.Tcp (TcpCall.Create SocketAddressFamily.Ipv4)); at = refl; holds = tt },
             ),
             tt,
           ),
@@ -104,7 +106,7 @@ abbrev local_six : IpSocketAddress
 local_six = IpSocketAddress.Ipv6 (record { port = 80; flow_info = 0; address = (8193, 3512, 0, 0, 0, 0, 0, 1); scope_id = 0 })
 
 abbrev stands_script : List Step
-stands_script = Step.Call 0 GuestCall.Network ∷ Step.Call 1 (GuestCall.TcpCreate SocketAddressFamily.Ipv6) ∷ Step.Call 0 (GuestCall.TcpStartBind 2 1 local_six) ∷ Step.Call 0 GuestCall.Network ∷ Step.Call 1 (GuestCall.TcpFinishBind 2) ∷ []
+stands_script = Step.Call 0 (GuestCall.Names NameCall.Network) ∷ Step.Call 1 (GuestCall.Tcp (TcpCall.Create SocketAddressFamily.Ipv6)) ∷ Step.Call 0 (GuestCall.Tcp (TcpCall.StartBind 2 1 local_six)) ∷ Step.Call 0 (GuestCall.Names NameCall.Network) ∷ Step.Call 1 (GuestCall.Tcp (TcpCall.FinishBind 2)) ∷ []
 
 abbrev stands_log : List Entry
 stands_log = creates 1 SocketAddressFamily.Ipv6
@@ -125,7 +127,7 @@ stands_licensed = whole_licensed two_contexts stands_script stands_log stands_re
 
 -- == a context that may not use TCP creates nothing
 abbrev forbidden_script : List Step
-forbidden_script = Step.Call 0 GuestCall.Network ∷ Step.Call 0 (GuestCall.TcpCreate SocketAddressFamily.Ipv4) ∷ []
+forbidden_script = Step.Call 0 (GuestCall.Names NameCall.Network) ∷ Step.Call 0 (GuestCall.Tcp (TcpCall.Create SocketAddressFamily.Ipv4)) ∷ []
 
 forbidden_run : Left (run forbidden [] first_state 1 forbidden_script) (entry (own_of 1) (Call.Made 1 kind.Network None None) Told.Done ∷ [])
     (Give (Reply.Ok (number_fields 1) ∷ Reply.Err word.AccessDenied ∷ [], record { table = record { next = 2; live = record { handle = 1; value = slot.Network; parent = None } ∷ [] }; store = record { records = []; jobs = []; standing = None; beside = []; limits = record { context = 0; most = 0 } ∷ [] } }))

@@ -41,6 +41,7 @@ use Rattle.wasi_walks.proofs.remotes.State.{Keeps, first_keeps}
 use Rattle.wasi_walks.proofs.walks.Here.{IsToCome}
 use Rattle.wasi_walks.proofs.walks.Moves.{Names, Own, ToConnect, ToWrite, Unused, Used}
 use Rattle.wasi_records.specs.Records.{tcp2_at}
+use Rattle.wasi_steps.specs.declared.guest_call.StreamCall.{StreamCall}
 
 -- Between two lines.
 pub record Fine (contexts : List WasiSocketsCtx) (steps : List Step) (line : ℕ) (es : List Entry) (m : Machine) : Type 0 where
@@ -161,8 +162,8 @@ module _ (contexts : List WasiSocketsCtx) where
   counted_at m bytes (Some place) = counted_of (tcp2_at m.store.records place) bytes
 
   counted : (m : Machine) (s : Step) → IsCounted (may_write m s)
-  counted m (Step.Call ctx (GuestCall.Write output bytes)) = counted_at m bytes (output_at m output)
-  counted m (Step.Call ctx (GuestCall.WriteZeroes output len)) = counted_at m (zeros len) (output_at m output)
+  counted m (Step.Call ctx (GuestCall.Stream (StreamCall.Write output bytes))) = counted_at m bytes (output_at m output)
+  counted m (Step.Call ctx (GuestCall.Stream (StreamCall.WriteZeroes output len))) = counted_at m (zeros len) (output_at m output)
   counted m _ = tt
 
   counted_while : (m : Machine) (s : Step) (standing : Option Standing) → IsCounted (may_while m s standing)

@@ -38,6 +38,7 @@ use Rattle.wasi_walks.proofs.received.Askers.{Asks3, CallStays, IsOver, IsOwn, I
 use Rattle.wasi_walks.proofs.received.OneDone.{CallHands, FoundHands, HandsOver, OneDone, Says, poll_done, receive_done, step_of}
 use Rattle.wasi_walks.proofs.received.Parted.{AllParted}
 use Rattle.wasi_walks.proofs.received.Single.{RecvsNone, in_hand_more}
+use Rattle.wasi_steps.specs.declared.guest_call.P3UdpCall.{P3UdpCall}
 
 -- == the law of who asks, above the licence
 module _ (contexts : List WasiSocketsCtx) (steps : List Step) (line : ℕ) (origin : Step) (is_line : step_at steps line ≡ Some origin) (old : List Beside) where
@@ -149,11 +150,11 @@ quiet_found contexts steps es fs m n q f = by_found (beside_of m.store n) refl
 
 -- what is served by a line that replies to no receive, or with no fields
 served_quiet : (steps : List Step) (n : ℕ) (o : Option Step) (served : List ℕ) → step_at steps n ≡ o → BeganBy steps (own_of n) NoReceive → served_by n o served ≡ served
-served_quiet steps n (Some (Step.Call ctx (GuestCall.P3UdpReceive socket))) served e q = absurd (step_of q e tt)
+served_quiet steps n (Some (Step.Call ctx (GuestCall.P3Udp (P3UdpCall.Receive socket)))) served e q = absurd (step_of q e tt)
 served_quiet steps n _ served e q = refl
 
 serves_quiet : (steps : List Step) (line : ℕ) (s : Step) (r : Reply) (served : List ℕ) → IsQuietAt steps s → serves steps line s r served ≡ served
-serves_quiet steps line (Step.Call ctx (GuestCall.P3UdpReceive socket)) r served q = absurd (q.0 tt)
+serves_quiet steps line (Step.Call ctx (GuestCall.P3Udp (P3UdpCall.Receive socket))) r served q = absurd (q.0 tt)
 serves_quiet steps line (Step.Poll n) (Reply.Ok fields) served q = served_quiet steps n (step_at steps n) served refl (q.1 n refl)
 serves_quiet steps line s (Reply.Ok fields) served q = refl
 serves_quiet steps line s r served q = refl
@@ -326,20 +327,20 @@ module _ (contexts : List WasiSocketsCtx) (steps : List Step) (line : ℕ) (m : 
   quiet_line s is_line q along = all_done contexts steps line s is_line m es served fine k (λ fs done. MayReply steps fs served line s done.0) along (step_replies contexts steps served line s m es q fine keeps late) (quiet_direct contexts steps line s is_line m es served fine k q)
 
   -- of a receive
-  module _ (ctx socket : ℕ) (is_line : step_at steps line ≡ Some (Step.Call ctx (GuestCall.P3UdpReceive socket))) where
+  module _ (ctx socket : ℕ) (is_line : step_at steps line ≡ Some (Step.Call ctx (GuestCall.P3Udp (P3UdpCall.Receive socket)))) where
     its_receive : BeganBy steps (own_of line) IsReceive
     its_receive = record { origin = _; at = is_line; holds = tt }
 
-    own_says : (fs : List Entry) (r : Reply) (left : Option Beside) → Says steps line fs r left → MayReply steps fs served line (Step.Call ctx (GuestCall.P3UdpReceive socket)) r
+    own_says : (fs : List Entry) (r : Reply) (left : Option Beside) → Says steps line fs r left → MayReply steps fs served line (Step.Call ctx (GuestCall.P3Udp (P3UdpCall.Receive socket))) r
     own_says fs (Reply.Ok fields) left h = hands_one h its_receive (is_none line served (λ n i e. let p = (k.over n i).0 in omega (arith, p, e)))
     own_says fs _ left h = tt
 
-    own_over : (fs : List Entry) (r : Reply) (left : Option Beside) → Says steps line fs r left → (n : ℕ) → Has (serves steps line (Step.Call ctx (GuestCall.P3UdpReceive socket)) r served) n → Has served n ⊎ ((n ≡ line) × (left ≡ None))
+    own_over : (fs : List Entry) (r : Reply) (left : Option Beside) → Says steps line fs r left → (n : ℕ) → Has (serves steps line (Step.Call ctx (GuestCall.P3Udp (P3UdpCall.Receive socket))) r served) n → Has served n ⊎ ((n ≡ line) × (left ≡ None))
     own_over fs (Reply.Ok fields) left h n (inl e) = inr (sym e, h.over)
     own_over fs (Reply.Ok fields) left h n (inr i) = inl i
     own_over fs _ left h n i = inl i
 
-    own_direct : (fs : List Entry) (done : Reply × Machine) → StateIsFine contexts steps fs done.1 → Asks3 contexts steps line (Step.Call ctx (GuestCall.P3UdpReceive socket)) is_line m.store.beside (Over done.1) → OneDone steps line m.store.standing fs done → Direct contexts steps line (Step.Call ctx (GuestCall.P3UdpReceive socket)) is_line m es served fine k fs done
+    own_direct : (fs : List Entry) (done : Reply × Machine) → StateIsFine contexts steps fs done.1 → Asks3 contexts steps line (Step.Call ctx (GuestCall.P3Udp (P3UdpCall.Receive socket))) is_line m.store.beside (Over done.1) → OneDone steps line m.store.standing fs done → Direct contexts steps line (Step.Call ctx (GuestCall.P3Udp (P3UdpCall.Receive socket))) is_line m es served fine k fs done
     own_direct fs done f a o = record {
       says = own_says fs done.0 _ o.says;
       over = λ n h. elim (own_over fs done.0 _ o.says n h) [ inl i ↦ inl i | inr p ↦ inr (let e = p.0 in omega (arith, e), subst (λ (x : ℕ). beside_of done.1.store x ≡ None) (sym p.0) p.1) ];
@@ -347,7 +348,7 @@ module _ (contexts : List WasiSocketsCtx) (steps : List Step) (line : ℕ) (m : 
       quiet = λ x e. k.quiet x (sym o.stands ∙ e);
     }
 
-    own_line : Along (Step.Call ctx (GuestCall.P3UdpReceive socket)) is_line → Ends (Step.Call ctx (GuestCall.P3UdpReceive socket)) is_line
+    own_line : Along (Step.Call ctx (GuestCall.P3Udp (P3UdpCall.Receive socket))) is_line → Ends (Step.Call ctx (GuestCall.P3Udp (P3UdpCall.Receive socket))) is_line
     own_line along = all_done contexts steps line _ is_line m es served fine k (OneDone steps line m.store.standing) along (receive_done contexts steps m es fine keeps ctx socket line is_line (none_yet line m k)) own_direct
 
   -- of a poll
@@ -377,7 +378,7 @@ module _ (contexts : List WasiSocketsCtx) (steps : List Step) (line : ℕ) (m : 
     idle_line other free along = all_done contexts steps line (Step.Poll n) is_line m es served fine k (λ fs done. NotOk done.0 × (done.1 ≡ m)) along (idle_while contexts m es line n other free m.store.standing) (idle_direct free)
 
     -- of a receive that stands
-    module _ (ctx socket : ℕ) (is : step_at steps n ≡ Some (Step.Call ctx (GuestCall.P3UdpReceive socket))) (b : Beside) (stands : beside_of m.store n ≡ Some b) where
+    module _ (ctx socket : ℕ) (is : step_at steps n ≡ Some (Step.Call ctx (GuestCall.P3Udp (P3UdpCall.Receive socket)))) (b : Beside) (stands : beside_of m.store n ≡ Some b) where
       it_receives : BeganBy steps (own_of n) IsReceive
       it_receives = record { origin = _; at = is; holds = tt }
 
@@ -412,7 +413,7 @@ module _ (contexts : List WasiSocketsCtx) (steps : List Step) (line : ℕ) (m : 
       poll_line other along = all_done contexts steps line (Step.Poll n) is_line m es served fine k (OneDone steps n m.store.standing) along (poll_done contexts steps m es fine keeps n line other ctx socket is fits_at (k.hands n)) poll_direct
 
     -- of a receive
-    receive_line : (ctx socket : ℕ) → step_at steps n ≡ Some (Step.Call ctx (GuestCall.P3UdpReceive socket)) → (found : Option Beside) → beside_of m.store n ≡ found → Along (Step.Poll n) is_line → Ends (Step.Poll n) is_line
+    receive_line : (ctx socket : ℕ) → step_at steps n ≡ Some (Step.Call ctx (GuestCall.P3Udp (P3UdpCall.Receive socket))) → (found : Option Beside) → beside_of m.store n ≡ found → Along (Step.Poll n) is_line → Ends (Step.Poll n) is_line
     receive_line ctx socket is found e along = by_found found e
       where
         other : (x : Standing) → m.store.standing ≡ Some x → x.ids.line ≡ n → ⊥
@@ -442,10 +443,10 @@ module _ (contexts : List WasiSocketsCtx) (steps : List Step) (line : ℕ) (m : 
 
     any_poll : (o : Option Step) → step_at steps n ≡ o → Along (Step.Poll n) is_line → Ends (Step.Poll n) is_line
     any_poll None is along = none_line is along
-    any_poll (Some (Step.Call ctx (GuestCall.P3UdpReceive socket))) is along = receive_line ctx socket is (beside_of m.store n) refl along
+    any_poll (Some (Step.Call ctx (GuestCall.P3Udp (P3UdpCall.Receive socket)))) is along = receive_line ctx socket is (beside_of m.store n) refl along
     any_poll (Some t) is along = quiet_line (Step.Poll n) is_line (quiet_poll t is (λ h. h)) along
 
   pub serves_line : (s : Step) (is_line : step_at steps line ≡ Some s) → Along s is_line → Ends s is_line
-  serves_line (Step.Call ctx (GuestCall.P3UdpReceive socket)) is_line along = own_line ctx socket is_line along
+  serves_line (Step.Call ctx (GuestCall.P3Udp (P3UdpCall.Receive socket))) is_line along = own_line ctx socket is_line along
   serves_line (Step.Poll n) is_line along = any_poll n is_line (step_at steps n) refl along
   serves_line s is_line along = quiet_line s is_line (λ h. h, λ n e. absurd (cc)) along

@@ -25,11 +25,11 @@ use Rattle.wasi_udp.specs.Receive.{IsLeftOfReceive}
 use Rattle.wasi_addr.specs.declared.address.SocketAddrUse.TheVariants as use_of
 use Rattle.wasi_world.specs.Operation.{UdpBind, UdpConnect, UdpWritable, Send}
 use Rattle.wasi_records.specs.Records.{tcp2_at, udp2_at}
-use Rattle.wasi_records.specs.Udp.{udp_side}
+use Rattle.udp_records.specs.Udp.{udp_side}
 use Rattle.wasi_records.specs.declared.records.Record.{Record}
-use Rattle.wasi_records.specs.declared.udp.OpenUdp.{OpenUdp}
-use Rattle.wasi_records.specs.declared.udp.UdpRecord.{UdpRecord}
-use Rattle.wasi_records.specs.declared.udp.UdpInProgress.{UdpInProgress}
+use Rattle.udp_records.specs.declared.udp.OpenUdp.{OpenUdp}
+use Rattle.udp_records.specs.declared.udp.UdpRecord.{UdpRecord}
+use Rattle.udp_records.specs.declared.udp.UdpInProgress.{UdpInProgress}
 use Rattle.wasi_udp.specs.Create.{Create}
 
 -- The handle stands for the record at this place, and its mark says the network socket that the record was made with.

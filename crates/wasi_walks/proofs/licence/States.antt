@@ -5,14 +5,14 @@ use Rattle.wasi_walks.proofs.Words.{with_record, with_socket, without_handle, â„
 use Rattle.wasi_table.proofs.Tables.{value_without}
 use Rattle.wasi_records.specs.Records.{tcp2_at, tcp2_pushed, udp2_at, udp2_pushed}
 use Rattle.host_store.specs.Kinds.{name_of}
-use Rattle.wasi_records.specs.Udp.{udp_side}
+use Rattle.udp_records.specs.Udp.{udp_side}
 use Rattle.wasi_walks.specs.Licence.{IsMarkedAs}
 use Rattle.host_tcp.specs.Creates.{with_room}
 use Rattle.host_store.specs.Store.{with_udp}
 use Rattle.host_store.specs.declared.beside.Beside.{Beside}
 use Rattle.wasi_jobs.specs.declared.job.HostJob.{HostJob}
 use Rattle.wasi_records.specs.declared.records.Record.TheVariants.{Tcp, Udp}
-use Rattle.wasi_records.specs.declared.udp.UdpRecord.{UdpRecord}
+use Rattle.udp_records.specs.declared.udp.UdpRecord.{UdpRecord}
 use Rattle.wasi_walks.proofs.Lists.{has_last, marks_in-push, value_split}
 use Rattle.wasi_walks.proofs.licence.Besides.{BesidesAreFine, besides_more}
 use Rattle.wasi_walks.proofs.licence.Lookups.{lookups_put, lookups_push}

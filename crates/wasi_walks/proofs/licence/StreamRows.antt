@@ -16,17 +16,22 @@ use Rattle.wasi_walks.specs.Licence.{HasFailed, InputFailed, OutputFailed}
 use Rattle.wasi_walks.proofs.licence.Runs.{whole_licensed}
 use Rattle.wasi_walks.proofs.licence.Rows.{allowed, creates}
 use Rattle.wasi_walks.proofs.licence.Refused.{Each, at_line, of_each}
+use Rattle.wasi_steps.specs.declared.guest_call.TcpCall.{TcpCall}
+use Rattle.wasi_steps.specs.declared.guest_call.NameCall.{NameCall}
+use Rattle.wasi_steps.specs.declared.guest_call.StreamCall.{StreamCall}
+use Rattle.wasi_steps.specs.declared.guest_call.PipeCall.{PipeCall}
+use Rattle.wasi_steps.specs.declared.guest_call.PollableCall.{PollableCall}
 
 -- == pipes, a splice from one to the other, a pollable, and what has no end
 abbrev pipe_script : List Step
-pipe_script = Step.Call 0 (GuestCall.PipeIn (1 ∷ 2 ∷ []))
-    ∷ Step.Call 0 (GuestCall.PipeOut 16)
-    ∷ Step.Call 0 (GuestCall.Splice 2 1 8)
-    ∷ Step.Call 0 (GuestCall.PipeContents 2)
-    ∷ Step.Call 0 (GuestCall.Subscribe 1)
-    ∷ Step.Call 0 GuestCall.Sink
-    ∷ Step.Call 0 GuestCall.ClosedIn
-    ∷ Step.Call 0 GuestCall.ClosedOut
+pipe_script = Step.Call 0 (GuestCall.Pipe (PipeCall.In (1 ∷ 2 ∷ [])))
+    ∷ Step.Call 0 (GuestCall.Pipe (PipeCall.Out 16))
+    ∷ Step.Call 0 (GuestCall.Stream (StreamCall.Splice 2 1 8))
+    ∷ Step.Call 0 (GuestCall.Pipe (PipeCall.Contents 2))
+    ∷ Step.Call 0 (GuestCall.Pollable (PollableCall.Subscribe 1))
+    ∷ Step.Call 0 (GuestCall.Pipe PipeCall.Sink)
+    ∷ Step.Call 0 (GuestCall.Pipe PipeCall.ClosedIn)
+    ∷ Step.Call 0 (GuestCall.Pipe PipeCall.ClosedOut)
     ∷ []
 
 -- a handle of no network socket
@@ -73,7 +78,7 @@ pipe_licensed = whole_licensed allowed pipe_script pipe_log pipe_replies piped r
 with_socket : IsLicensed allowed pipe_script (entry (own_of 1) (Call.Made 1 kind.Input None (Some (own_of 1))) Told.Done ∷ []) [] → ⊥
 with_socket h =
     let may = h.each [] _ [] refl in
-    let m = at_line (IsMarkOf [] (own_of 1) kind.Input None (Some (own_of 1))) (Step.Call 0 (GuestCall.PipeIn (1 ∷ 2 ∷ []))) may.1.origin may.1.at may.1.holds in
+    let m = at_line (IsMarkOf [] (own_of 1) kind.Input None (Some (own_of 1))) (Step.Call 0 (GuestCall.Pipe (PipeCall.In (1 ∷ 2 ∷ [])))) may.1.origin may.1.at may.1.holds in
     let none = m.2 in
     cc
 
@@ -82,10 +87,10 @@ abbrev remote : IpSocketAddress
 remote = IpSocketAddress.Ipv4 (record { port = 80; address = (127, 0, 0, 1) })
 
 abbrev connect_script : List Step
-connect_script = Step.Call 0 GuestCall.Network ∷ Step.Call 0 (GuestCall.TcpCreate SocketAddressFamily.Ipv4) ∷ Step.Call 0 (GuestCall.TcpStartConnect 2 1 remote) ∷ Step.Call 0 (GuestCall.TcpFinishConnect 2) ∷ []
+connect_script = Step.Call 0 (GuestCall.Names NameCall.Network) ∷ Step.Call 0 (GuestCall.Tcp (TcpCall.Create SocketAddressFamily.Ipv4)) ∷ Step.Call 0 (GuestCall.Tcp (TcpCall.StartConnect 2 1 remote)) ∷ Step.Call 0 (GuestCall.Tcp (TcpCall.FinishConnect 2)) ∷ []
 
 abbrev splice_script : List Step
-splice_script = connect_script ++ Step.Call 0 (GuestCall.Splice 4 3 8) ∷ []
+splice_script = connect_script ++ Step.Call 0 (GuestCall.Stream (StreamCall.Splice 4 3 8)) ∷ []
 
 -- the network socket of the second line
 abbrev its : OpId
@@ -200,7 +205,7 @@ IsOfEnd t stream end = ◌≡◌ {A = Option ℕ} (Some stream) (Some end) × Ha
 splice_error : (t : Told) (stream : ℕ) → IsLicensed allowed splice_script (reads t ++ error_of stream ∷ []) [] → IsOfEnd t stream 4 ⊎ IsOfEnd t stream 3
 splice_error t stream h =
     let may = h.each (reads t) (error_of stream) [] refl in
-    elim (at_line (IsMarkOf (reads t) (own_of 5) kind.ErrorValue (Some stream) (Some its)) (Step.Call 0 (GuestCall.Splice 4 3 8)) may.1.origin may.1.at may.1.holds) [
+    elim (at_line (IsMarkOf (reads t) (own_of 5) kind.ErrorValue (Some stream) (Some its)) (Step.Call 0 (GuestCall.Stream (StreamCall.Splice 4 3 8))) may.1.origin may.1.at may.1.holds) [
       | inl m ↦ inl (m.1.0, m.2)
       | inr m ↦ inr (m.1.0, m.2)
     ]
@@ -215,7 +220,7 @@ of_none h = elim (splice_error (Told.Bytes []) 3 h) [ inl m ↦ absurd (let same
 
 -- == a read that blocks, and fails once it is polled: its error is of the line that began it
 abbrev blocks_script : List Step
-blocks_script = connect_script ++ (Step.Call 0 (GuestCall.BlockingRead 3 8) ∷ Step.Poll 5 ∷ [])
+blocks_script = connect_script ++ (Step.Call 0 (GuestCall.Stream (StreamCall.BlockingRead 3 8)) ∷ Step.Poll 5 ∷ [])
 
 abbrev blocks : List Entry
 blocks = connects

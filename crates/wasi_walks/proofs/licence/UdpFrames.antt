@@ -13,12 +13,12 @@ use Rattle.host_store.specs.declared.store.StandingCall.{StandingCall}
 use Rattle.wasi_walks.proofs.licence.Frames.{Goes, began_more, marked_as_more, marked_more, names_on, works_more, IsMadeWith, made_put, names_record_more}
 use Rattle.wasi_records.specs.Records.{tcp2_at, tcp2_put, tcp2_pushed, udp2_at, udp2_put, udp2_pushed}
 use Rattle.host_store.specs.Kinds.{name_of}
-use Rattle.wasi_records.specs.Udp.{udp_side}
+use Rattle.udp_records.specs.Udp.{udp_side}
 use Rattle.wasi_records.specs.declared.records.Record.{Record}
 use Rattle.wasi_records.specs.declared.records.Record.TheVariants.{Tcp, Udp}
 use Rattle.wasi_walks.proofs.owners.Records.{past_end}
-use Rattle.wasi_records.specs.declared.udp.UdpRecord.{UdpRecord}
-use Rattle.wasi_records.specs.declared.udp.UdpInProgress.{UdpInProgress}
+use Rattle.udp_records.specs.declared.udp.UdpRecord.{UdpRecord}
+use Rattle.udp_records.specs.declared.udp.UdpInProgress.{UdpInProgress}
 use Rattle.wasi_walks.proofs.Places.{push_was, push_found, put_was, put_found, there_push, there_put, push_still, put_stays, put_still, tcp_sort, udp_sort}
 
 -- what holds of an operation, where there is one, goes over to what follows from it

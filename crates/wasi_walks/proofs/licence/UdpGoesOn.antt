@@ -8,12 +8,12 @@ use Rattle.wasi_walks.proofs.licence.DatagramAsks.{ConnectLeaves, NoPeer, PeerOn
 use Rattle.wasi_walks.proofs.fits.Law.{Fit}
 use Rattle.wasi_walks.proofs.fits.Records.{FitSending, SendOn}
 use Rattle.wasi_walks.specs.Licence.{IsBoundSide, WasDisconnected}
-use Rattle.wasi_records.specs.Datagrams.{udp_connect_left, udp_reconnect_left, with_sending}
-use Rattle.wasi_records.specs.Receiving.{receive_left, with_receiving}
-use Rattle.wasi_records.specs.declared.datagrams.Incoming.{Incoming as IncomingStream}
-use Rattle.wasi_records.specs.declared.datagrams.Outgoing.{Outgoing as OutgoingStream}
-use Rattle.wasi_records.specs.declared.datagrams.Sending.{Sending}
-use Rattle.wasi_records.specs.declared.datagrams.Receiving.{Receiving}
+use Rattle.udp_records.specs.Datagrams.{udp_connect_left, udp_reconnect_left, with_sending}
+use Rattle.udp_records.specs.Receiving.{receive_left, with_receiving}
+use Rattle.udp_records.specs.declared.datagrams.Incoming.{Incoming as IncomingStream}
+use Rattle.udp_records.specs.declared.datagrams.Outgoing.{Outgoing as OutgoingStream}
+use Rattle.udp_records.specs.declared.datagrams.Sending.{Sending}
+use Rattle.udp_records.specs.declared.datagrams.Receiving.{Receiving}
 use Rattle.wasi_udp.specs.Connect.{with_given}
 use Rattle.wasi_udp.specs.Send.{at_remote}
 use Rattle.wasi_udp.specs.Receive.{wanting}
@@ -25,10 +25,10 @@ use Rattle.wasi_walks.proofs.licence.Line.{Licensed, put_udp_fine}
 use Rattle.wasi_walks.proofs.licence.Asked.{asked_fine, kept, spares}
 use Rattle.wasi_walks.proofs.licence.UdpAsks.{AsksAgain, fine_poll_create, fine_poll_udp_bind}
 use Rattle.wasi_walks.proofs.licence.UdpMoves.{open_at_place}
-use Rattle.wasi_records.specs.Udp.{udp_bind_progress, udp_create_left, udp_side, with_udp_progress}
-use Rattle.wasi_records.specs.declared.udp.OpenUdp.{OpenUdp}
-use Rattle.wasi_records.specs.declared.udp.UdpRecord.{UdpRecord}
-use Rattle.wasi_records.specs.declared.udp.UdpInProgress.{UdpInProgress}
+use Rattle.udp_records.specs.Udp.{udp_bind_progress, udp_create_left, udp_side, with_udp_progress}
+use Rattle.udp_records.specs.declared.udp.OpenUdp.{OpenUdp}
+use Rattle.udp_records.specs.declared.udp.UdpRecord.{UdpRecord}
+use Rattle.udp_records.specs.declared.udp.UdpInProgress.{UdpInProgress}
 use Rattle.socket_common.specs.Rounds.{is_going}
 use Rattle.wasi_udp.specs.Create.{Create, create_cancel_asks}
 use Rattle.wasi_walks.proofs.licence.Unbound.{MayAskSo}

@@ -16,7 +16,7 @@ use Rattle.wasi_walks.proofs.licence.Asked.{Spares, spares, asked_fine, listens_
 use Rattle.wasi_walks.proofs.licence.Marks.{socket_touch, unmarked_made}
 use Rattle.wasi_walks.proofs.licence.UdpMoves.{names_part, open_at_place}
 use Rattle.wasi_world.specs.declared.call.HandleKind.TheVariants as name
-use Rattle.wasi_records.specs.Udp.{udp_side, with_udp_inner}
+use Rattle.udp_records.specs.Udp.{udp_side, with_udp_inner}
 use Rattle.host_store.specs.declared.kind.Kind.TheVariants.{Udp2, Incoming, Outgoing}
 use Rattle.host_store.specs.declared.kind.Kind.{Kind}
 use Rattle.host_store.specs.Kinds.{kind_at, name_of, udp_kind, udp_of}
@@ -25,19 +25,23 @@ use Rattle.host_udp.specs.UdpCreates.{udp_side_at}
 use Rattle.wasi_records.specs.declared.records.Record.{Record}
 use Rattle.wasi_world.specs.declared.call.HandleKind.{HandleKind}
 use Rattle.std.specs.Prelude.{◌⊎◌}
-use Rattle.wasi_records.specs.declared.udp.OpenUdp.{OpenUdp}
-use Rattle.wasi_records.specs.declared.udp.UdpRecord.{UdpRecord}
+use Rattle.udp_records.specs.declared.udp.OpenUdp.{OpenUdp}
+use Rattle.udp_records.specs.declared.udp.UdpRecord.{UdpRecord}
 use Rattle.wasi_udp.specs.Create.{after_create, new_create}
 use Rattle.wasi_udp.specs.Shape.{Socket}
 use Rattle.wasi_udp.specs.Socket.{after_local, after_peer}
 use Rattle.wasi_walks.proofs.Places.{push_was, tcp_sort, udp_sort}
 use Rattle.wasi_walks.proofs.licence.Unbound.{MayAskSo}
+use Rattle.wasi_steps.specs.declared.guest_call.TcpCall.{TcpCall}
+use Rattle.wasi_steps.specs.declared.guest_call.UdpCall.{UdpCall}
+use Rattle.wasi_steps.specs.declared.guest_call.P3TcpCall.{P3TcpCall}
+use Rattle.wasi_steps.specs.declared.guest_call.P3UdpCall.{P3UdpCall}
 
 module _ (contexts : List WasiSocketsCtx) (steps : List Step) (line : ℕ) (origin : Step) (is_line : step_at steps line ≡ Some origin) where
   -- == a UDP socket's network socket is none of a TCP socket's
   one_kind : (s : Step) → MakesTcp s → MakesUdp s → ⊥
-  one_kind (Step.Call ctx (GuestCall.TcpCreate family)) a b = b
-  one_kind (Step.Call ctx (GuestCall.P3TcpCreate family)) a b = b
+  one_kind (Step.Call ctx (GuestCall.Tcp (TcpCall.Create family))) a b = b
+  one_kind (Step.Call ctx (GuestCall.P3Tcp (P3TcpCall.Create family))) a b = b
   one_kind _ a b = a
 
   pub kinds_apart : (side : OpId) → BeganBy steps side MakesTcp → BeganBy steps side MakesUdp → ⊥
@@ -147,21 +151,21 @@ module _ (contexts : List WasiSocketsCtx) (steps : List Step) (line : ℕ) (orig
       subst T e (may_use n (slice_get contexts n) refl) t
 
   may_create : (face : Interface) (ctx : WasiSocketsCtx) (family : SocketAddressFamily) (s : Step) → CreatesUdp contexts ctx family face s → ctx.udp ≡ true → IsUdpCreate contexts ctx.name family s
-  may_create face ctx family (Step.Call n (GuestCall.UdpCreate f)) c t = (may_by n ctx c.0 t, c.1)
-  may_create face ctx family (Step.Call n (GuestCall.P3UdpCreate f)) c t = (may_by n ctx c.0 t, c.1)
+  may_create face ctx family (Step.Call n (GuestCall.Udp (UdpCall.Create f))) c t = (may_by n ctx c.0 t, c.1)
+  may_create face ctx family (Step.Call n (GuestCall.P3Udp (P3UdpCall.Create f))) c t = (may_by n ctx c.0 t, c.1)
   may_create face ctx family _ c t = absurd c
 
   makes_udp : (face : Interface) (ctx : WasiSocketsCtx) (family : SocketAddressFamily) (s : Step) → CreatesUdp contexts ctx family face s → MakesUdp s
-  makes_udp face ctx family (Step.Call n (GuestCall.UdpCreate f)) c = tt
-  makes_udp face ctx family (Step.Call n (GuestCall.P3UdpCreate f)) c = tt
+  makes_udp face ctx family (Step.Call n (GuestCall.Udp (UdpCall.Create f))) c = tt
+  makes_udp face ctx family (Step.Call n (GuestCall.P3Udp (P3UdpCall.Create f))) c = tt
   makes_udp face ctx family _ c = c
 
   creates_only : (face : Interface) (ctx : WasiSocketsCtx) (family : SocketAddressFamily) → CreatesUdp contexts ctx family face origin → IsAccept origin → ⊥
   creates_only face ctx family k is = no_accept origin k is
     where
       no_accept : (s : Step) → CreatesUdp contexts ctx family face s → IsAccept s → ⊥
-      no_accept (Step.Call n (GuestCall.TcpAccept listener)) k is = k
-      no_accept (Step.Call n (GuestCall.P3Accept listener remaining)) k is = k
+      no_accept (Step.Call n (GuestCall.Tcp (TcpCall.Accept listener))) k is = k
+      no_accept (Step.Call n (GuestCall.P3Tcp (P3TcpCall.Accept listener remaining))) k is = k
       no_accept _ k is = is
 
   -- a network socket that was made has its record
@@ -209,8 +213,8 @@ module _ (contexts : List WasiSocketsCtx) (steps : List Step) (line : ℕ) (orig
 
   -- == the mark of its handle, which has the name of the create
   udp_mark : (es : List Entry) (side : OpId) (maker : ℕ) (family : SocketAddressFamily) (face : Interface) (place : ℕ) (s : Step) → MakesUdpFor face s → Has es (entry side (Call.UdpCreate maker family) Told.Done) → IsMarkOf es side (name_of (udp_kind face place)) None (Some side) s
-  udp_mark es side maker family face place (Step.Call ctx (GuestCall.UdpCreate f)) m has = (ap (λ (x : Interface). name_of (udp_kind x place)) m, refl, refl, (maker, family, has))
-  udp_mark es side maker family face place (Step.Call ctx (GuestCall.P3UdpCreate f)) m has = (ap (λ (x : Interface). name_of (udp_kind x place)) m, refl, refl, (maker, family, has))
+  udp_mark es side maker family face place (Step.Call ctx (GuestCall.Udp (UdpCall.Create f))) m has = (ap (λ (x : Interface). name_of (udp_kind x place)) m, refl, refl, (maker, family, has))
+  udp_mark es side maker family face place (Step.Call ctx (GuestCall.P3Udp (P3UdpCall.Create f))) m has = (ap (λ (x : Interface). name_of (udp_kind x place)) m, refl, refl, (maker, family, has))
   udp_mark es side maker family face place _ m has = absurd m
 
   began_mark : (es : List Entry) (side : OpId) (maker : ℕ) (family : SocketAddressFamily) (face : Interface) (place : ℕ) → UdpMade steps es side maker family → BeganBy steps side (MakesUdpFor face) → BeganBy steps side (IsMarkOf es side (name_of (udp_kind face place)) None (Some side))
@@ -224,8 +228,8 @@ module _ (contexts : List WasiSocketsCtx) (steps : List Step) (line : ℕ) (orig
       no_accept b.origin b.holds (subst IsAccept q is)
     where
       no_accept : (s : Step) → MakesUdp s → IsAccept s → ⊥
-      no_accept (Step.Call n (GuestCall.TcpAccept listener)) m is = m
-      no_accept (Step.Call n (GuestCall.P3Accept listener remaining)) m is = m
+      no_accept (Step.Call n (GuestCall.Tcp (TcpCall.Accept listener))) m is = m
+      no_accept (Step.Call n (GuestCall.P3Tcp (P3TcpCall.Accept listener remaining))) m is = m
       no_accept _ m is = is
 
   unmade_more : (es : List Entry) (op own : OpId) (c : Call) (t : Told) → (op ≡ own → ⊥) → NoMadeBy es own → NoMadeBy (es ++ entry op c t ∷ []) own
@@ -310,7 +314,7 @@ module _ (contexts : List WasiSocketsCtx) (steps : List Step) (line : ℕ) (orig
   stream_handle fs records handle place kind (inr e) n = subst (NamesItsOwn fs records handle) (sym e) (tt, n, tt, tt)
 
   stream_mark : (es : List Entry) (op : OpId) (handle : ℕ) (kind : HandleKind) (sock : Option OpId) → (kind ≡ name.Incoming) ⊎ (kind ≡ name.Outgoing) → IsMarkedWith es handle sock → (s : Step) → IsStreamOf handle s → IsMarkOf es op kind (Some handle) sock s
-  stream_mark es op handle kind sock which w (Step.Call c (GuestCall.UdpStream socket remote)) e = (which, (ap (λ (n : ℕ). Some n) (sym e), subst (λ (n : ℕ). IsMarkedWith es n sock) (sym e) w))
+  stream_mark es op handle kind sock which w (Step.Call c (GuestCall.Udp (UdpCall.Stream socket remote))) e = (which, (ap (λ (n : ℕ). Some n) (sym e), subst (λ (n : ℕ). IsMarkedWith es n sock) (sym e) w))
   stream_mark es op handle kind sock which w _ e = absurd e
 
   no_stream : (n handle : ℕ) → MakesStreams steps n handle → IsAccept origin → own_of n ≡ own_of line → ⊥
@@ -320,8 +324,8 @@ module _ (contexts : List WasiSocketsCtx) (steps : List Step) (line : ℕ) (orig
       no_accept b.origin b.holds (subst IsAccept q is)
     where
       no_accept : (s : Step) → IsStreamOf handle s → IsAccept s → ⊥
-      no_accept (Step.Call c (GuestCall.TcpAccept listener)) m is = m
-      no_accept (Step.Call c (GuestCall.P3Accept listener remaining)) m is = m
+      no_accept (Step.Call c (GuestCall.Tcp (TcpCall.Accept listener))) m is = m
+      no_accept (Step.Call c (GuestCall.P3Tcp (P3TcpCall.Accept listener remaining))) m is = m
       no_accept _ m is = is
 
   makes_streams : (made : Made) (n handle reached : ℕ) (kind : Kind) (place : ℕ) → MarksNext made n handle reached kind place → MakingStands steps made → MakesStreams steps n handle

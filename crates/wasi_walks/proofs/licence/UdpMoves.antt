@@ -11,8 +11,8 @@ use Rattle.wasi_walks.proofs.walks.Here.{next_shrinks}
 use Rattle.wasi_walks.proofs.licence.Line.{names_record, names_udp, pair_first, pair_second, NamesMade, NamesTcpHere, NamesUdpHere, Licensed, put_udp_fine, owned, remade, spent, elsewhere}
 use Rattle.wasi_addr.specs.declared.code.ErrorCode.TheVariants.{DatagramTooLarge, InvalidArgument, InvalidState}
 use Rattle.wasi_udp.specs.declared.send.Destination.{Destination}
-use Rattle.wasi_records.specs.declared.datagrams.Incoming.{Incoming as IncomingStream}
-use Rattle.wasi_records.specs.declared.datagrams.Outgoing.{Outgoing as OutgoingStream}
+use Rattle.udp_records.specs.declared.datagrams.Incoming.{Incoming as IncomingStream}
+use Rattle.udp_records.specs.declared.datagrams.Outgoing.{Outgoing as OutgoingStream}
 use Rattle.std.specs.Prelude.{Bool, true, false, ◌&&◌, if◌then◌else◌, nat_lt, length, Result, Ok, Err, None, ⊤, ◌+◌}
 use Rattle.wasi_addr.specs.declared.address.SocketAddressFamily.{SocketAddressFamily}
 use Rattle.wasi_addr.specs.Address.{same_address}
@@ -27,11 +27,12 @@ use Rattle.wasi_udp.specs.Shape.{Socket}
 use Rattle.host_store.specs.Standing.{standing_as}
 use Rattle.host_store.specs.declared.store.StandingCall.{StandingCall}
 use Rattle.wasi_records.specs.Records.{tcp2_at, tcp2_of, udp2_at, udp2_of}
-use Rattle.wasi_records.specs.Udp.{udp_side, with_udp_progress}
+use Rattle.udp_records.specs.Udp.{udp_side, with_udp_progress}
 use Rattle.wasi_records.specs.declared.records.Record.{Record}
-use Rattle.wasi_records.specs.declared.udp.OpenUdp.{OpenUdp}
-use Rattle.wasi_records.specs.declared.udp.UdpRecord.{UdpRecord}
-use Rattle.wasi_records.specs.declared.udp.UdpInProgress.{UdpInProgress}
+use Rattle.udp_records.specs.declared.udp.OpenUdp.{OpenUdp}
+use Rattle.udp_records.specs.declared.udp.UdpRecord.{UdpRecord}
+use Rattle.udp_records.specs.declared.udp.UdpInProgress.{UdpInProgress}
+use Rattle.wasi_steps.specs.declared.guest_call.UdpCall.{UdpCall}
 
 -- a record is of one kind
 one_kind : (o : Option Record) (r : TcpRecord) (u : UdpRecord) → tcp2_of o ≡ Some r → udp2_of o ≡ Some u → ⊥
@@ -143,7 +144,7 @@ module _ (contexts : List WasiSocketsCtx) (steps : List Step) (line : ℕ) (orig
       spent es _ (put_udp_fine es h place (UdpRecord.Open o) (UdpRecord.Open now) g refl (record { made = f.made; bound = f.bound; progress = begun; connecting = f.connecting; sending = f.sending; receiving = f.receiving }) i)
 
   -- == datagram streams
-  pub remembers_streams : (es : List Entry) (h : Here) (c handle place : ℕ) (remote : Option IpSocketAddress) → origin ≡ Step.Call c (GuestCall.UdpStream handle remote) → Licensed contexts steps line origin es h → Licensed contexts steps line origin es (record h { made = ToStream line handle place })
+  pub remembers_streams : (es : List Entry) (h : Here) (c handle place : ℕ) (remote : Option IpSocketAddress) → origin ≡ Step.Call c (GuestCall.Udp (UdpCall.Stream handle remote)) → Licensed contexts steps line origin es h → Licensed contexts steps line origin es (record h { made = ToStream line handle place })
   remembers_streams es h c handle place remote is i = remade es h (ToStream line handle place) tt (record { origin = origin; at = is_line; holds = subst (IsStreamOf handle) (sym is) refl }) i
 
   pub recalls_streams : (es : List Entry) (h : Here) (ids : Ids) (place handle : ℕ) → h.machine.store.standing ≡ Some (standing_as ids (StandingCall.UdpConnect place handle)) → Licensed contexts steps line origin es h → Licensed contexts steps line origin es (record h { made = ToStream ids.line handle place; own = ToConnect place })

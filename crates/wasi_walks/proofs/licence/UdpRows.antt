@@ -8,11 +8,14 @@ use Rattle.wasi_walks.proofs.licence.Longer.{licensed}
 use Rattle.wasi_walks.proofs.licence.Rows.{allowed, context, local_80}
 use Rattle.wasi_walks.proofs.licence.Refused.{NotYes, of_each, at_line, local_81}
 use Rattle.wasi_world.specs.declared.call.HandleKind.TheVariants as kind
-use Rattle.wasi_records.specs.Udp.{opened_udp}
+use Rattle.udp_records.specs.Udp.{opened_udp}
 use Rattle.host_store.specs.declared.kind.Kind.TheVariants as slot
 use Rattle.wasi_records.specs.declared.records.Record.TheVariants as rec
 use Rattle.wasi_steps.specs.declared.reply.CodeWord.TheVariants as word
 use Rattle.wasi_udp.specs.Socket.{new_socket}
+use Rattle.wasi_steps.specs.declared.guest_call.TcpCall.{TcpCall}
+use Rattle.wasi_steps.specs.declared.guest_call.UdpCall.{UdpCall}
+use Rattle.wasi_steps.specs.declared.guest_call.NameCall.{NameCall}
 
 -- one that may not use UDP
 abbrev no_datagrams : List WasiSocketsCtx
@@ -20,7 +23,7 @@ no_datagrams = record { name = 0; ip_name_lookup = true; udp = false; tcp = true
 
 -- == a bind
 abbrev udp_script : List Step
-udp_script = Step.Call 0 GuestCall.Network ∷ Step.Call 0 (GuestCall.UdpCreate SocketAddressFamily.Ipv4) ∷ Step.Call 0 (GuestCall.UdpStartBind 2 1 local_80) ∷ Step.Call 0 (GuestCall.UdpFinishBind 2) ∷ []
+udp_script = Step.Call 0 (GuestCall.Names NameCall.Network) ∷ Step.Call 0 (GuestCall.Udp (UdpCall.Create SocketAddressFamily.Ipv4)) ∷ Step.Call 0 (GuestCall.Udp (UdpCall.StartBind 2 1 local_80)) ∷ Step.Call 0 (GuestCall.Udp (UdpCall.FinishBind 2)) ∷ []
 
 abbrev network : List Entry
 network = entry (own_of 1) (Call.Made 1 kind.Network None None) Told.Done ∷ []
@@ -52,7 +55,7 @@ udp_run = ((refl, refl, tt), ((refl, refl, tt), ((refl, refl, tt), ((refl, refl,
 -- the third line names the socket, where the log has its mark
 names_socket : (before : List Entry) → Has before marked → BeganBy udp_script (own_of 3) (NamesSide before (own_of 2))
 names_socket before h = record {
-  origin = Step.Call 0 (GuestCall.UdpStartBind 2 1 local_80);
+  origin = Step.Call 0 (GuestCall.Udp (UdpCall.StartBind 2 1 local_80));
   at = refl;
   holds = record { handle = 2; named = inl refl; is = record { op = own_of 2; kind = kind.Udp2; parent = None; told = Told.Done; mark = h } };
 }
@@ -60,13 +63,13 @@ names_socket before h = record {
 -- by hand
 udp_licensed : IsLicensed allowed udp_script udp_log []
 udp_licensed = licensed allowed udp_script udp_log (
-  (refl, record { origin = Step.Call 0 GuestCall.Network; at = refl; holds = (refl, refl, refl) }),
+  (refl, record { origin = Step.Call 0 (GuestCall.Names NameCall.Network); at = refl; holds = (refl, refl, refl) }),
   (
-    record { origin = Step.Call 0 (GuestCall.UdpCreate SocketAddressFamily.Ipv4); at = refl; holds = (record { ctx = context 0; at = refl; named = refl; udp = refl }, refl) },
+    record { origin = Step.Call 0 (GuestCall.Udp (UdpCall.Create SocketAddressFamily.Ipv4)); at = refl; holds = (record { ctx = context 0; at = refl; named = refl; udp = refl }, refl) },
     (
       inr refl,
       (
-        (refl, record { origin = Step.Call 0 (GuestCall.UdpCreate SocketAddressFamily.Ipv4); at = refl; holds = (refl, refl, refl, (0, SocketAddressFamily.Ipv4, inr (inl refl))) }),
+        (refl, record { origin = Step.Call 0 (GuestCall.Udp (UdpCall.Create SocketAddressFamily.Ipv4)); at = refl; holds = (refl, refl, refl, (0, SocketAddressFamily.Ipv4, inr (inl refl))) }),
         (
           inl (names_socket _ (inr (inr (inr (inl refl))))),
           (
@@ -74,9 +77,9 @@ udp_licensed = licensed allowed udp_script udp_log (
             (
               (
                 inl (names_socket _ (inr (inr (inr (inl refl))))),
-                record { origin = Step.Call 0 (GuestCall.UdpStartBind 2 1 local_80); at = refl; holds = refl },
+                record { origin = Step.Call 0 (GuestCall.Udp (UdpCall.StartBind 2 1 local_80)); at = refl; holds = refl },
                 record { ctx = 0; family = SocketAddressFamily.Ipv4; maker = UdpCreated (own_of 2) Told.Done (inr (inl refl)); checked = inr (inr (inr (inr (inr (inl refl))))) },
-                record { origin = Step.Call 0 (GuestCall.UdpCreate SocketAddressFamily.Ipv4); at = refl; holds = tt },
+                record { origin = Step.Call 0 (GuestCall.Udp (UdpCall.Create SocketAddressFamily.Ipv4)); at = refl; holds = tt },
               ),
               tt,
             ),
@@ -114,13 +117,13 @@ other_use h =
 
 -- == a UDP socket is bound as a TCP socket is
 abbrev tcp_script : List Step
-tcp_script = Step.Call 0 GuestCall.Network ∷ Step.Call 0 (GuestCall.UdpCreate SocketAddressFamily.Ipv4) ∷ Step.Call 0 (GuestCall.TcpStartBind 2 1 local_80) ∷ []
+tcp_script = Step.Call 0 (GuestCall.Names NameCall.Network) ∷ Step.Call 0 (GuestCall.Udp (UdpCall.Create SocketAddressFamily.Ipv4)) ∷ Step.Call 0 (GuestCall.Tcp (TcpCall.StartBind 2 1 local_80)) ∷ []
 
 abbrev tcp_bind : Entry
 tcp_bind = entry (own_of 3) (Call.Bind (own_of 2) local_80) Told.Done
 
 other_kind : IsLicensed allowed tcp_script (for_tcp ++ tcp_bind ∷ []) [] → ⊥
-other_kind h = let may = h.each for_tcp tcp_bind [] refl in at_line MakesTcp (Step.Call 0 (GuestCall.UdpCreate SocketAddressFamily.Ipv4)) may.3.origin may.3.at may.3.holds
+other_kind h = let may = h.each for_tcp tcp_bind [] refl in at_line MakesTcp (Step.Call 0 (GuestCall.Udp (UdpCall.Create SocketAddressFamily.Ipv4))) may.3.origin may.3.at may.3.holds
 
 -- == another address than the line's is checked and bound
 abbrev asks_81 : List Entry
@@ -132,7 +135,7 @@ bind_81 = entry (own_of 3) (Call.UdpBind (own_of 2) local_81) Told.Done
 other_address : IsLicensed allowed udp_script (asks_81 ++ bind_81 ∷ []) [] → ⊥
 other_address h =
     let may = h.each asks_81 bind_81 [] refl in
-    let same = at_line (IsUdpBindTo local_81) (Step.Call 0 (GuestCall.UdpStartBind 2 1 local_80)) may.1.origin may.1.at may.1.holds in
+    let same = at_line (IsUdpBindTo local_81) (Step.Call 0 (GuestCall.Udp (UdpCall.StartBind 2 1 local_80))) may.1.origin may.1.at may.1.holds in
     let port = ap port_of same in
     omega arith
 
@@ -143,11 +146,11 @@ no_udp ctx e t = let p : record { name = 0; ip_name_lookup = true; udp = false; 
 forbidden_create : IsLicensed no_datagrams udp_script (network ++ create ∷ []) [] → ⊥
 forbidden_create h =
     let may = h.each network create [] refl in
-    let m = at_line (IsUdpCreate no_datagrams 0 SocketAddressFamily.Ipv4) (Step.Call 0 (GuestCall.UdpCreate SocketAddressFamily.Ipv4)) may.origin may.at may.holds in
+    let m = at_line (IsUdpCreate no_datagrams 0 SocketAddressFamily.Ipv4) (Step.Call 0 (GuestCall.Udp (UdpCall.Create SocketAddressFamily.Ipv4))) may.origin may.at may.holds in
     no_udp m.0.ctx m.0.at m.0.udp
 
 -- and the machine makes none there
-forbidden_run : Left (run no_datagrams [] first_state 1 (Step.Call 0 GuestCall.Network ∷ Step.Call 0 (GuestCall.UdpCreate SocketAddressFamily.Ipv4) ∷ [])) network
+forbidden_run : Left (run no_datagrams [] first_state 1 (Step.Call 0 (GuestCall.Names NameCall.Network) ∷ Step.Call 0 (GuestCall.Udp (UdpCall.Create SocketAddressFamily.Ipv4)) ∷ [])) network
     (Give (Reply.Ok (number_fields 1) ∷ Reply.Err word.AccessDenied ∷ [], record { table = record { next = 2; live = record { handle = 1; value = slot.Network; parent = None } ∷ [] }; store = record { records = []; jobs = []; standing = None; beside = []; limits = [] } }))
 unfolding bind
 forbidden_run = ((refl, refl, tt), refl)
@@ -161,5 +164,5 @@ NoCreate _ = ⊤
 not_created : IsLicensed allowed udp_script (network ++ marked ∷ []) [] → ⊥
 not_created h =
     let may = h.each network marked [] refl in
-    let m = at_line (IsMarkOf network (own_of 2) kind.Udp2 None (Some (own_of 2))) (Step.Call 0 (GuestCall.UdpCreate SocketAddressFamily.Ipv4)) may.1.origin may.1.at may.1.holds in
+    let m = at_line (IsMarkOf network (own_of 2) kind.Udp2 None (Some (own_of 2))) (Step.Call 0 (GuestCall.Udp (UdpCall.Create SocketAddressFamily.Ipv4))) may.1.origin may.1.at may.1.holds in
     of_each (λ e. NoCreate e.call) network _ (tt, tt) m.3.2

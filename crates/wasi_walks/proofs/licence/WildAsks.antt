@@ -18,7 +18,7 @@ use Rattle.wasi_udp.specs.Send.{at_remote, send_start}
 use Rattle.host_store.specs.declared.beside.Beside.{Beside}
 use Rattle.host_store.specs.declared.beside.BesideCall.{BesideCall}
 use Rattle.host_store.specs.declared.beside.BesideCall.TheVariants.{Send, Receive}
-use Rattle.wasi_records.specs.declared.udp.OpenUdp.{OpenUdp}
+use Rattle.udp_records.specs.declared.udp.OpenUdp.{OpenUdp}
 use Rattle.wasi_walks.proofs.BesideLists.{found_has}
 use Rattle.wasi_walks.proofs.fits.Datagrams.{FitBeside}
 use Rattle.wasi_walks.proofs.fits.UdpFits.{begun_receive, begun_send}
@@ -26,8 +26,8 @@ use Rattle.wasi_walks.proofs.walks.Moves.{PollsDatagram, PollsReceive, PollsSend
 use Rattle.host_store.specs.Kinds.{udp_kind}
 use Rattle.host_store.specs.declared.kind.Kind.TheVariants.{Listen3, Result3, Tcp3}
 use Rattle.wasi_records.specs.Records.{tcp2_at}
-use Rattle.wasi_records.specs.Udp.{udp_side}
-use Rattle.wasi_records.specs.declared.udp.UdpRecord.{UdpRecord}
+use Rattle.udp_records.specs.Udp.{udp_side}
+use Rattle.udp_records.specs.declared.udp.UdpRecord.{UdpRecord}
 use Rattle.wasi_walks.proofs.Lists.{has_split}
 use Rattle.wasi_walks.proofs.Places.{push_new, push_was, put_finds, put_found, tcp_sort, udp_sort}
 use Rattle.wasi_walks.proofs.claims.Law.{Base, Named, accept_plain, no_some}

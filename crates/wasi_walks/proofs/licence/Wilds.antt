@@ -1,16 +1,16 @@
 -- Of a TCP socket that isn't bound no other local address was told than the wildcard: how that stays as the state moves, and where
 -- something is asked.
-use Rattle.wasi_records.specs.Slots.{slot_pushed}
+use Rattle.wasi_records.specs.Records.{slot_pushed}
 use Rattle.wasi_walks.proofs.PipeLists.{slot_push_same}
 use Rattle.wasi_walks.proofs.Words.{allows_keep, Allows, Asks, Call, Entry, Has, List, OpId}
 use Rattle.wasi_walks.proofs.Words.{Some, Step, TcpRecord, TcpState, Told, WasiSocketsCtx, [], ap, entry, false, inl, inr, gone}
 use Rattle.wasi_walks.proofs.Words.{◌+◌}
 use Rattle.wasi_walks.proofs.Words.{refl, subst, sym, ℕ, ◌++◌, ◌∙◌, ◌∷◌, ◌≡◌}
 use Rattle.wasi_records.specs.Records.{tcp2_at, tcp2_of, tcp2_pushed}
-use Rattle.wasi_records.specs.declared.name_lookup.LookupOp.{LookupOp}
+use Rattle.lookup_records.specs.declared.name_lookup.LookupOp.{LookupOp}
 use Rattle.wasi_records.specs.declared.records.Record.{Record}
-use Rattle.wasi_records.specs.Udp.{without_udp_socket}
-use Rattle.wasi_records.specs.declared.udp.UdpRecord.{UdpRecord}
+use Rattle.udp_records.specs.Udp.{without_udp_socket}
+use Rattle.udp_records.specs.declared.udp.UdpRecord.{UdpRecord}
 use Rattle.wasi_walks.proofs.GoneLists.{was_there}
 use Rattle.wasi_walks.proofs.Lists.{has_split}
 use Rattle.wasi_walks.proofs.Places.{push_new, put_found, put_was, tcp_sort, udp_sort}

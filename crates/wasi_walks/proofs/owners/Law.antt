@@ -1,7 +1,7 @@
 -- The law of it: each move and each ask keeps what is live of the records.
-use Rattle.wasi_records.specs.declared.slot.Slot.{Slot}
+use Rattle.tcp_records.specs.declared.slot.Slot.{Slot}
 use Rattle.wasi_walks.proofs.PipeLists.{slot_push_same}
-use Rattle.wasi_records.specs.Slots.{slot_pushed}
+use Rattle.wasi_records.specs.Records.{slot_pushed}
 use Rattle.wasi_walks.proofs.Words.{with_listening, without_handle, Begins, Bool, Listener, Not, Standing, false, true, End, ErrorValue, HandleTable, Input, Item, Kind, List, Network, None, OpId, Operation, Option, Output, Pollable, Some, GuestCall, Step, Tcp2, TcpRecord, WasiSocketsCtx, Watched}
 use Rattle.wasi_walks.proofs.Words.{[], ap, arith, inl, inr, kind_at, length, new_record, own_of, poll_asks, refl, slice_get, subst, sym, table_parent, watched_by, with_handle, with_writer, ℕ, ⊤, ◌++◌, ◌∷◌, ◌∙◌, ◌≡◌, ◌⊎◌}
 use Rattle.wasi_table.specs.Table.{Live}
@@ -12,9 +12,9 @@ use Rattle.host_store.specs.declared.kind.Kind.TheVariants.{Result3, Incoming, L
 use Rattle.host_store.specs.declared.kind.PlainInput.TheVariants as plain_input
 use Rattle.host_store.specs.declared.kind.PlainOutput.TheVariants as plain_output
 use Rattle.wasi_records.specs.declared.records.Record.{Record}
-use Rattle.wasi_records.specs.declared.udp.OpenUdp.{OpenUdp}
-use Rattle.wasi_records.specs.declared.udp.UdpRecord.{UdpRecord}
-use Rattle.wasi_records.specs.Datagrams.{udp_connect_left, udp_reconnect_left}
+use Rattle.udp_records.specs.declared.udp.OpenUdp.{OpenUdp}
+use Rattle.udp_records.specs.declared.udp.UdpRecord.{UdpRecord}
+use Rattle.udp_records.specs.Datagrams.{udp_connect_left, udp_reconnect_left}
 use Rattle.wasi_tcp.specs.declared.listener.Accepting.TheVariants as accepting
 use Rattle.wasi_walks.proofs.Lists.{get_seam}
 use Rattle.wasi_walks.proofs.Slots.{one_of}
@@ -26,12 +26,14 @@ use Rattle.wasi_walks.proofs.walks.Moves as walk
 use Rattle.wasi_walks.proofs.walks.Moves.{ToResult, TakesHalf, Interface, P2, P3, tcp_kind, ToListen, ListenerGoes, Emptied, Faulted, Freed, Found, FoundUdp, Held, Here, IsLeft, IsMadeUnder, IsNumbered, IsOpenUdp, Joined, Made, MakesPlain, Marked, Marks, Move, Numbered, Past, GoesOn, Plain, SameSockets, ToSend, accepting_now, faulted, joined, joined_plain, joins_as, made_so, one_stream, put, put_udp, udp_begun, with_records, without_record}
 use Rattle.std.specs.Prelude.{IsSome, is_some}
 use Rattle.wasi_walks.specs.Answered.{streams_in}
-use Rattle.wasi_records.specs.Records.{open_of, tcp2_of}
+use Rattle.udp_records.specs.Udp.{open_of}
+use Rattle.wasi_records.specs.Records.{tcp2_of}
 use Rattle.wasi_walks.proofs.owners.Names.{Names, held_udp, listens_in, socket_in, unheld_none, unless_dropped}
 use Rattle.wasi_walks.proofs.Places.{slot_sort, push_finds, tcp_sort}
 use Rattle.wasi_walks.proofs.owners.Owned.{NoneOf, OneOwner, parent_of, HasStreams, IsNew, MadeSo, Owned, emptied_made, made_owned, numbered_still, one_still, other_still, taken_owned, HasSocket, StandsSo, none_of, listener_of, quiet_so, stands_still}
 pub use Rattle.wasi_walks.proofs.owners.Records.{Owns, StaysFor, udp_released, begun_owns, gained, given_back_owns, left_made, left_none, no_udp_socket, no_udp_streams, none_at_end, none_open, none_set, past_end, push_made, push_owned, put_dropped, put_gone, put_live, put_none, put_open, put_owns, put_unlistened, same_owns, stay, udp_dropped, without_listener}
 use Rattle.wasi_walks.proofs.owners.NewHandles.{IsOther, other_fits, no_record, end_other, pollable_fits, no_pollable, owner_fits, stream_fits, listener_fits, one_of_handle, owner_there, two_fits, two_own_none, plain_fits, plain_still, is_udp, created_stays, listened_streams, listener_lost, stands_so, taken_keeps, plain_owns}
+use Rattle.wasi_steps.specs.declared.guest_call.PipeCall.{PipeCall}
 
 module _ (h : Here) (place : ℕ) (r : TcpRecord) (l : Listener) (g : Found h place r) (new : TcpRecord) where
   abbrev idled : List Record
@@ -70,11 +72,11 @@ no_datagram_role kind place other (inl e) l = absurd (let p : None ≡ Some othe
 no_datagram_role kind place other (inr e) l = absurd (let p : None ≡ Some other = ap listener_of (sym e) ∙ l in cc)
 
 plain_role : (s : Step) (kind : Kind) (place : ℕ) → MakesPlain s kind → listener_of kind ≡ Some place → ⊥
-plain_role (Step.Call c (GuestCall.PipeIn bytes)) (PlainInput (plain_input.Pipe n)) place makes l = absurd (cc)
-plain_role (Step.Call c (GuestCall.PipeOut capacity)) (PlainOutput (plain_output.Pipe n)) place makes l = absurd (cc)
-plain_role (Step.Call c GuestCall.ClosedIn) (PlainInput plain_input.Closed) place makes l = absurd (cc)
-plain_role (Step.Call c GuestCall.Sink) (PlainOutput plain_output.Sink) place makes l = absurd (cc)
-plain_role (Step.Call c GuestCall.ClosedOut) (PlainOutput plain_output.Closed) place makes l = absurd (cc)
+plain_role (Step.Call c (GuestCall.Pipe (PipeCall.In bytes))) (PlainInput (plain_input.Pipe n)) place makes l = absurd (cc)
+plain_role (Step.Call c (GuestCall.Pipe (PipeCall.Out capacity))) (PlainOutput (plain_output.Pipe n)) place makes l = absurd (cc)
+plain_role (Step.Call c (GuestCall.Pipe PipeCall.ClosedIn)) (PlainInput plain_input.Closed) place makes l = absurd (cc)
+plain_role (Step.Call c (GuestCall.Pipe PipeCall.Sink)) (PlainOutput plain_output.Sink) place makes l = absurd (cc)
+plain_role (Step.Call c (GuestCall.Pipe PipeCall.ClosedOut)) (PlainOutput plain_output.Closed) place makes l = absurd (cc)
 plain_role _ _ place makes l = absurd makes
 
 -- a connect leaves its socket's handle

@@ -1,18 +1,19 @@
 -- What a handle says of its record: that it is of the kind that the handle is of, and what else the handle needs of it.
 use Rattle.std.proofs.Common.{◌≡◌, inl, inr, ℕ, List, [], ◌∷◌, ◌++◌, Option, Some, None, ap, refl, subst, sym, slice_get, slice_set, ◌∙◌}
 use Rattle.std.specs.Prelude.{Bool, true, false, is_some, not, ◌||◌, IsSome, ⊤}
-use Rattle.wasi_records.specs.Holding.{has_end, has_listener, is_held}
+use Rattle.tcp_records.specs.Holding.{has_end, has_listener, is_held}
 use Rattle.host_store.specs.declared.kind.Kind.{Kind}
 use Rattle.host_store.specs.declared.kind.Kind.TheVariants.{Listen3, Tcp2, Tcp3, Udp2, Udp3, Input, Output, Incoming, Outgoing, Lookup, PlainInput, PlainOutput, Result3}
-use Rattle.wasi_records.specs.Slots.{slot_of}
+use Rattle.wasi_records.specs.Records.{slot_of}
 use Rattle.host_store.specs.declared.kind.PlainInput.TheVariants as plain_input
 use Rattle.host_store.specs.declared.kind.PlainOutput.TheVariants as plain_output
-use Rattle.wasi_records.specs.Records.{tcp2_of, udp2_of, open_of, lookup_of, input_pipe_of, output_pipe_of}
-use Rattle.wasi_records.specs.declared.name_lookup.LookupOp.{LookupOp}
+use Rattle.wasi_records.specs.Records.{tcp2_of, udp2_of, lookup_of, input_pipe_of, output_pipe_of}
+use Rattle.udp_records.specs.Udp.{open_of}
+use Rattle.lookup_records.specs.declared.name_lookup.LookupOp.{LookupOp}
 use Rattle.wasi_records.specs.declared.records.Record.{Record}
-use Rattle.wasi_records.specs.declared.socket.TcpRecord.{TcpRecord}
-use Rattle.wasi_records.specs.declared.udp.OpenUdp.{OpenUdp}
-use Rattle.wasi_records.specs.declared.udp.UdpRecord.{UdpRecord}
+use Rattle.tcp_records.specs.declared.socket.TcpRecord.{TcpRecord}
+use Rattle.udp_records.specs.declared.udp.OpenUdp.{OpenUdp}
+use Rattle.udp_records.specs.declared.udp.UdpRecord.{UdpRecord}
 use Rattle.wasi_walks.specs.Answered.{streams_in}
 use Rattle.wasi_walks.proofs.walks.Moves.{IsRecord, SameSockets}
 use Rattle.wasi_walks.proofs.owners.Kinds.{IsOf, listener_of}

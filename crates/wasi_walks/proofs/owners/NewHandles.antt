@@ -8,17 +8,18 @@ use Rattle.host_store.specs.declared.kind.Kind.TheVariants.{Send3, Receive3, Lis
 use Rattle.host_store.specs.declared.kind.PlainInput.TheVariants as plain_input
 use Rattle.host_store.specs.declared.kind.PlainOutput.TheVariants as plain_output
 use Rattle.wasi_records.specs.declared.records.Record.{Record}
-use Rattle.wasi_records.specs.declared.udp.UdpRecord.{UdpRecord}
+use Rattle.udp_records.specs.declared.udp.UdpRecord.{UdpRecord}
 use Rattle.wasi_walks.proofs.Slots.{SlotOf, slot_of}
 use Rattle.wasi_walks.proofs.Words.{Done, Refused, Waits}
 use Rattle.wasi_walks.proofs.walks.Moves as walk
 use Rattle.wasi_walks.proofs.walks.Moves.{ToResult, TakesHalf, Interface, P2, P3, tcp_kind, ToListen, ListenerGoes, Emptied, Faulted, Freed, Found, FoundUdp, Held, Here, IsLeft, IsMadeUnder, IsNumbered, IsOpenUdp, Joined, Made, MakesPlain, Marked, Marks, Move, Numbered, Past, GoesOn, Plain, SameSockets, ToSend, accepting_now, faulted, joined, joined_plain, joins_as, made_so, one_stream, put, put_udp, udp_begun, with_records, without_record}
 use Rattle.std.specs.Prelude.{Bool, IsSome, is_some}
-use Rattle.wasi_records.specs.Holding.{has_listener}
-use Rattle.wasi_records.specs.Records.{open_of}
+use Rattle.tcp_records.specs.Holding.{has_listener}
+use Rattle.udp_records.specs.Udp.{open_of}
 use Rattle.wasi_walks.proofs.owners.Names.{KeepsHeld, Names, held_udp, listens_in, unless_gone}
 use Rattle.wasi_walks.proofs.owners.Owned.{Above, IsOf, NoneOf, OneOwner, one_way, owner_of, stream_place, IsNew, MadeSo, Owned, numbered_still, other_still, NoListenerOf, CallSo, one_role, no_stream_listens, listener_of}
 use Rattle.wasi_walks.proofs.owners.Records.{Owns, put_dropped, put_owns}
+use Rattle.wasi_steps.specs.declared.guest_call.PipeCall.{PipeCall}
 
 -- == a handle is made
 -- a handle of no record, which is no pollable
@@ -134,24 +135,24 @@ two_own_none kind a b place (inr e) x y f = absurd (let p : None ≡ Some place 
 
 -- an input or an output of no connection
 pub plain_fits : (h : Here) (s : Step) (kind : Kind) → MakesPlain s kind → IsNumbered h kind → Owns h → IsNew h.machine.table h.machine.store.records kind (table_parent kind None)
-plain_fits h (Step.Call c (GuestCall.PipeIn bytes)) (PlainInput (plain_input.Pipe place)) makes k i =
+plain_fits h (Step.Call c (GuestCall.Pipe (PipeCall.In bytes))) (PlainInput (plain_input.Pipe place)) makes k i =
     owner_fits h.machine.table h.machine.store.records (PlainInput (plain_input.Pipe place)) place None refl (λ w e. absurd (cc)) ((subst (MadeSo h.machine.table h.machine.store.records) k.0 i.1).1 refl) k.1
-plain_fits h (Step.Call c (GuestCall.PipeOut capacity)) (PlainOutput (plain_output.Pipe place)) makes k i =
+plain_fits h (Step.Call c (GuestCall.Pipe (PipeCall.Out capacity))) (PlainOutput (plain_output.Pipe place)) makes k i =
     owner_fits h.machine.table h.machine.store.records (PlainOutput (plain_output.Pipe place)) place None refl (λ w e. absurd (cc)) ((subst (MadeSo h.machine.table h.machine.store.records) k.0 i.1).1 refl) k.1
-plain_fits h (Step.Call c GuestCall.ClosedIn) (PlainInput plain_input.Closed) makes k i = other_fits h.machine.table h.machine.store.records (PlainInput plain_input.Closed) None tt
-plain_fits h (Step.Call c GuestCall.Sink) (PlainOutput plain_output.Sink) makes k i = other_fits h.machine.table h.machine.store.records (PlainOutput plain_output.Sink) None tt
-plain_fits h (Step.Call c GuestCall.ClosedOut) (PlainOutput plain_output.Closed) makes k i = other_fits h.machine.table h.machine.store.records (PlainOutput plain_output.Closed) None tt
+plain_fits h (Step.Call c (GuestCall.Pipe PipeCall.ClosedIn)) (PlainInput plain_input.Closed) makes k i = other_fits h.machine.table h.machine.store.records (PlainInput plain_input.Closed) None tt
+plain_fits h (Step.Call c (GuestCall.Pipe PipeCall.Sink)) (PlainOutput plain_output.Sink) makes k i = other_fits h.machine.table h.machine.store.records (PlainOutput plain_output.Sink) None tt
+plain_fits h (Step.Call c (GuestCall.Pipe PipeCall.ClosedOut)) (PlainOutput plain_output.Closed) makes k i = other_fits h.machine.table h.machine.store.records (PlainOutput plain_output.Closed) None tt
 plain_fits h _ _ makes k i = absurd makes
 
 -- the line has made what it numbered
 pub plain_still : (h : Here) (s : Step) (kind : Kind) → MakesPlain s kind → IsNumbered h kind → MadeSo h.machine.table h.machine.store.records h.made → MadeSo (with_handle h.machine.table kind None) h.machine.store.records h.made
-plain_still h (Step.Call c (GuestCall.PipeIn bytes)) (PlainInput (plain_input.Pipe place)) makes k was =
+plain_still h (Step.Call c (GuestCall.Pipe (PipeCall.In bytes))) (PlainInput (plain_input.Pipe place)) makes k was =
     subst (MadeSo (with_handle h.machine.table (PlainInput (plain_input.Pipe place)) None) h.machine.store.records) (sym k.0) (numbered_still h.machine.table h.machine.store.records (PlainInput (plain_input.Pipe place)) None place h.machine.table.next (subst (MadeSo h.machine.table h.machine.store.records) k.0 was))
-plain_still h (Step.Call c (GuestCall.PipeOut capacity)) (PlainOutput (plain_output.Pipe place)) makes k was =
+plain_still h (Step.Call c (GuestCall.Pipe (PipeCall.Out capacity))) (PlainOutput (plain_output.Pipe place)) makes k was =
     subst (MadeSo (with_handle h.machine.table (PlainOutput (plain_output.Pipe place)) None) h.machine.store.records) (sym k.0) (numbered_still h.machine.table h.machine.store.records (PlainOutput (plain_output.Pipe place)) None place h.machine.table.next (subst (MadeSo h.machine.table h.machine.store.records) k.0 was))
-plain_still h (Step.Call c GuestCall.ClosedIn) (PlainInput plain_input.Closed) makes k was = other_still h.machine.table h.machine.store.records (PlainInput plain_input.Closed) None h.made (λ place e. no_record (PlainInput plain_input.Closed) place tt e) was
-plain_still h (Step.Call c GuestCall.Sink) (PlainOutput plain_output.Sink) makes k was = other_still h.machine.table h.machine.store.records (PlainOutput plain_output.Sink) None h.made (λ place e. no_record (PlainOutput plain_output.Sink) place tt e) was
-plain_still h (Step.Call c GuestCall.ClosedOut) (PlainOutput plain_output.Closed) makes k was = other_still h.machine.table h.machine.store.records (PlainOutput plain_output.Closed) None h.made (λ place e. no_record (PlainOutput plain_output.Closed) place tt e) was
+plain_still h (Step.Call c (GuestCall.Pipe PipeCall.ClosedIn)) (PlainInput plain_input.Closed) makes k was = other_still h.machine.table h.machine.store.records (PlainInput plain_input.Closed) None h.made (λ place e. no_record (PlainInput plain_input.Closed) place tt e) was
+plain_still h (Step.Call c (GuestCall.Pipe PipeCall.Sink)) (PlainOutput plain_output.Sink) makes k was = other_still h.machine.table h.machine.store.records (PlainOutput plain_output.Sink) None h.made (λ place e. no_record (PlainOutput plain_output.Sink) place tt e) was
+plain_still h (Step.Call c (GuestCall.Pipe PipeCall.ClosedOut)) (PlainOutput plain_output.Closed) makes k was = other_still h.machine.table h.machine.store.records (PlainOutput plain_output.Closed) None h.made (λ place e. no_record (PlainOutput plain_output.Closed) place tt e) was
 plain_still h _ _ makes k was = absurd makes
 
 pub is_udp : (k : Option Kind) (place : ℕ) → udp_of k ≡ Some place → k ≡ Some (Udp2 place)

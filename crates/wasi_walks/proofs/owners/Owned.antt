@@ -4,7 +4,7 @@ use Rattle.wasi_table.specs.Table.{Live}
 use Rattle.host_store.specs.Kinds.{has_no_child}
 use Rattle.host_store.specs.Machine.{first_state}
 use Rattle.host_store.specs.declared.kind.Kind.TheVariants.{Incoming, Listen3, Lookup, Outgoing, PlainInput, PlainOutput, Result3, Tcp3, Udp2, Udp3}
-use Rattle.wasi_records.specs.Slots.{slot_at}
+use Rattle.wasi_records.specs.Records.{slot_at}
 use Rattle.host_store.specs.declared.kind.PlainInput.TheVariants as plain_input
 use Rattle.host_store.specs.declared.kind.PlainOutput.TheVariants as plain_output
 use Rattle.wasi_records.specs.declared.records.Record.{Record}

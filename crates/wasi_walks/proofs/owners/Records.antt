@@ -4,17 +4,17 @@ use Rattle.wasi_walks.proofs.Words.{[], ap, inl, inr, length, refl, slice_get, s
 use Rattle.wasi_table.specs.Table.{Live}
 use Rattle.wasi_udp.specs.Create.{Create}
 use Rattle.host_store.specs.declared.kind.Kind.TheVariants.{Result3, Listen3, Tcp3, Udp2, Udp3}
-use Rattle.wasi_records.specs.declared.name_lookup.LookupOp.{LookupOp}
+use Rattle.lookup_records.specs.declared.name_lookup.LookupOp.{LookupOp}
 use Rattle.wasi_records.specs.declared.records.Record.{Record}
-use Rattle.wasi_records.specs.declared.udp.OpenUdp.{OpenUdp}
-use Rattle.wasi_records.specs.declared.udp.UdpRecord.{UdpRecord}
+use Rattle.udp_records.specs.declared.udp.OpenUdp.{OpenUdp}
+use Rattle.udp_records.specs.declared.udp.UdpRecord.{UdpRecord}
 use Rattle.wasi_walks.proofs.walks.Moves as walk
 use Rattle.wasi_walks.proofs.walks.Moves.{Interface, P2, P3, ReleasesUdp, tcp_kind, ToListen, ListenerGoes, Emptied, Faulted, Freed, Found, FoundUdp, Held, Here, IsLeft, IsMadeUnder, IsNumbered, IsOpenUdp, Joined, Made, MakesPlain, Marked, Marks, Move, Numbered, Past, GoesOn, Plain, SameSockets, ToSend, accepting_now, faulted, joined, joined_plain, joins_as, made_so, one_stream, put, put_udp, udp_begun, with_records, without_record}
 use Rattle.std.specs.Prelude.{IsSome, Option, not, ◌||◌}
 use Rattle.host_store.specs.Beside.{has_datagram}
 use Rattle.host_udp.specs.SocketDatagrams.{held_by, is_udp_held}
-use Rattle.wasi_records.specs.Holding.{has_listener}
-use Rattle.wasi_records.specs.Records.{open_of}
+use Rattle.tcp_records.specs.Holding.{has_listener}
+use Rattle.udp_records.specs.Udp.{open_of}
 use Rattle.wasi_walks.proofs.owners.Names.{KeepsHeld, Names, as_none, dropped_none, socket_names, names_none, names_open, names_push, names_same, names_set, names_tcp}
 use Rattle.wasi_walks.proofs.Places.{tcp_sort, udp_sort}
 use Rattle.wasi_walks.proofs.owners.Owned.{HasSlot, IsOf, NoneOf, owner_of, HasStreams, made_stays, MadeSo, Owned, owned_still, NoListenerOf, HasSocket, StandsSo, none_of, one_role, no_stream_listens, listener_of, ends_listener}

@@ -14,8 +14,8 @@ use Rattle.host_store.specs.declared.beside.Beside.{Beside}
 use Rattle.host_store.specs.declared.beside.BesideCall.{BesideCall}
 use Rattle.host_store.specs.declared.kind.Kind.TheVariants.{Listen3, Result3, Tcp3}
 use Rattle.host_store.specs.Beside.{beside_as, beside_in, beside_with, beside_without}
-use Rattle.wasi_records.specs.declared.udp.OpenUdp.{OpenUdp}
-use Rattle.wasi_records.specs.declared.udp.UdpRecord.{UdpRecord}
+use Rattle.udp_records.specs.declared.udp.OpenUdp.{OpenUdp}
+use Rattle.udp_records.specs.declared.udp.UdpRecord.{UdpRecord}
 use Rattle.wasi_walks.specs.Licence.{IsReceive}
 use Rattle.wasi_walks.proofs.BesideLists.{found_has, push_other, with_other, without_at, without_other}
 use Rattle.wasi_walks.proofs.Fronts.{PollLaw, polls_by}
@@ -40,7 +40,7 @@ use Rattle.wasi_addr.specs.declared.address.IpAddress.{IpAddress}
 use Rattle.wasi_world.specs.declared.asks.Polled.{Polled}
 use Rattle.wasi_world.specs.declared.asks.Polled.TheVariants as polled
 use Rattle.wasi_world.specs.Typed.{told_names}
-use Rattle.wasi_records.specs.Binding.{left_of}
+use Rattle.record_common.specs.Binding.{left_of}
 use Rattle.wasi_records.specs.Records.{tcp2_at, tcp2_pushed}
 use Rattle.host_store.specs.declared.beside.BesideCall.TheVariants.{Resolve}
 use Rattle.host_lookups.specs.Resolves.{begun_lookup}

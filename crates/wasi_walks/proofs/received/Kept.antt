@@ -7,17 +7,17 @@ use Rattle.wasi_walks.proofs.Words.{allows_weaker, ap, first_state, inl, inr, ma
 use Rattle.wasi_walks.proofs.Words.{with_writer, ℕ, ⊤, ◌+◌, ◌∙◌, ◌≡◌}
 use Rattle.wasi_udp.specs.Create.{Create, after_create as udp_after_create}
 use Rattle.wasi_udp.specs.Receive.{wanting}
-use Rattle.wasi_records.specs.Datagrams.{udp_connect_left, udp_reconnect_left}
-use Rattle.wasi_records.specs.Receiving.{receive_left, with_receiving}
+use Rattle.udp_records.specs.Datagrams.{udp_connect_left, udp_reconnect_left}
+use Rattle.udp_records.specs.Receiving.{receive_left, with_receiving}
 use Rattle.wasi_records.specs.Records.{tcp2_put, tcp2_pushed, udp2_at, udp2_of, udp2_put}
 use Rattle.wasi_walks.proofs.GoneLists.{was_there}
-use Rattle.wasi_records.specs.Udp.{udp_create_left}
-use Rattle.wasi_records.specs.declared.datagrams.Incoming.{Incoming}
-use Rattle.wasi_records.specs.declared.datagrams.Receiving.{Receiving}
-use Rattle.wasi_records.specs.declared.name_lookup.LookupOp.{LookupOp}
+use Rattle.udp_records.specs.Udp.{udp_create_left}
+use Rattle.udp_records.specs.declared.datagrams.Incoming.{Incoming}
+use Rattle.udp_records.specs.declared.datagrams.Receiving.{Receiving}
+use Rattle.lookup_records.specs.declared.name_lookup.LookupOp.{LookupOp}
 use Rattle.wasi_records.specs.declared.records.Record.{Record}
-use Rattle.wasi_records.specs.declared.udp.OpenUdp.{OpenUdp}
-use Rattle.wasi_records.specs.declared.udp.UdpRecord.{UdpRecord}
+use Rattle.udp_records.specs.declared.udp.OpenUdp.{OpenUdp}
+use Rattle.udp_records.specs.declared.udp.UdpRecord.{UdpRecord}
 use Rattle.wasi_world.specs.Operation.{is_wanted}
 use Rattle.wasi_walks.proofs.claims.Law.{Base, begins_on_names, on_along, on_names}
 use Rattle.wasi_walks.proofs.claims.Lines.{BaseBetween, base_over, base_starts, first_base}

@@ -7,9 +7,9 @@ use Rattle.wasi_world.specs.declared.datagram.IncomingDatagram.{IncomingDatagram
 use Rattle.wasi_world.specs.Operation.{Again, CheckPeer, Datagram, Goes, Receive, check_peer_front, is_wanted, receive_front, received_front}
 use Rattle.wasi_world.specs.Typed.{told_datagram}
 use Rattle.wasi_udp.specs.Receive.{Ended, IsLeftOfReceive, IsReceive, Received, ToRefuse, Unreceived, wanted_in, wanting}
-use Rattle.wasi_records.specs.Receiving.{receive_left}
-use Rattle.wasi_records.specs.declared.datagrams.Incoming.{Incoming as IncomingStream}
-use Rattle.wasi_records.specs.declared.datagrams.Receiving.{Receiving}
+use Rattle.udp_records.specs.Receiving.{receive_left}
+use Rattle.udp_records.specs.declared.datagrams.Incoming.{Incoming as IncomingStream}
+use Rattle.udp_records.specs.declared.datagrams.Receiving.{Receiving}
 use Rattle.wasi_walks.specs.Received.{IsAllowed, ReceivesNone}
 use Rattle.wasi_walks.proofs.Lists.{Cut, cut_more}
 use Rattle.wasi_walks.proofs.fits.DatagramPolls.{wanted_left}

@@ -20,16 +20,17 @@ use Rattle.host_store.specs.declared.beside.Beside.{Beside}
 use Rattle.host_store.specs.declared.beside.BesideCall.{BesideCall}
 use Rattle.host_store.specs.Beside.{beside_of}
 use Rattle.host_store.specs.Beside.{is_datagram_of}
-use Rattle.wasi_records.specs.Datagrams.{udp_connect_left, udp_reconnect_left, with_sending}
-use Rattle.wasi_records.specs.Receiving.{receive_left, with_receiving}
+use Rattle.udp_records.specs.Datagrams.{udp_connect_left, udp_reconnect_left, with_sending}
+use Rattle.udp_records.specs.Receiving.{receive_left, with_receiving}
 use Rattle.host_store.specs.Kinds.{udp_kind}
-use Rattle.wasi_records.specs.Records.{open_of, tcp2_put, udp2_at, udp2_put}
-use Rattle.wasi_records.specs.Udp.{udp_side, udp_bind_progress, udp_create_left, with_udp_progress}
-use Rattle.wasi_records.specs.declared.datagrams.Incoming.{Incoming}
-use Rattle.wasi_records.specs.declared.datagrams.Receiving.{Receiving}
+use Rattle.udp_records.specs.Udp.{open_of}
+use Rattle.wasi_records.specs.Records.{tcp2_put, udp2_at, udp2_put}
+use Rattle.udp_records.specs.Udp.{udp_side, udp_bind_progress, udp_create_left, with_udp_progress}
+use Rattle.udp_records.specs.declared.datagrams.Incoming.{Incoming}
+use Rattle.udp_records.specs.declared.datagrams.Receiving.{Receiving}
 use Rattle.wasi_records.specs.declared.records.Record.{Record}
-use Rattle.wasi_records.specs.declared.udp.OpenUdp.{OpenUdp}
-use Rattle.wasi_records.specs.declared.udp.UdpRecord.{UdpRecord}
+use Rattle.udp_records.specs.declared.udp.OpenUdp.{OpenUdp}
+use Rattle.udp_records.specs.declared.udp.UdpRecord.{UdpRecord}
 use Rattle.wasi_world.specs.Operation.{Given, Remote}
 use Rattle.wasi_walks.proofs.claims.Law.{begins_on_two, Named, Base, on_two, on_two_along}
 use Rattle.wasi_walks.proofs.fits.Polls.{Anything}

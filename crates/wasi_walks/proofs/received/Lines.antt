@@ -4,18 +4,18 @@ use Rattle.wasi_walks.proofs.Words.{GuestCall, Step, Stop, Trap, WasiSocketsCtx,
 use Rattle.wasi_walks.proofs.Words.{first_ids, inl, inr, kind_at, machine_asks, refl, subst, sym, ℕ, ◌∙◌, ◌≡◌, ◌≤◌, ◌⊎◌}
 use Rattle.wasi_world.specs.declared.datagram.IncomingDatagram.{IncomingDatagram}
 use Rattle.host_udp.specs.DatagramCalls.{begins_receive, receive_datagrams_at, with_receive}
-use Rattle.wasi_records.specs.Stops.{Code}
+use Rattle.record_common.specs.Stops.{Code}
 use Rattle.host_store.specs.Machine.{incoming_at}
 use Rattle.host_store.specs.Jobs.{with_job}
 use Rattle.host_store.specs.Store.{with_open_udp}
 use Rattle.wasi_jobs.specs.declared.job.HostJob.TheVariants.{Receive}
-use Rattle.wasi_records.specs.Receiving.{receive_datagrams_asks}
+use Rattle.udp_records.specs.Receiving.{receive_datagrams_asks}
 use Rattle.wasi_records.specs.Records.{open_at, udp2_at, udp2_put}
 use Rattle.host_store.specs.Store.{Records}
-use Rattle.wasi_records.specs.Udp.{udp_side}
+use Rattle.udp_records.specs.Udp.{udp_side}
 use Rattle.wasi_records.specs.declared.records.Record.{Record}
-use Rattle.wasi_records.specs.declared.udp.OpenUdp.{OpenUdp}
-use Rattle.wasi_records.specs.declared.udp.UdpRecord.{UdpRecord}
+use Rattle.udp_records.specs.declared.udp.OpenUdp.{OpenUdp}
+use Rattle.udp_records.specs.declared.udp.UdpRecord.{UdpRecord}
 use Rattle.wasi_p2.specs.Udp.{receive_datagrams_on}
 use Rattle.wasi_machine.specs.Machine.{reply_of}
 use Rattle.wasi_steps.specs.Reply.{datagram_values}
@@ -38,6 +38,7 @@ use Rattle.wasi_walks.proofs.received.Marks.{AreEarly, Early, Since, are_early_l
 use Rattle.wasi_walks.proofs.received.Since.{Inv, begins_since, since_along}
 use Rattle.wasi_walks.proofs.walks.Moves.{Past}
 use Rattle.host_store.specs.declared.kind.Kind.TheVariants.{Incoming}
+use Rattle.wasi_steps.specs.declared.guest_call.UdpCall.{UdpCall}
 
 one_each : (line : ℕ) (m : Machine) → BaseBetween line m → OneEach m.store.records
 one_each line m b i k o p e f s = b.named.udps.one p.inner.side i k (UdpRecord.Open o) (UdpRecord.Open p) e f s refl
@@ -87,7 +88,7 @@ module _ (side : OpId) (from : ℕ) where
   module _ (ctx handle most : ℕ) where
     -- of this network socket
     says_ours : (es : List Entry) (o : OpenUdp) (start upto : ℕ) (r : Result (List IncomingDatagram) Stop) → from ≤ start → IsSide es handle o.inner.side → o.inner.side ≡ side → Early start es side handle → GivesUpto ⊤ o.inner.side start es upto r
-        → (told : ℕ) × ((told ≤ upto) × ReplyTakes es side from told (Step.Call ctx (GuestCall.UdpReceive handle most)) (reply_of datagram_values r))
+        → (told : ℕ) × ((told ≤ upto) × ReplyTakes es side from told (Step.Call ctx (GuestCall.Udp (UdpCall.Receive handle most))) (reply_of datagram_values r))
     says_ours es o start upto (Ok ds) l i is e g = (
       upto,
       (
@@ -105,7 +106,7 @@ module _ (side : OpId) (from : ℕ) where
     says_ours es o start upto (Err (Trap kind)) l i is e g = (from, ((let p = g tt in omega arith), refl))
 
     -- of another one
-    says_other : (es : List Entry) (o : OpenUdp) (r : Result (List IncomingDatagram) Stop) → IsSide es handle o.inner.side → (o.inner.side ≡ side → ⊥) → ReplyTakes es side from from (Step.Call ctx (GuestCall.UdpReceive handle most)) (reply_of datagram_values r)
+    says_other : (es : List Entry) (o : OpenUdp) (r : Result (List IncomingDatagram) Stop) → IsSide es handle o.inner.side → (o.inner.side ≡ side → ⊥) → ReplyTakes es side from from (Step.Call ctx (GuestCall.Udp (UdpCall.Receive handle most))) (reply_of datagram_values r)
     says_other es o (Ok ds) i not = record { its = o.inner.side; of_handle = i; datagrams = ds; values = refl; order = inr (not, refl) }
     says_other es o (Err (Code c)) i not = refl
     says_other es o (Err (Trap kind)) i not = refl
@@ -119,7 +120,7 @@ module _ (side : OpId) (from : ℕ) where
       After upto es records standing = Since side upto es records m.table × AreUnder m.table Past standing
 
       abbrev Says : List Entry → Result (List IncomingDatagram) Stop × Records → Type 0
-      Says es done = (upto : ℕ) × (ReplyTakes es side from upto (Step.Call ctx (GuestCall.UdpReceive handle most)) (reply_of datagram_values done.0) × After upto es done.1.records done.1.standing)
+      Says es done = (upto : ℕ) × (ReplyTakes es side from upto (Step.Call ctx (GuestCall.Udp (UdpCall.Receive handle most))) (reply_of datagram_values done.0) × After upto es done.1.records done.1.standing)
 
       -- the handle's mark is early
       its_early : (place : ℕ) (o : OpenUdp) → kind_at m.table handle ≡ Some (Incoming place) → IsSide es handle o.inner.side → o.inner.side ≡ side → Early start es side handle
@@ -165,17 +166,17 @@ module _ (side : OpId) (from : ℕ) where
           let at : udp2_at m.store.records place ≡ Some (UdpRecord.Open o) = open_is (udp2_at m.store.records place) o e in
           open_takes place o kind at (side_is es m.store.records handle place o n at) (same_or_not o.inner.side side)
 
-      handle_takes : (found : Option ℕ) → ((place : ℕ) → found ≡ Some place → (kind_at m.table handle ≡ Some (Incoming place)) × NamesUdp es m.store.records handle place) → Allows Anything (λ fs done. Takes fs (Step.Call ctx (GuestCall.UdpReceive handle most)) (reply_of datagram_values done.0, done.1)) es (receive_datagrams_on m (first_ids line) most found)
+      handle_takes : (found : Option ℕ) → ((place : ℕ) → found ≡ Some place → (kind_at m.table handle ≡ Some (Incoming place)) × NamesUdp es m.store.records handle place) → Allows Anything (λ fs done. Takes fs (Step.Call ctx (GuestCall.Udp (UdpCall.Receive handle most))) (reply_of datagram_values done.0, done.1)) es (receive_datagrams_on m (first_ids line) most found)
       handle_takes None n = (from, (refl, was))
       handle_takes (Some place) n =
-          allows_then Anything (λ fs done. Says fs done) (λ fs done. Takes fs (Step.Call ctx (GuestCall.UdpReceive handle most)) (reply_of datagram_values done.0, done.1)) es (receive_datagrams_at m.store (first_ids line) place most (open_at m.store.records place)) _
+          allows_then Anything (λ fs done. Says fs done) (λ fs done. Takes fs (Step.Call ctx (GuestCall.Udp (UdpCall.Receive handle most))) (reply_of datagram_values done.0, done.1)) es (receive_datagrams_at m.store (first_ids line) place most (open_at m.store.records place)) _
           (socket_takes place (open_at m.store.records place) (n place refl).0 refl (n place refl).1) (λ fs done k. k)
 
       -- a call that is made; while another is pending it is busy
-      receive_takes : (contexts : List WasiSocketsCtx) (standing : Option Standing) → ((place : ℕ) → incoming_at m handle ≡ Some place → (kind_at m.table handle ≡ Some (Incoming place)) × NamesUdp es m.store.records handle place) → Allows Anything (λ fs done. Takes fs (Step.Call ctx (GuestCall.UdpReceive handle most)) done) es (asks_while contexts m line (Step.Call ctx (GuestCall.UdpReceive handle most)) standing)
+      receive_takes : (contexts : List WasiSocketsCtx) (standing : Option Standing) → ((place : ℕ) → incoming_at m handle ≡ Some place → (kind_at m.table handle ≡ Some (Incoming place)) × NamesUdp es m.store.records handle place) → Allows Anything (λ fs done. Takes fs (Step.Call ctx (GuestCall.Udp (UdpCall.Receive handle most))) done) es (asks_while contexts m line (Step.Call ctx (GuestCall.Udp (UdpCall.Receive handle most))) standing)
       receive_takes contexts (Some c) n = (from, (refl, was))
       receive_takes contexts None n =
-          allows_then Anything (λ fs done. Takes fs (Step.Call ctx (GuestCall.UdpReceive handle most)) (reply_of datagram_values done.0, done.1)) (λ fs done. Takes fs (Step.Call ctx (GuestCall.UdpReceive handle most)) done) es (receive_datagrams_on m (first_ids line) most (incoming_at m handle)) _
+          allows_then Anything (λ fs done. Takes fs (Step.Call ctx (GuestCall.Udp (UdpCall.Receive handle most))) (reply_of datagram_values done.0, done.1)) (λ fs done. Takes fs (Step.Call ctx (GuestCall.Udp (UdpCall.Receive handle most))) done) es (receive_datagrams_on m (first_ids line) most (incoming_at m handle)) _
           (handle_takes (incoming_at m handle) n) (λ fs done k. k)
 
   -- what any line leaves of what comes from the place on
@@ -192,7 +193,7 @@ module _ (side : OpId) (from : ℕ) where
 
   -- the reply to a step
   pub step_takes : (contexts : List WasiSocketsCtx) (steps : List Step) (line : ℕ) (s : Step) (m : Machine) (es : List Entry) → ((handle : ℕ) (a b : OpId) → IsSide es handle a → IsSide es handle b → a ≡ b) → StateIsFine contexts steps es m → BaseBetween line m → Keeps es m.store.records → Between side from es m → Allows Anything (λ fs done. Takes fs s done) es (machine_asks contexts m line s)
-  step_takes contexts steps line (Step.Call ctx (GuestCall.UdpReceive handle most)) m es marks f b k was =
+  step_takes contexts steps line (Step.Call ctx (GuestCall.Udp (UdpCall.Receive handle most))) m es marks f b k was =
       receive_takes ctx handle most line m es k (one_each line m b) (marks handle) was contexts m.store.standing
       (λ place e. (incoming_kind (kind_at m.table handle) place e, names_udp es m.store.records handle place (kind_at m.table handle) (incoming_record (kind_at m.table handle) place e) (f.handles handle)))
   step_takes contexts steps line s m es marks f b k was =

@@ -10,6 +10,7 @@ use Rattle.wasi_walks.proofs.received.Handles.{was_or_new}
 use Rattle.wasi_walks.proofs.received.State.{Late}
 use Rattle.wasi_walks.proofs.walks.Moves as walk
 use Rattle.wasi_walks.proofs.walks.Moves.{Here, MakesPlain, Marks, Move}
+use Rattle.wasi_steps.specs.declared.guest_call.PipeCall.{PipeCall}
 
 -- The handle was marked with the network socket before this place of the log.
 pub record Early (start : ℕ) (es : List Entry) (side : OpId) (handle : ℕ) : Type 0 where
@@ -79,11 +80,11 @@ module _ (side : OpId) where
 
   -- == of what a line marks
   plain_other : (s : Step) (kind : Kind) → MakesPlain s kind → NotIncoming kind
-  plain_other (Step.Call ctx (GuestCall.PipeIn bytes)) (Incoming place) m = m
-  plain_other (Step.Call ctx (GuestCall.PipeOut capacity)) (Incoming place) m = m
-  plain_other (Step.Call ctx GuestCall.Sink) (Incoming place) m = m
-  plain_other (Step.Call ctx GuestCall.ClosedIn) (Incoming place) m = m
-  plain_other (Step.Call ctx GuestCall.ClosedOut) (Incoming place) m = m
+  plain_other (Step.Call ctx (GuestCall.Pipe (PipeCall.In bytes))) (Incoming place) m = m
+  plain_other (Step.Call ctx (GuestCall.Pipe (PipeCall.Out capacity))) (Incoming place) m = m
+  plain_other (Step.Call ctx (GuestCall.Pipe PipeCall.Sink)) (Incoming place) m = m
+  plain_other (Step.Call ctx (GuestCall.Pipe PipeCall.ClosedIn)) (Incoming place) m = m
+  plain_other (Step.Call ctx (GuestCall.Pipe PipeCall.ClosedOut)) (Incoming place) m = m
   plain_other _ (Incoming place) m = m
   plain_other s _ m = tt
 

@@ -9,9 +9,9 @@ use Rattle.wasi_world.specs.declared.outcome.Answer.{Answer}
 use Rattle.wasi_world.specs.declared.outcome.Answer.TheVariants.{Ready, Pending}
 use Rattle.wasi_world.specs.Asks.{Give, bind}
 use Rattle.wasi_records.specs.Records.{open_at, udp2_at}
-use Rattle.wasi_records.specs.Stops.{Code, Stop, Trap}
-use Rattle.wasi_records.specs.declared.udp.OpenUdp.{OpenUdp}
-use Rattle.wasi_records.specs.declared.udp.UdpRecord.{UdpRecord}
+use Rattle.record_common.specs.Stops.{Code, Stop, Trap}
+use Rattle.udp_records.specs.declared.udp.OpenUdp.{OpenUdp}
+use Rattle.udp_records.specs.declared.udp.UdpRecord.{UdpRecord}
 use Rattle.host_store.specs.declared.beside.Beside.{Beside}
 use Rattle.host_store.specs.declared.beside.BesideCall.{BesideCall}
 use Rattle.host_store.specs.declared.beside.BesideCall.TheVariants.{Connect, Receive, Resolve, Send}
@@ -23,7 +23,7 @@ use Rattle.host_store.specs.Machine.{udp3_at, with_store}
 use Rattle.host_store.specs.declared.kind.Interface.TheVariants.{P3}
 use Rattle.wasi_host.specs.declared.pending.Outcome.{Outcome}
 use Rattle.wasi_world.specs.declared.outcome.TrapKind.TheVariants.{NoSuchHandle}
-use Rattle.wasi_records.specs.Udp.{udp_side}
+use Rattle.udp_records.specs.Udp.{udp_side}
 use Rattle.wasi_p3.specs.Stops.{P3Stop}
 use Rattle.wasi_walks.proofs.licence.UdpFrames.{same_udp}
 use Rattle.wasi_host.specs.Pending.{answered_on, datagram_outcome, go_on_beside, resume_beside, resume_call, resumed}
@@ -46,6 +46,7 @@ use Rattle.wasi_walks.proofs.walks.States.{udp3_record}
 use Rattle.wasi_walks.proofs.walks.Udp.{open_is}
 use Rattle.wasi_walks.proofs.received.OneReceive.{CallHolds, FoundHolds, Gives, IsOne, none_holds, receive_begins_so, receive_polls_so}
 use Rattle.wasi_walks.proofs.received.Single.{InHand, IsAllowedOne}
+use Rattle.wasi_steps.specs.declared.guest_call.P3UdpCall.{P3UdpCall}
 
 -- a call beside others that is a receive has in hand what its operation was told last
 abbrev pub CallHands : List Entry → BesideCall → Type 0
@@ -102,7 +103,7 @@ step_of {P = P} {s = s} k e = let its : k.origin ≡ s = (let p : Some k.origin 
 
 module _ (contexts : List WasiSocketsCtx) (steps : List Step) (m : Machine) (es : List Entry) (fine : StateIsFine contexts steps es m) (keeps : Keeps es m.store.records) where
   -- == it begins
-  module _ (ctx socket line : ℕ) (is_line : step_at steps line ≡ Some (Step.Call ctx (GuestCall.P3UdpReceive socket))) (free : beside_in m.store.beside line ≡ None) where
+  module _ (ctx socket line : ℕ) (is_line : step_at steps line ≡ Some (Step.Call ctx (GuestCall.P3Udp (P3UdpCall.Receive socket)))) (free : beside_in m.store.beside line ≡ None) where
     abbrev Done : List Entry → Reply × Machine → Type 0
     Done fs done = OneDone steps line m.store.standing fs done
 
@@ -150,13 +151,13 @@ module _ (contexts : List WasiSocketsCtx) (steps : List Step) (m : Machine) (es 
     of_handle (Some place) e = of_place place (names_udp es m.store.records socket place (kind_at m.table socket) (udp3_record (kind_at m.table socket) place e) (fine.handles socket))
 
     -- while another call is pending it is busy
-    by_standing : (standing : Option Standing) → Allows Anything Done es (asks_while contexts m line (Step.Call ctx (GuestCall.P3UdpReceive socket)) standing)
+    by_standing : (standing : Option Standing) → Allows Anything Done es (asks_while contexts m line (Step.Call ctx (GuestCall.P3Udp (P3UdpCall.Receive socket))) standing)
     by_standing (Some c) = nothing es Reply.Busy tt
     by_standing None =
         allows_then Anything (λ fs told. Done fs (p3_answer_reply received_values line told.0, told.1)) Done es (udp3.receive line socket m) _
         (of_handle (udp3_at m socket) refl) (λ fs told k. k)
 
-    pub receive_done : Allows Anything Done es (machine_asks contexts m line (Step.Call ctx (GuestCall.P3UdpReceive socket)))
+    pub receive_done : Allows Anything Done es (machine_asks contexts m line (Step.Call ctx (GuestCall.P3Udp (P3UdpCall.Receive socket))))
     receive_done = by_standing m.store.standing
 
   -- == it is polled, by a line that is no other call's
@@ -190,9 +191,9 @@ module _ (contexts : List WasiSocketsCtx) (steps : List Step) (m : Machine) (es 
           (λ fs done k. k)
 
     -- the step of the line is a receive: its call is one, if it stands
-    module _ (ctx socket : ℕ) (is : step_at steps n ≡ Some (Step.Call ctx (GuestCall.P3UdpReceive socket))) (fits : (b : Beside) → beside_of m.store n ≡ Some b → FitBeside m.store.records n b.call) (hands : FoundHands es (beside_of m.store n)) where
+    module _ (ctx socket : ℕ) (is : step_at steps n ≡ Some (Step.Call ctx (GuestCall.P3Udp (P3UdpCall.Receive socket)))) (fits : (b : Beside) → beside_of m.store n ≡ Some b → FitBeside m.store.records n b.call) (hands : FoundHands es (beside_of m.store n)) where
       -- no other step began it
-      not_another : {P : Step → Type 0} → BeganBy steps (own_of n) P → (P (Step.Call ctx (GuestCall.P3UdpReceive socket)) → ⊥) → ⊥
+      not_another : {P : Step → Type 0} → BeganBy steps (own_of n) P → (P (Step.Call ctx (GuestCall.P3Udp (P3UdpCall.Receive socket))) → ⊥) → ⊥
       not_another k none = none (step_of k is)
 
       sent_by : (place : ℕ) (op : Operation) → CallIsFine contexts steps es n (Send place op) → ⊥

@@ -20,13 +20,13 @@ use Rattle.wasi_udp.specs.Shape.{Socket}
 use Rattle.wasi_udp.specs.Socket.{after_local, bound_asks}
 use Rattle.wasi_world.specs.Typed.{told_addr}
 use Rattle.wasi_addr.specs.Address.{is_wildcard}
-use Rattle.wasi_records.specs.declared.udp.OpenUdp.{OpenUdp}
-use Rattle.wasi_records.specs.declared.udp.UdpRecord.{UdpRecord}
-use Rattle.wasi_records.specs.Binding.{left_of}
-use Rattle.wasi_records.specs.Names.{own_of}
+use Rattle.udp_records.specs.declared.udp.OpenUdp.{OpenUdp}
+use Rattle.udp_records.specs.declared.udp.UdpRecord.{UdpRecord}
+use Rattle.record_common.specs.Binding.{left_of}
+use Rattle.record_common.specs.Names.{own_of}
 use Rattle.wasi_records.specs.Records.{open_at, udp2_at}
-use Rattle.wasi_records.specs.Stops.{Code}
-use Rattle.wasi_records.specs.Udp.{close_udp_asks}
+use Rattle.record_common.specs.Stops.{Code}
+use Rattle.udp_records.specs.Udp.{close_udp_asks}
 use Rattle.host_store.specs.declared.beside.Beside.{Beside}
 use Rattle.host_store.specs.declared.beside.BesideCall.{BesideCall}
 use Rattle.host_store.specs.declared.beside.BesideCall.TheVariants.{Receive}

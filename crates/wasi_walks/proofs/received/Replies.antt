@@ -3,12 +3,12 @@ use Rattle.wasi_walks.proofs.Words.{BeganBy, Reply, own_of, step_at, subst, sym,
 use Rattle.wasi_walks.proofs.Words.{WasiSocketsCtx, allows_then, asks_while, first_ids, kind_at, machine_asks, refl, ℕ, ◌≡◌}
 use Rattle.wasi_world.specs.declared.datagram.IncomingDatagram.{IncomingDatagram}
 use Rattle.host_udp.specs.DatagramCalls.{receive_datagrams_at}
-use Rattle.wasi_records.specs.Stops.{Code}
+use Rattle.record_common.specs.Stops.{Code}
 use Rattle.host_store.specs.Machine.{incoming_at}
-use Rattle.wasi_records.specs.Receiving.{receive_datagrams_asks}
+use Rattle.udp_records.specs.Receiving.{receive_datagrams_asks}
 use Rattle.wasi_records.specs.Records.{open_at, udp2_at}
-use Rattle.wasi_records.specs.declared.udp.OpenUdp.{OpenUdp}
-use Rattle.wasi_records.specs.declared.udp.UdpRecord.{UdpRecord}
+use Rattle.udp_records.specs.declared.udp.OpenUdp.{OpenUdp}
+use Rattle.udp_records.specs.declared.udp.UdpRecord.{UdpRecord}
 use Rattle.wasi_p2.specs.Udp.{receive_datagrams_on}
 use Rattle.wasi_machine.specs.Machine.{reply_of}
 use Rattle.wasi_steps.specs.Reply.{datagram_values}
@@ -25,6 +25,8 @@ use Rattle.wasi_walks.proofs.walks.Udp.{open_is}
 use Rattle.wasi_walks.proofs.received.Handed.{GivesUpto, Leaves}
 use Rattle.wasi_walks.proofs.received.Lines.{line_later, open_leaves, side_is}
 use Rattle.wasi_walks.proofs.received.State.{Late}
+use Rattle.wasi_steps.specs.declared.guest_call.UdpCall.{UdpCall}
+use Rattle.wasi_steps.specs.declared.guest_call.P3UdpCall.{P3UdpCall}
 
 -- what the streams of every network socket hold was received, from the beginning on
 abbrev pub Lates : List Entry → Machine → Type 0
@@ -38,7 +40,7 @@ lines_later contexts line s m es b k late = gives_all (λ side fs done. Late sid
 module _ (steps : List Step) (served : List ℕ) (at ctx handle most : ℕ) where
   -- the reply that says this of a receive may be given
   abbrev Says : List Entry → Result (List IncomingDatagram) Stop → Type 0
-  Says es r = MayReply steps es served at (Step.Call ctx (GuestCall.UdpReceive handle most)) (reply_of datagram_values r)
+  Says es r = MayReply steps es served at (Step.Call ctx (GuestCall.Udp (UdpCall.Receive handle most))) (reply_of datagram_values r)
 
   says : (es : List Entry) (side : OpId) (upto : ℕ) (r : Result (List IncomingDatagram) Stop) → IsSide es handle side → GivesUpto ⊤ side 0 es upto r → Says es r
   says es side upto (Ok ds) i g = record { side = side; of_handle = i; datagrams = ds; values = refl; upto = upto; order = g tt }
@@ -64,10 +66,10 @@ module _ (steps : List Step) (served : List ℕ) (at ctx handle most : ℕ) wher
         (socket_says place (open_at m.store.records place) refl (n place refl)) (λ fs done k. k)
 
     -- a call that is made; while another is pending it is busy
-    receive_says : (contexts : List WasiSocketsCtx) (standing : Option Standing) → ((place : ℕ) → incoming_at m handle ≡ Some place → NamesUdp es m.store.records handle place) → Allows Anything (λ fs done. MayReply steps fs served at (Step.Call ctx (GuestCall.UdpReceive handle most)) done.0) es (asks_while contexts m line (Step.Call ctx (GuestCall.UdpReceive handle most)) standing)
+    receive_says : (contexts : List WasiSocketsCtx) (standing : Option Standing) → ((place : ℕ) → incoming_at m handle ≡ Some place → NamesUdp es m.store.records handle place) → Allows Anything (λ fs done. MayReply steps fs served at (Step.Call ctx (GuestCall.Udp (UdpCall.Receive handle most))) done.0) es (asks_while contexts m line (Step.Call ctx (GuestCall.Udp (UdpCall.Receive handle most))) standing)
     receive_says contexts (Some c) n = tt
     receive_says contexts None n =
-        allows_then Anything (λ fs done. Says fs done.0) (λ fs done. MayReply steps fs served at (Step.Call ctx (GuestCall.UdpReceive handle most)) done.0) es (receive_datagrams_on m (first_ids line) most (incoming_at m handle)) _
+        allows_then Anything (λ fs done. Says fs done.0) (λ fs done. MayReply steps fs served at (Step.Call ctx (GuestCall.Udp (UdpCall.Receive handle most))) done.0) es (receive_datagrams_on m (first_ids line) most (incoming_at m handle)) _
         (handle_says (incoming_at m handle) n) (λ fs done k. k)
 
 -- a line that replies to no receive of 0.3
@@ -78,7 +80,7 @@ quiet_as : (steps : List Step) (es : List Entry) (served : List ℕ) (n : ℕ) (
 quiet_as steps es served n fields k = subst (λ (o : Option Step). HandsAs steps es served n o fields) (sym k.at) (so k.origin k.holds)
   where
     so : (s : Step) → (IsReceive s → ⊥) → HandsAs steps es served n (Some s) fields
-    so (Step.Call ctx (GuestCall.P3UdpReceive socket)) none = absurd (none tt)
+    so (Step.Call ctx (GuestCall.P3Udp (P3UdpCall.Receive socket))) none = absurd (none tt)
     so _ none = tt
 
 quiet_may : (steps : List Step) (es : List Entry) (served : List ℕ) (line n : ℕ) (r : Reply) → BeganBy steps (own_of n) (λ (t : Step). IsReceive t → ⊥) → MayReply steps es served line (Step.Poll n) r
@@ -88,9 +90,9 @@ quiet_may steps es served line n _ k = tt
 -- the reply to a step may be given, where it is none to a receive of 0.3
 pub step_replies : (contexts : List WasiSocketsCtx) (steps : List Step) (served : List ℕ) (line : ℕ) (s : Step) (m : Machine) (es : List Entry) → IsQuietAt steps s → StateIsFine contexts steps es m → Keeps es m.store.records → Lates es m
     → Allows Anything (λ fs done. MayReply steps fs served line s done.0) es (machine_asks contexts m line s)
-step_replies contexts steps served line (Step.Call ctx (GuestCall.UdpReceive handle most)) m es q f k late =
+step_replies contexts steps served line (Step.Call ctx (GuestCall.Udp (UdpCall.Receive handle most))) m es q f k late =
     receive_says steps served line ctx handle most line m es k late contexts m.store.standing (λ place e. names_udp es m.store.records handle place (kind_at m.table handle) (incoming_record (kind_at m.table handle) place e) (f.handles handle))
-step_replies contexts steps served line (Step.Call ctx (GuestCall.P3UdpReceive socket)) m es q f k late = absurd (q.0 tt)
+step_replies contexts steps served line (Step.Call ctx (GuestCall.P3Udp (P3UdpCall.Receive socket))) m es q f k late = absurd (q.0 tt)
 step_replies contexts steps served line (Step.Poll n) m es q f k late =
     gives_any (λ fs done. MayReply steps fs served line (Step.Poll n) done.0) (λ fs done. quiet_may steps fs served line n done.0 (q.1 n refl)) es (machine_asks contexts m line (Step.Poll n))
 step_replies contexts steps served line s m es q f k late = gives_any (λ fs done. MayReply steps fs served line s done.0) (λ fs done. tt) es (machine_asks contexts m line s)

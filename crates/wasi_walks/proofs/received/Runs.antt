@@ -16,6 +16,7 @@ use Rattle.wasi_walks.proofs.licence.Runs.{Fine, fine_more, first_fine, last_lin
 use Rattle.wasi_walks.proofs.received.Handed.{order_more}
 use Rattle.wasi_walks.proofs.received.State.{first_late}
 use Rattle.wasi_walks.proofs.received.Lines.{Between, Takes, step_takes}
+use Rattle.wasi_steps.specs.declared.guest_call.UdpCall.{UdpCall}
 
 -- == what replies take, under more entries, with more steps, and with one more
 module _ (side : OpId) where
@@ -32,8 +33,8 @@ module _ (side : OpId) where
   }
 
   reply_more : (es fs : List Entry) (from upto : ℕ) (s : Step) (r : Reply) → ReplyTakes es side from upto s r → ReplyTakes (es ++ fs) side from upto s r
-  reply_more es fs from upto (Step.Call ctx (GuestCall.UdpReceive handle most)) (Reply.Ok fields) h = hands_more es fs from upto handle fields h
-  reply_more es fs from upto (Step.Call ctx (GuestCall.UdpReceive handle most)) _ h = h
+  reply_more es fs from upto (Step.Call ctx (GuestCall.Udp (UdpCall.Receive handle most))) (Reply.Ok fields) h = hands_more es fs from upto handle fields h
+  reply_more es fs from upto (Step.Call ctx (GuestCall.Udp (UdpCall.Receive handle most))) _ h = h
   reply_more es fs from upto _ r h = h
 
   pub takes_more : (es fs : List Entry) (from upto : ℕ) (steps : List Step) (replies : List Reply) → RepliesTake es side from upto steps replies → RepliesTake (es ++ fs) side from upto steps replies

@@ -10,12 +10,12 @@ use Rattle.wasi_walks.proofs.Words.{refl, side_of, subst, sym, told_done, turn_a
 use Rattle.wasi_udp.specs.Create.{create_cancel_asks, after_create as udp_after_create}
 use Rattle.host_store.specs.Kinds.{udp_kind, udp_of}
 use Rattle.wasi_records.specs.Records.{tcp2_pushed, udp2_at}
-use Rattle.wasi_records.specs.Udp.{udp_side}
+use Rattle.udp_records.specs.Udp.{udp_side}
 use Rattle.host_udp.specs.UdpCreates.{udp_side_at}
 use Rattle.host_store.specs.declared.kind.Kind.TheVariants.{Incoming}
 use Rattle.wasi_records.specs.declared.records.Record.{Record}
-use Rattle.wasi_records.specs.declared.udp.OpenUdp.{OpenUdp}
-use Rattle.wasi_records.specs.declared.udp.UdpRecord.{UdpRecord}
+use Rattle.udp_records.specs.declared.udp.OpenUdp.{OpenUdp}
+use Rattle.udp_records.specs.declared.udp.UdpRecord.{UdpRecord}
 use Rattle.wasi_walks.proofs.claims.Law.{begins_on_two, Base, on_two, on_two_along}
 use Rattle.wasi_walks.proofs.fits.Polls.{Anything}
 use Rattle.wasi_walks.proofs.remotes.Law.{begins_kept, remotes}

@@ -17,15 +17,15 @@ use Rattle.wasi_udp.specs.Connect.{with_given}
 use Rattle.wasi_udp.specs.Create.{Create}
 use Rattle.wasi_udp.specs.Socket.{after_peer}
 use Rattle.wasi_walks.specs.Waiting as binding
-use Rattle.wasi_records.specs.Datagrams.{udp_connect_left, udp_reconnect_left, with_sending, with_streams}
-use Rattle.wasi_records.specs.Receiving.{receive_left, with_receiving}
+use Rattle.udp_records.specs.Datagrams.{udp_connect_left, udp_reconnect_left, with_sending, with_streams}
+use Rattle.udp_records.specs.Receiving.{receive_left, with_receiving}
 use Rattle.wasi_records.specs.Records.{tcp2_put, udp2_at, udp2_put}
-use Rattle.wasi_records.specs.Udp.{udp_bind_progress, udp_create_left, udp_side, with_udp_inner, with_udp_progress}
-use Rattle.wasi_records.specs.declared.datagrams.Incoming.{Incoming}
-use Rattle.wasi_records.specs.declared.datagrams.Receiving.{Receiving}
+use Rattle.udp_records.specs.Udp.{udp_bind_progress, udp_create_left, udp_side, with_udp_inner, with_udp_progress}
+use Rattle.udp_records.specs.declared.datagrams.Incoming.{Incoming}
+use Rattle.udp_records.specs.declared.datagrams.Receiving.{Receiving}
 use Rattle.wasi_records.specs.declared.records.Record.{Record}
-use Rattle.wasi_records.specs.declared.udp.OpenUdp.{OpenUdp}
-use Rattle.wasi_records.specs.declared.udp.UdpRecord.{UdpRecord}
+use Rattle.udp_records.specs.declared.udp.OpenUdp.{OpenUdp}
+use Rattle.udp_records.specs.declared.udp.UdpRecord.{UdpRecord}
 use Rattle.wasi_world.specs.Operation.{Datagram, Given, Remote}
 use Rattle.wasi_walks.proofs.Lists.{has_front}
 use Rattle.wasi_walks.proofs.claims.Law.{Named, Base}

@@ -1,7 +1,7 @@
 -- The law that the remote address that an open UDP socket keeps is what the network reported last.
 use Rattle.std.specs.Prelude.{take}
 use Rattle.wasi_tcp.specs.Halves.{write_asks}
-use Rattle.wasi_records.specs.Ends.{ends_of}
+use Rattle.tcp_records.specs.Ends.{ends_of}
 use Rattle.wasi_walks.proofs.PipeLists.{slot_push_same}
 use Rattle.wasi_walks.proofs.walks.Asked.{MarksResult, WritesOnce}
 use Rattle.host_store.specs.declared.kind.Kind.TheVariants.{Result3}
@@ -33,10 +33,10 @@ use Rattle.wasi_udp.specs.Shape.{Socket as UdpSocket}
 use Rattle.wasi_udp.specs.Socket.{after_local as udp_after_local}
 use Rattle.wasi_records.specs.Records.{tcp2_put, udp2_put}
 use Rattle.host_store.specs.Kinds.{udp_kind}
-use Rattle.wasi_records.specs.Udp.{udp_side, with_udp_inner}
+use Rattle.udp_records.specs.Udp.{udp_side, with_udp_inner}
 use Rattle.wasi_records.specs.declared.records.Record.{Record}
-use Rattle.wasi_records.specs.declared.udp.OpenUdp.{OpenUdp}
-use Rattle.wasi_records.specs.declared.udp.UdpRecord.{UdpRecord}
+use Rattle.udp_records.specs.declared.udp.OpenUdp.{OpenUdp}
+use Rattle.udp_records.specs.declared.udp.UdpRecord.{UdpRecord}
 use Rattle.wasi_walks.proofs.Lists.{has_last}
 use Rattle.wasi_walks.proofs.claims.Law.{Named, Base}
 use Rattle.wasi_walks.proofs.fits.Polls.{Anything}

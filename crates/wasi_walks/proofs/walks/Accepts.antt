@@ -10,7 +10,7 @@ use Rattle.wasi_walks.proofs.Words.{refl}
 use Rattle.wasi_walks.proofs.Words.{subst, sym}
 use Rattle.wasi_walks.proofs.Words.{with_accept, with_listening}
 use Rattle.wasi_walks.proofs.Words.{ℕ, ◌∙◌, ◌≡◌}
-use Rattle.wasi_records.specs.Sockets.{new_record}
+use Rattle.tcp_records.specs.Sockets.{new_record}
 use Rattle.std.specs.Prelude.{length}
 use Rattle.wasi_walks.proofs.walks.Moves.{Made, Names, part_of, Here, put, Unmade, record_of, new_accept, accepting_now, faulted, joined, joined_plain, joining, joins_as, BeginsAccept, Forgets, Joins, JoinsFault, JoinsPlain, P3, Joined, Faulted}
 use Rattle.wasi_walks.proofs.walks.Law.{Law, HasRecord, owning, put_put, Walks, give, and_then, move, from, found, on, await}
@@ -19,6 +19,8 @@ use Rattle.wasi_walks.proofs.walks.Here.{MayBegin, after}
 use Rattle.wasi_tcp.specs.Listener.{begun as accept_begun, has_accept}
 use Rattle.wasi_records.specs.declared.records.Record.{Record}
 use Rattle.wasi_walks.proofs.Places.{put_twice, tcp_sort}
+use Rattle.wasi_steps.specs.declared.guest_call.TcpCall.{TcpCall}
+use Rattle.wasi_steps.specs.declared.guest_call.P3TcpCall.{P3TcpCall}
 
 same_accept : (h : Here) (place : ℕ) (r : TcpRecord) (l : Listener) (a : Accepting) → r.listening ≡ Accepts l → l.accept ≡ a → put h place (accepting_now r l a) ≡ put h place r
 same_accept h place r l a e q = ap (λ (x : Accepting). put h place (accepting_now r l x)) (sym q) ∙ ap (λ (x : Listening). put h place (with_listening r x)) (sym e)
@@ -56,7 +58,7 @@ Took h place (Ok (Ready socket), r) = joined_if h place r (accepted_record socke
 Took h place (Ok Pending, r) = put h place r
 Took h place (Err c, r) = put h place r
 
-module _ {contexts : List WasiSocketsCtx} {line : ℕ} {origin : Step} {law : Law contexts line origin} {h : Here} {place : ℕ} (here : HasRecord h place) (c handle : ℕ) (is : origin ≡ Step.Call c (GuestCall.TcpAccept handle)) (of : record_of (kind_at h.machine.table handle) ≡ Some place) (unmade : h.made ≡ Unmade) where
+module _ {contexts : List WasiSocketsCtx} {line : ℕ} {origin : Step} {law : Law contexts line origin} {h : Here} {place : ℕ} (here : HasRecord h place) (c handle : ℕ) (is : origin ≡ Step.Call c (GuestCall.Tcp (TcpCall.Accept handle))) (of : record_of (kind_at h.machine.table handle) ≡ Some place) (unmade : h.made ≡ Unmade) where
   pub takes_walks : (r : TcpRecord) (l : Listener) (now : Accepting) → Walks law (put h place (accepting_now r l now)) (λ done. Took h place (Ok done.0, with_listening r (Accepts done.1))) (Give (accept_end l now))
   takes_walks r l (Accepting.Arrived new peer) =
       let old : TcpRecord = accepting_now r l (Accepting.Arrived new peer) in
@@ -80,7 +82,7 @@ TookPlain h place (Ok (Ready socket), r) = let records = tcp2_put h.machine.stor
 TookPlain h place (Ok Pending, r) = put h place r
 TookPlain h place (Err c, r) = put h place r
 
-module _ {contexts : List WasiSocketsCtx} {line : ℕ} {origin : Step} {law : Law contexts line origin} {h : Here} {place : ℕ} (here : HasRecord h place) (c listener remaining : ℕ) (is : origin ≡ Step.Call c (GuestCall.P3Accept listener remaining)) (of : record_of (kind_at h.machine.table listener) ≡ Some place) (unmade : h.made ≡ Unmade) where
+module _ {contexts : List WasiSocketsCtx} {line : ℕ} {origin : Step} {law : Law contexts line origin} {h : Here} {place : ℕ} (here : HasRecord h place) (c listener remaining : ℕ) (is : origin ≡ Step.Call c (GuestCall.P3Tcp (P3TcpCall.Accept listener remaining))) (of : record_of (kind_at h.machine.table listener) ≡ Some place) (unmade : h.made ≡ Unmade) where
   pub takes_plain_walks : (r : TcpRecord) (l : Listener) (now : Accepting) → Walks law (put h place (accepting_now r l now)) (λ done. TookPlain h place (Ok done.0, with_listening r (Accepts done.1))) (Give (accept_end l now))
   takes_plain_walks r l (Accepting.Arrived new peer) =
       let old : TcpRecord = accepting_now r l (Accepting.Arrived new peer) in

@@ -21,18 +21,20 @@ use Rattle.host_store.specs.Beside.{beside_as, beside_of}
 use Rattle.host_lookups.specs.Resolves.{begun_lookup}
 use Rattle.host_store.specs.Kinds.{kind_at, send3_of, tcp3_of, udp_kind, udp_of}
 use Rattle.host_store.specs.declared.kind.Kind.TheVariants.{Listen3, Result3, Tcp3}
-use Rattle.wasi_records.specs.Holding.{has_listener}
+use Rattle.tcp_records.specs.Holding.{has_listener}
 use Rattle.wasi_walks.specs.Licence.{IsDisconnect}
 use Rattle.host_udp.specs.UdpCreates.{udp_side_at}
 use Rattle.wasi_records.specs.Records.{tcp2_at, udp2_at, lookup_at}
-use Rattle.wasi_records.specs.Udp.{udp_side, with_udp_inner}
-use Rattle.wasi_records.specs.declared.name_lookup.Lookup.TheVariants as lookup
-use Rattle.wasi_records.specs.declared.name_lookup.LookupOp.{LookupOp}
+use Rattle.udp_records.specs.Udp.{udp_side, with_udp_inner}
+use Rattle.lookup_records.specs.declared.name_lookup.Lookup.TheVariants as lookup
+use Rattle.lookup_records.specs.declared.name_lookup.LookupOp.{LookupOp}
 use Rattle.wasi_records.specs.declared.records.Record.{Record}
-use Rattle.wasi_records.specs.declared.udp.OpenUdp.{OpenUdp}
-use Rattle.wasi_records.specs.declared.udp.UdpRecord.{UdpRecord}
+use Rattle.udp_records.specs.declared.udp.OpenUdp.{OpenUdp}
+use Rattle.udp_records.specs.declared.udp.UdpRecord.{UdpRecord}
 use Rattle.wasi_udp.specs.Create.{Create, create_cancel_asks, after_create as udp_after_create}
 use Rattle.wasi_udp.specs.Socket.{after_local as udp_after_local, after_peer}
+use Rattle.wasi_steps.specs.declared.guest_call.TcpCall.{TcpCall}
+use Rattle.wasi_steps.specs.declared.guest_call.P3TcpCall.{P3TcpCall}
 
 pub data Asked (contexts : List WasiSocketsCtx) (line : ℕ) (origin : Step) (es : List Entry) (h : Here) : (A : Type 0) → Asks A → (A → Here) → Type 1 where
   -- one call on the record that the line works on
@@ -87,13 +89,13 @@ pub data Asked (contexts : List WasiSocketsCtx) (line : ℕ) (origin : Step) (es
       → Asked contexts line origin es h (Result ℕ Stop × HandleTable)
       (make_asks h.machine.table (own_of line) kind parent sock)
       (λ made. record h { machine = record h.machine { table = made.1 } })
-  MarksAccepted : (c listener place : ℕ) (r : TcpRecord) → origin ≡ Step.Call c (GuestCall.TcpAccept listener) → h.made ≡ Joined P2 place
+  MarksAccepted : (c listener place : ℕ) (r : TcpRecord) → origin ≡ Step.Call c (GuestCall.Tcp (TcpCall.Accept listener)) → h.made ≡ Joined P2 place
       → h.own ≡ Used → Found h place r
       → Asked contexts line origin es h (Result ℕ Stop × HandleTable)
       (make_asks h.machine.table (own_of line) (Tcp2 place) (Some listener)
       (side_at (tcp2_at h.machine.store.records place)))
       (λ made. record h { machine = record h.machine { table = made.1 }; made = made_so place made.0 })
-  MarksPlain : (c listener remaining place : ℕ) (r : TcpRecord) → origin ≡ Step.Call c (GuestCall.P3Accept listener remaining)
+  MarksPlain : (c listener remaining place : ℕ) (r : TcpRecord) → origin ≡ Step.Call c (GuestCall.P3Tcp (P3TcpCall.Accept listener remaining))
       → (h.made ≡ Joined P3 place) ⊎ (h.made ≡ Faulted place) → h.own ≡ Used → Found h place r
       → Asked contexts line origin es h (Result ℕ Stop × HandleTable)
       (make_asks h.machine.table (own_of line) (Tcp3 place) (Some listener)
@@ -128,7 +130,7 @@ pub data Asked (contexts : List WasiSocketsCtx) (line : ℕ) (origin : Step) (es
       (λ made. record h { machine = record h.machine { table = made.1 } })
   -- a write of 0.3 offers its bytes once, by the half of its end
   WritesOnce : (c handle place : ℕ) (given : List ℕ) (end : ConnectionEnd) (r : TcpRecord) (s : Streams) (half : TcpSendStream) (permit : ℕ)
-      → origin ≡ Step.Call c (GuestCall.P3Write handle given) → send3_of (kind_at h.machine.table handle) ≡ Some end
+      → origin ≡ Step.Call c (GuestCall.P3Tcp (P3TcpCall.Write handle given)) → send3_of (kind_at h.machine.table handle) ≡ Some end
       → end.socket ≡ Some place → h.at ≡ Some (place, line) → Found h place r → r.streams ≡ Some s
       → s.writer ≡ WriteState.Ready half permit → h.own ≡ Unused
       → Asked contexts line origin es h (Result (Answer ℕ) ErrorCode)

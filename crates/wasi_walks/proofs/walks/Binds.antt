@@ -9,15 +9,15 @@ use Rattle.wasi_world.specs.declared.outcome.Answer.TheVariants.{Ready, Pending}
 use Rattle.wasi_world.specs.declared.outcome.TrapKind.TheVariants.{NoSuchHandle}
 use Rattle.wasi_world.specs.declared.outcome.WasiSocketsCtx.{WasiSocketsCtx}
 use Rattle.wasi_world.specs.Asks.{Asks, Give}
-use Rattle.wasi_records.specs.declared.socket.TcpRecord.{TcpRecord}
-use Rattle.wasi_records.specs.declared.udp.OpenUdp.{OpenUdp}
-use Rattle.wasi_records.specs.declared.udp.UdpInProgress.TheVariants as udp
-use Rattle.wasi_records.specs.declared.udp.UdpRecord.TheVariants.{Open}
-use Rattle.wasi_records.specs.Binding.{begin_bind_asks, poll_bind_asks}
-use Rattle.wasi_records.specs.Names.{own_of}
+use Rattle.tcp_records.specs.declared.socket.TcpRecord.{TcpRecord}
+use Rattle.udp_records.specs.declared.udp.OpenUdp.{OpenUdp}
+use Rattle.udp_records.specs.declared.udp.UdpInProgress.TheVariants as udp
+use Rattle.udp_records.specs.declared.udp.UdpRecord.TheVariants.{Open}
+use Rattle.tcp_records.specs.Binding.{begin_bind_asks, poll_bind_asks}
+use Rattle.record_common.specs.Names.{own_of}
 use Rattle.wasi_records.specs.Records.{open_at, tcp2_at}
-use Rattle.wasi_records.specs.Stops.{Code, Trap}
-use Rattle.wasi_records.specs.Udp.{begin_udp_bind_asks, poll_udp_bind_asks, with_udp_progress}
+use Rattle.record_common.specs.Stops.{Code, Trap}
+use Rattle.udp_records.specs.Udp.{begin_udp_bind_asks, poll_udp_bind_asks, with_udp_progress}
 use Rattle.host_store.specs.declared.kind.Interface.{Interface}
 use Rattle.host_store.specs.declared.kind.Interface.TheVariants.{P2, P3}
 use Rattle.host_store.specs.declared.machine.Machine.{Machine}

@@ -18,12 +18,12 @@ use Rattle.wasi_tcp.specs.Connect.{connect_first, connect_operation}
 use Rattle.wasi_tcp.specs.Connecting.{connect_ended, connect_start, finish_connect_asks, finish_in, in_socket, is_connectable, start_connect_asks, start_connect_in, with_state}
 use Rattle.wasi_tcp.specs.Shape.{Socket}
 use Rattle.wasi_tcp.specs.Socket.{bound_asks}
-use Rattle.wasi_records.specs.declared.socket.TcpRecord.{TcpRecord}
-use Rattle.wasi_records.specs.InProgress.{is_nothing}
-use Rattle.wasi_records.specs.Names.{own_of}
+use Rattle.tcp_records.specs.declared.socket.TcpRecord.{TcpRecord}
+use Rattle.tcp_records.specs.InProgress.{is_nothing}
+use Rattle.record_common.specs.Names.{own_of}
 use Rattle.wasi_records.specs.Records.{tcp2_at}
-use Rattle.wasi_records.specs.Sockets.{inner_answered, with_inner}
-use Rattle.wasi_records.specs.Stops.{Code}
+use Rattle.tcp_records.specs.Sockets.{inner_answered, with_inner}
+use Rattle.record_common.specs.Stops.{Code}
 use Rattle.host_store.specs.declared.beside.BesideCall.TheVariants.{Connect}
 use Rattle.host_store.specs.declared.machine.Machine.{Machine}
 use Rattle.host_store.specs.BaseStops.{BaseStop, renamed}

@@ -8,16 +8,16 @@ use Rattle.wasi_machine.specs.Machine.{first_ids}
 use Rattle.wasi_world.specs.declared.ids.Ids.{Ids}
 use Rattle.wasi_world.specs.declared.ids.OpId.{OpId}
 use Rattle.host_udp.specs.DatagramCalls.{start_streams_by, start_streams_at, reconnect_udp_at, second_made, outgoing_made, mark_streams_of, streams_so, remake_streams_asks}
-use Rattle.wasi_records.specs.Datagrams.{has_streams, with_streams, udp_connect_ended, udp_connect_left, poll_udp_connecting, udp_connect_begun, disconnected, disconnect_streams, streams_to, streams_where, begin_streams_asks}
+use Rattle.udp_records.specs.Datagrams.{has_streams, with_streams, udp_connect_ended, udp_connect_left, poll_udp_connecting, udp_connect_begun, disconnected, disconnect_streams, streams_to, streams_where, begin_streams_asks}
 use Rattle.host_store.specs.Kinds.{udp_of}
 use Rattle.wasi_records.specs.Records.{open_at, udp2_at}
-use Rattle.wasi_records.specs.declared.datagrams.Incoming.{Incoming}
-use Rattle.wasi_records.specs.declared.datagrams.Receiving.{Receiving}
+use Rattle.udp_records.specs.declared.datagrams.Incoming.{Incoming}
+use Rattle.udp_records.specs.declared.datagrams.Receiving.{Receiving}
 use Rattle.host_store.specs.declared.kind.Kind.TheVariants as kinds
-use Rattle.wasi_records.specs.declared.udp.OpenUdp.{OpenUdp}
-use Rattle.wasi_records.specs.declared.udp.UdpRecord.{UdpRecord}
+use Rattle.udp_records.specs.declared.udp.OpenUdp.{OpenUdp}
+use Rattle.udp_records.specs.declared.udp.UdpRecord.{UdpRecord}
 use Rattle.host_store.specs.Machine.{udp_socket_at}
-use Rattle.wasi_records.specs.Udp.{with_udp_inner}
+use Rattle.udp_records.specs.Udp.{with_udp_inner}
 use Rattle.host_udp.specs.UdpCalls.{udp_call_answered}
 use Rattle.host_udp.specs.UdpCreates.{udp_side_at}
 use Rattle.wasi_p2.specs.Udp.{udp_stream_on}
@@ -33,6 +33,7 @@ use Rattle.wasi_walks.proofs.walks.States.{At, Over, OverWith, Starts, udp_recor
 use Rattle.wasi_walks.proofs.walks.Udp.{bound_walks, disconnect_walks, open_is, udp_there}
 use Rattle.wasi_walks.proofs.walks.UdpLaw.{HasUdp, over_at, udp_put_put, udp_put_same, udp_found, poll_udp_connect_walks, mark_stream}
 use Rattle.wasi_walks.proofs.Places.{put_finds, udp_sort}
+use Rattle.wasi_steps.specs.declared.guest_call.UdpCall.{UdpCall}
 
 -- the incoming stream is new
 abbrev pub IsNew : OpenUdp → Type 0
@@ -217,15 +218,15 @@ module _ {contexts : List WasiSocketsCtx} {line : ℕ} {origin : Step} {law : La
     without_walks to o none true bound = and_then (disconnect_walks here at to o o.inner.remote) (told_walks o none)
     without_walks to o none false bound = opens o none
 
-    streams_to_walks : (c s : ℕ) (remote : Option IpSocketAddress) → origin ≡ Step.Call c (GuestCall.UdpStream s remote) → (o : OpenUdp) → o.inner.bound ≡ true → has_streams o ≡ false → Walks law (put_udp h place (UdpRecord.Open o)) (Ends h place) (streams_to (own_of line) o remote)
+    streams_to_walks : (c s : ℕ) (remote : Option IpSocketAddress) → origin ≡ Step.Call c (GuestCall.Udp (UdpCall.Stream s remote)) → (o : OpenUdp) → o.inner.bound ≡ true → has_streams o ≡ false → Walks law (put_udp h place (UdpRecord.Open o)) (Ends h place) (streams_to (own_of line) o remote)
     streams_to_walks c s (Some a) is o bound none = connect_walks o a bound none (subst (IsUdpConnectTo a) (sym is) refl)
     streams_to_walks c s None is o bound none = without_walks (subst IsDisconnect (sym is) tt) o (no_incoming o none) (is_connected o.inner.remote) bound
 
-    where_walks : (c s : ℕ) (remote : Option IpSocketAddress) → origin ≡ Step.Call c (GuestCall.UdpStream s remote) → (o : OpenUdp) (bound : Bool) → (bound ≡ true → o.inner.bound ≡ true) → has_streams o ≡ false → Walks law (put_udp h place (UdpRecord.Open o)) (Ends h place) (streams_where (own_of line) remote o bound)
+    where_walks : (c s : ℕ) (remote : Option IpSocketAddress) → origin ≡ Step.Call c (GuestCall.Udp (UdpCall.Stream s remote)) → (o : OpenUdp) (bound : Bool) → (bound ≡ true → o.inner.bound ≡ true) → has_streams o ≡ false → Walks law (put_udp h place (UdpRecord.Open o)) (Ends h place) (streams_where (own_of line) remote o bound)
     where_walks c s remote is o true k none = streams_to_walks c s remote is o (k refl) none
     where_walks c s remote is o false k none = gives _ (Spends _ free)
 
-    begin_walks : (c s : ℕ) (remote : Option IpSocketAddress) → origin ≡ Step.Call c (GuestCall.UdpStream s remote) → (o : OpenUdp) → has_streams o ≡ false → Walks law (put_udp h place (UdpRecord.Open o)) (Ends h place) (begin_streams_asks (own_of line) o remote)
+    begin_walks : (c s : ℕ) (remote : Option IpSocketAddress) → origin ≡ Step.Call c (GuestCall.Udp (UdpCall.Stream s remote)) → (o : OpenUdp) → has_streams o ≡ false → Walks law (put_udp h place (UdpRecord.Open o)) (Ends h place) (begin_streams_asks (own_of line) o remote)
     begin_walks c s remote is o none = and_given KeepsBound (bound_given (own_of line) o.inner) (bound_walks here at o) (λ b k. where_walks c s remote is (with_udp_inner o b.1) b.0 k none)
 
   -- == a call that may be pending was answered
@@ -236,7 +237,7 @@ module _ {contexts : List WasiSocketsCtx} {line : ℕ} {origin : Step} {law : La
   answered_walks m ids place handle q (Err c, o) here w = gives _ (Leaves _)
 
   module _ (m : Machine) (place handle : ℕ) (quiet : NoStartStands m.store.standing) where
-    start_by : (c : ℕ) (remote : Option IpSocketAddress) → origin ≡ Step.Call c (GuestCall.UdpStream handle remote) → udp_of (kind_at m.table handle) ≡ Some place → (o : OpenUdp) → FoundUdp (At line m place Unused) place (UdpRecord.Open o) → (live : Bool) → has_streams o ≡ live
+    start_by : (c : ℕ) (remote : Option IpSocketAddress) → origin ≡ Step.Call c (GuestCall.Udp (UdpCall.Stream handle remote)) → udp_of (kind_at m.table handle) ≡ Some place → (o : OpenUdp) → FoundUdp (At line m place Unused) place (UdpRecord.Open o) → (live : Bool) → has_streams o ≡ live
         → Walks law (At line m place Unused) (Streamed line m place handle) (start_streams_by m.store (first_ids line) place handle remote o live)
     start_by c remote is of o g true none = move (Spends _ refl) (gives _ (Leaves _))
     start_by c remote is of o g false none =
@@ -244,7 +245,7 @@ module _ {contexts : List WasiSocketsCtx} {line : ℕ} {origin : Step} {law : La
         (from (udp_put_same (Streaming line m place handle Unused) place (UdpRecord.Open o) g)
         (and_given WaitsUdpConnect (begin_given (own_of line) o remote) (begin_walks (udp_there {h = Streaming line m place handle Unused} g) refl refl quiet (line, (handle, refl)) c handle remote is o none) (λ begun w. answered_walks m (first_ids line) place handle quiet begun (record { was = UdpRecord.Open o; at = g }) w)))
 
-    start_at : (c : ℕ) (remote : Option IpSocketAddress) → origin ≡ Step.Call c (GuestCall.UdpStream handle remote) → udp_of (kind_at m.table handle) ≡ Some place → (o : Option OpenUdp) → open_at m.store.records place ≡ o → Walks law (At line m place Unused) (Streamed line m place handle) (start_streams_at m.store (first_ids line) place handle remote o)
+    start_at : (c : ℕ) (remote : Option IpSocketAddress) → origin ≡ Step.Call c (GuestCall.Udp (UdpCall.Stream handle remote)) → udp_of (kind_at m.table handle) ≡ Some place → (o : Option OpenUdp) → open_at m.store.records place ≡ o → Walks law (At line m place Unused) (Streamed line m place handle) (start_streams_at m.store (first_ids line) place handle remote o)
     start_at c remote is of None e = move (Spends _ refl) (gives _ (Leaves _))
     start_at c remote is of (Some o) e = start_by c remote is of o (open_is (udp2_at m.store.records place) o e) (has_streams o) refl
 
@@ -279,7 +280,7 @@ module _ {contexts : List WasiSocketsCtx} {line : ℕ} {origin : Step} {law : La
     so_walks m (Ok (Ready d), store) new = marked_walks (record m { store = store }) (udp_of (kind_at m.table handle)) new refl
     so_walks m (Err stop, store) new = give _
 
-  pub stream_walks : (m : Machine) (c s : ℕ) (remote : Option IpSocketAddress) (o : Option ℕ) → udp_socket_at m s ≡ o → origin ≡ Step.Call c (GuestCall.UdpStream s remote) → Has (handles_of origin) s → NoStartStands m.store.standing → Walks law (Starts m Unused) OverWith (udp_stream_on m (first_ids line) s remote o)
+  pub stream_walks : (m : Machine) (c s : ℕ) (remote : Option IpSocketAddress) (o : Option ℕ) → udp_socket_at m s ≡ o → origin ≡ Step.Call c (GuestCall.Udp (UdpCall.Stream s remote)) → Has (handles_of origin) s → NoStartStands m.store.standing → Walks law (Starts m Unused) OverWith (udp_stream_on m (first_ids line) s remote o)
   stream_walks m c s remote None e is named q = gives _ (Spends _ refl)
   stream_walks m c s remote (Some place) e is named q =
       move (ReachesUdp _ s place named (udp_record (kind_at m.table s) place e))

@@ -4,14 +4,15 @@ use Rattle.std.proofs.Common.{ap}
 use Rattle.wasi_addr.specs.declared.address.ShutdownType.{ShutdownType}
 use Rattle.wasi_world.specs.declared.outcome.WasiSocketsCtx.{WasiSocketsCtx}
 use Rattle.wasi_world.specs.Asks.{Asks, Give}
-use Rattle.wasi_records.specs.declared.slot.Slot.{Slot}
-use Rattle.wasi_records.specs.declared.socket.Streams.{Streams}
-use Rattle.wasi_records.specs.declared.socket.TcpRecord.{TcpRecord}
-use Rattle.wasi_records.specs.Ends.{has_half, shut_half}
-use Rattle.wasi_records.specs.Holding.{is_held, let_go_asks}
-use Rattle.wasi_records.specs.Names.{own_of}
+use Rattle.tcp_records.specs.declared.slot.Slot.{Slot}
+use Rattle.tcp_records.specs.declared.socket.Streams.{Streams}
+use Rattle.tcp_records.specs.declared.socket.TcpRecord.{TcpRecord}
+use Rattle.tcp_records.specs.Ends.{has_half, shut_half}
+use Rattle.tcp_records.specs.Holding.{is_held, let_go_asks}
+use Rattle.record_common.specs.Names.{own_of}
 use Rattle.wasi_records.specs.Records.{tcp2_at}
-use Rattle.wasi_records.specs.Slots.{StreamEnd, filled, slot_at}
+use Rattle.tcp_records.specs.Slots.{StreamEnd, filled}
+use Rattle.wasi_records.specs.Records.{slot_at}
 use Rattle.host_store.specs.declared.kind.ConnectionEnd.{ConnectionEnd}
 use Rattle.host_store.specs.declared.kind.Kind.TheVariants.{Result3}
 use Rattle.host_store.specs.declared.machine.Machine.{Machine}

@@ -9,7 +9,7 @@ use Rattle.wasi_streams.specs.StreamStop as stop
 use Rattle.wasi_tcp.specs.Halves.{read_asks}
 use Rattle.wasi_tcp.specs.declared.halves.TcpReceiveStream.{TcpReceiveStream}
 use Rattle.wasi_tcp.specs.declared.writer.WriteError.{WriteError}
-use Rattle.wasi_records.specs.Halves.{begins_job}
+use Rattle.tcp_records.specs.Halves.{begins_job}
 use Rattle.host_store.specs.Jobs.{with_job, write_at}
 use Rattle.wasi_jobs.specs.declared.job.HostJob.TheVariants as jobs
 use Rattle.wasi_walks.proofs.Words.{Kind, Machine, ap, input_at, input_of, output_at, output_of}

@@ -3,10 +3,11 @@
 use Rattle.wasi_walks.proofs.Words.{Bool, HandleTable, Kind, List, Machine, None, OpId, Operation, Option, Records, Some, Standing, StandingCall, GuestCall, Step, Tcp2, TcpRecord, ap, arith, inl, kind_at, inr, refl, standing_as, subst, sym, true, false, with_socket, ℕ, ⊤, ◌+◌, ◌<◌, ◌≡◌, ◌≤◌, ◌⊎◌}
 use Rattle.std.specs.Prelude.{is_some, slice_get, ◌||◌}
 use Rattle.wasi_world.specs.declared.ids.Ids.{Ids}
-use Rattle.wasi_records.specs.Datagrams.{has_streams}
-use Rattle.wasi_records.specs.Holding.{has_listener}
-use Rattle.wasi_records.specs.Receiving.{taken, with_receiving}
-use Rattle.wasi_records.specs.Records.{open_at, open_of, tcp2_at, udp2_at, lookup_at, input_pipe_at, output_pipe_at}
+use Rattle.udp_records.specs.Datagrams.{has_streams}
+use Rattle.tcp_records.specs.Holding.{has_listener}
+use Rattle.udp_records.specs.Receiving.{taken, with_receiving}
+use Rattle.wasi_records.specs.Records.{open_at, tcp2_at, udp2_at, lookup_at, input_pipe_at, output_pipe_at}
+use Rattle.udp_records.specs.Udp.{open_of}
 use Rattle.host_udp.specs.SocketDatagrams.{is_udp_held}
 use Rattle.host_store.specs.Store.{with_udp}
 use Rattle.host_store.specs.declared.beside.Beside.{Beside}
@@ -14,23 +15,25 @@ pub use Rattle.host_store.specs.declared.kind.Interface.{Interface}
 pub use Rattle.host_store.specs.declared.kind.Interface.TheVariants.{P2, P3}
 use Rattle.host_store.specs.declared.kind.Kind.TheVariants.{Incoming, Listen3, Outgoing, Receive3, Result3, Send3, Tcp3, Udp2, Lookup, PlainInput, PlainOutput}
 use Rattle.host_store.specs.declared.kind.ConnectionEnd.{ConnectionEnd}
-use Rattle.wasi_records.specs.Slots.{slot_at}
-use Rattle.wasi_records.specs.declared.slot.Slot.{Slot}
-use Rattle.wasi_records.specs.Udp.{udp_side}
-use Rattle.wasi_records.specs.declared.datagrams.Incoming.{Incoming as IncomingStream}
+use Rattle.wasi_records.specs.Records.{slot_at}
+use Rattle.tcp_records.specs.declared.slot.Slot.{Slot}
+use Rattle.udp_records.specs.Udp.{udp_side}
+use Rattle.udp_records.specs.declared.datagrams.Incoming.{Incoming as IncomingStream}
 use Rattle.memory_streams.specs.Plain.{Contents}
 use Rattle.host_store.specs.GivingBack.{given_back}
 use Rattle.host_store.specs.declared.kind.PlainInput.TheVariants as plain_input
 use Rattle.host_store.specs.declared.kind.PlainOutput.TheVariants as plain_output
-use Rattle.wasi_records.specs.declared.name_lookup.Lookup.{Lookup as NameLookup}
-use Rattle.wasi_records.specs.declared.datagrams.Receiving.{Receiving}
+use Rattle.lookup_records.specs.declared.name_lookup.Lookup.{Lookup as NameLookup}
+use Rattle.udp_records.specs.declared.datagrams.Receiving.{Receiving}
 use Rattle.wasi_jobs.specs.declared.job.HostJob.{HostJob}
 pub use Rattle.wasi_jobs.specs.Jobs.{job_place}
 use Rattle.wasi_records.specs.declared.records.Record.{Record}
 use Rattle.wasi_records.specs.declared.records.Record.TheVariants.{Gone}
 use Rattle.wasi_walks.specs.Licence.{Has}
-use Rattle.wasi_records.specs.declared.udp.OpenUdp.{OpenUdp}
-use Rattle.wasi_records.specs.declared.udp.UdpRecord.{UdpRecord}
+use Rattle.udp_records.specs.declared.udp.OpenUdp.{OpenUdp}
+use Rattle.udp_records.specs.declared.udp.UdpRecord.{UdpRecord}
+use Rattle.wasi_steps.specs.declared.guest_call.UdpCall.{UdpCall}
+use Rattle.wasi_steps.specs.declared.guest_call.P3TcpCall.{P3TcpCall}
 
 -- what the line's operations have begun: something, or nothing yet; its own none, and of the others those of a part below this one;
 -- these bytes it is let write to this network socket; something, and the connect of this UDP socket's record goes on by it
@@ -190,14 +193,14 @@ end_of (Some kind) = end_in kind
 
 -- the line makes an end of the socket of this handle, and its slot
 abbrev pub MakesEnds : ℕ → Step → Type 0
-MakesEnds socket (Step.Call ctx (GuestCall.P3TcpReceive s)) = s ≡ socket
-MakesEnds socket (Step.Call ctx (GuestCall.P3TcpSend s)) = s ≡ socket
+MakesEnds socket (Step.Call ctx (GuestCall.P3Tcp (P3TcpCall.Receive s))) = s ≡ socket
+MakesEnds socket (Step.Call ctx (GuestCall.P3Tcp (P3TcpCall.Send s))) = s ≡ socket
 MakesEnds socket _ = ⊥
 
 -- and this is the end
 abbrev pub MakesEnd : ℕ → Kind → Step → Type 0
-MakesEnd socket (Receive3 end) (Step.Call ctx (GuestCall.P3TcpReceive s)) = s ≡ socket
-MakesEnd socket (Send3 end) (Step.Call ctx (GuestCall.P3TcpSend s)) = s ≡ socket
+MakesEnd socket (Receive3 end) (Step.Call ctx (GuestCall.P3Tcp (P3TcpCall.Receive s))) = s ≡ socket
+MakesEnd socket (Send3 end) (Step.Call ctx (GuestCall.P3Tcp (P3TcpCall.Send s))) = s ≡ socket
 MakesEnd socket _ _ = ⊥
 
 -- it is of the record of this place, where its half could be taken; it is closed, else
@@ -254,7 +257,7 @@ pub record TakesFrom (origin : Step) (t : HandleTable) (place : ℕ) : Type 0 wh
   pub ctx : ℕ
   pub handle : ℕ
   pub most : ℕ
-  pub is : origin ≡ Step.Call ctx (GuestCall.UdpReceive handle most)
+  pub is : origin ≡ Step.Call ctx (GuestCall.Udp (UdpCall.Receive handle most))
   pub of : kind_at t handle ≡ Some (Incoming place)
 
 -- the line makes streams of the record's socket, under its handle

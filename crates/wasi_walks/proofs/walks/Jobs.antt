@@ -2,13 +2,13 @@
 use Rattle.wasi_walks.proofs.Words.{Bool, List, Option, Some, TcpRecord, [], false, if◌then◌else◌, inl, inr, slice_get, subst, true, ℕ, ◌++◌, ◌∷◌, ◌≡◌, ◌⊎◌}
 use Rattle.std.specs.Prelude.{is_some, not, ◌&&◌}
 use Rattle.host_udp.specs.UdpCancels.{is_datagram_on, other_than_datagram}
-use Rattle.wasi_records.specs.Halves.{begins_job, has_job}
+use Rattle.tcp_records.specs.Halves.{begins_job, has_job}
 use Rattle.host_store.specs.Jobs.{is_receive_on, jobs_with, other_than_receive}
 use Rattle.wasi_records.specs.Records.{lookup_of, tcp2_at, tcp2_of, udp2_of}
 use Rattle.wasi_jobs.specs.declared.job.HostJob.{HostJob}
 use Rattle.wasi_records.specs.declared.records.Record.{Record}
 use Rattle.wasi_records.specs.declared.records.Record.TheVariants.{Lookup as LookupRecord, Tcp, Udp}
-use Rattle.wasi_records.specs.declared.udp.UdpRecord.{UdpRecord}
+use Rattle.udp_records.specs.declared.udp.UdpRecord.{UdpRecord}
 use Rattle.wasi_walks.specs.Licence.{Has}
 use Rattle.wasi_walks.proofs.Lists.{has_split}
 use Rattle.wasi_walks.proofs.walks.Moves.{IsRecord, KeepsJobs, job_place}

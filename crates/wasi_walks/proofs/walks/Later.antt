@@ -2,6 +2,7 @@
 use Rattle.wasi_walks.proofs.Words.{Bool, List, Machine, None, Option, Some, Standing, Step, Streams, TcpRecord, WriteState, [], false, if◌then◌else◌, length, nat_lt, output_at, true, ℕ, ⊤, ◌∷◌, ◌≤◌}
 use Rattle.wasi_records.specs.Records.{tcp2_at}
 use Rattle.wasi_steps.specs.declared.guest_call.GuestCall.TheVariants as guest
+use Rattle.wasi_steps.specs.declared.guest_call.StreamCall.TheVariants as stream_call
 use Rattle.wasi_steps.specs.declared.step.Step.TheVariants as step
 use Rattle.wasi_streams.specs.Streams.{zeros}
 use Rattle.wasi_walks.proofs.walks.Moves.{Names, Own, ToWrite, Unused}
@@ -36,7 +37,7 @@ at_later m bytes (Some place) = in_later (tcp2_at m.store.records place)
     in_later (Some r) = of_later r.streams
 
 pub may_later : (m : Machine) (s : Step) (standing : Option Standing) → GivesLater (may_while m s standing)
-may_later m (step.Call ctx (guest.Write output bytes)) None = at_later m bytes (output_at m output)
-may_later m (step.Call ctx (guest.WriteZeroes output len)) None = at_later m (zeros len) (output_at m output)
+may_later m (step.Call ctx (guest.Stream (stream_call.Write output bytes))) None = at_later m bytes (output_at m output)
+may_later m (step.Call ctx (guest.Stream (stream_call.WriteZeroes output len))) None = at_later m (zeros len) (output_at m output)
 may_later m _ None = tt
 may_later m s (Some c) = tt

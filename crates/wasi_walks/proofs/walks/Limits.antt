@@ -3,16 +3,17 @@ use Rattle.std.proofs.Common.{◌≡◌, ℕ, zero, suc, ◌-◌, ◌<◌, ◌�
 use Rattle.std.proofs.lemmas.Bool.{eq-eqb}
 use Rattle.wasi_records.specs.Numbered.{item_at}
 use Rattle.wasi_records.specs.Records.{tcp2_at, tcp2_put}
-use Rattle.wasi_records.specs.Used.{held_in, used_by, used_in, used}
+use Rattle.tcp_records.specs.Used.{held_in, used_by}
+use Rattle.wasi_records.specs.Used.{used_in, used}
 use Rattle.wasi_records.proofs.Sums.{used_put}
 use Rattle.wasi_records.specs.declared.records.Record.{Record}
 use Rattle.wasi_records.specs.declared.records.Record.TheVariants.{Tcp}
-use Rattle.wasi_records.specs.declared.socket.TcpRecord.{TcpRecord}
-use Rattle.wasi_records.specs.declared.socket.Streams.{Streams}
+use Rattle.tcp_records.specs.declared.socket.TcpRecord.{TcpRecord}
+use Rattle.tcp_records.specs.declared.socket.Streams.{Streams}
 use Rattle.wasi_tcp.specs.declared.writer.WriteState.{WriteState}
 use Rattle.wasi_tcp.specs.Bounds.{held}
 use Rattle.host_store.specs.Limits.{limit_in, limit_or, left, most_of}
-use Rattle.wasi_records.specs.Halves.{with_writer}
+use Rattle.tcp_records.specs.Halves.{with_writer}
 use Rattle.wasi_walks.proofs.walks.Here.{Here, Found, put}
 
 -- a record that is found is in the list

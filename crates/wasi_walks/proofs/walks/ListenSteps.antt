@@ -9,7 +9,7 @@ use Rattle.wasi_world.specs.declared.ids.Ids.{Ids}
 use Rattle.host_tcp.specs.TcpCalls.{relisten_at}
 use Rattle.host_store.specs.Standing.{call_answered}
 use Rattle.wasi_p2.specs.Tcp.{start_listen_on}
-use Rattle.wasi_records.specs.Listening.{begin_listen_asks}
+use Rattle.tcp_records.specs.Listening.{begin_listen_asks}
 use Rattle.wasi_walks.proofs.walks.Here.{after_names, part_after}
 use Rattle.std.specs.Prelude.{not}
 use Rattle.wasi_tcp.specs.Listener.{has_accept}
@@ -19,6 +19,7 @@ use Rattle.wasi_walks.proofs.walks.Sockets.{begin_listen_walks, begun_listen_giv
 use Rattle.wasi_walks.proofs.walks.States.{Watching, OverWith, Between, socket_record, JoinedSo, At, Starts, given_any, AcceptedSo, Listens, OverIn, joined_given, Over, there}
 use Rattle.wasi_walks.proofs.walks.SocketSteps.{streams_walks}
 use Rattle.wasi_records.specs.Records.{tcp2_at, tcp2_put}
+use Rattle.wasi_steps.specs.declared.guest_call.TcpCall.{TcpCall}
 
 module _ {contexts : List WasiSocketsCtx} {line : ℕ} {origin : Step} {law : Law contexts line origin} where
   -- == a listen
@@ -64,7 +65,7 @@ module _ {contexts : List WasiSocketsCtx} {line : ℕ} {origin : Step} {law : La
 
   -- == an accept
 
-  module _ (c s : ℕ) (is : origin ≡ Step.Call c (GuestCall.TcpAccept s)) (m : Machine) (place : ℕ) (k : record_of (kind_at m.table s) ≡ Some place) where
+  module _ (c s : ℕ) (is : origin ≡ Step.Call c (GuestCall.Tcp (TcpCall.Accept s))) (m : Machine) (place : ℕ) (k : record_of (kind_at m.table s) ≡ Some place) where
     answered_so : (r : TcpRecord) (joined : Result (Unit {0}) Stop × TcpRecord) → Walks law (joined_if (Watching line m place Used) place r joined) (AcceptedSo line m place) (Give (with_records m.store (kept_accepted (tcp2_put m.store.records place r) joined)))
     answered_so r (Ok done, now) = give _
     answered_so r (Err why, now) = give _
@@ -85,7 +86,7 @@ module _ {contexts : List WasiSocketsCtx} {line : ℕ} {origin : Step} {law : La
     accept_at_walks (Some r) g = from (put_same (Watching line m place (Names 1)) place r g) (and_then (accept_listening_walks r r.listening refl g) accept_answered_walks)
 
   -- the handles of what was accepted
-  accepted_streams_walks : (c s p : ℕ) (m : Machine) (made : Result ℕ Stop × HandleTable) → origin ≡ Step.Call c (GuestCall.TcpAccept s) → HasRecord (Over m) p
+  accepted_streams_walks : (c s p : ℕ) (m : Machine) (made : Result ℕ Stop × HandleTable) → origin ≡ Step.Call c (GuestCall.Tcp (TcpCall.Accept s)) → HasRecord (Over m) p
       → Walks law (Between None (made_so p made.0) (record m { table = made.1 })) OverWith (accepted_streams (own_of line) p (side_at (tcp2_at m.store.records p)) (with_table m made))
   accepted_streams_walks c s p m (Ok socket, t) is here =
       let now : Machine = record m { table = t } in
@@ -97,11 +98,11 @@ module _ {contexts : List WasiSocketsCtx} {line : ℕ} {origin : Step} {law : La
       with_streams_walks socket (Err why, m) = give _
   accepted_streams_walks c s p m (Err why, t) is here = gives _ (Leaves _)
 
-  accepted_walks : (c s n : ℕ) (m : Machine) (done : Result ℕ Stop × Records) → origin ≡ Step.Call c (GuestCall.TcpAccept s) → JoinedSo done → Walks law (AcceptedSo line m n done) OverWith (accepted_asks (own_of line) s (with_store m done))
+  accepted_walks : (c s n : ℕ) (m : Machine) (done : Result ℕ Stop × Records) → origin ≡ Step.Call c (GuestCall.Tcp (TcpCall.Accept s)) → JoinedSo done → Walks law (AcceptedSo line m n done) OverWith (accepted_asks (own_of line) s (with_store m done))
   accepted_walks c s n m (Ok p, store) is j = and_then (accept c s p j.was is refl refl j.found) (λ made. accepted_streams_walks c s p (record m { store = store }) made is (record { was = j.was; found = j.found }))
   accepted_walks c s n m (Err why, store) is j = gives _ (Leaves _)
 
-  pub accept_on_walks : (c s : ℕ) (m : Machine) (o : Option ℕ) → socket_at m s ≡ o → Has (handles_of origin) s → origin ≡ Step.Call c (GuestCall.TcpAccept s) → Walks law (Starts m Unused) OverWith (accept_on m (first_ids line) s o)
+  pub accept_on_walks : (c s : ℕ) (m : Machine) (o : Option ℕ) → socket_at m s ≡ o → Has (handles_of origin) s → origin ≡ Step.Call c (GuestCall.Tcp (TcpCall.Accept s)) → Walks law (Starts m Unused) OverWith (accept_on m (first_ids line) s o)
   accept_on_walks c s m None e named is = gives _ (Spends _ refl)
   accept_on_walks c s m (Some place) e named is =
       let k = socket_record (kind_at m.table s) place e in

@@ -8,19 +8,19 @@ use Rattle.wasi_walks.proofs.Words.{ap, bind, handles_of, if◌then◌else◌, i
 use Rattle.wasi_world.specs.declared.ids.Ids.{Ids}
 use Rattle.host_udp.specs.DatagramCalls.{begins_receive, ready_incoming_at}
 use Rattle.host_store.specs.Jobs.{with_job}
-use Rattle.wasi_records.specs.Looks.{begins_accept, socket_begins}
-use Rattle.wasi_records.specs.Receiving.{would_receive, has_none}
+use Rattle.tcp_records.specs.Looks.{begins_accept, socket_begins}
+use Rattle.udp_records.specs.Receiving.{would_receive, has_none}
 use Rattle.wasi_host.specs.Polling.{begins_on, tcp_begins, udp_begins}
 use Rattle.host_store.specs.Readiness.{ready_at}
-use Rattle.wasi_records.specs.Looks.{ready_idle, ready_listening, ready_socket_by}
-use Rattle.wasi_records.specs.Receiving.{fetch_asks, look_incoming, receives, with_incoming}
+use Rattle.tcp_records.specs.Looks.{ready_idle, ready_listening, ready_socket_by}
+use Rattle.udp_records.specs.Receiving.{fetch_asks, look_incoming, receives, with_incoming}
 use Rattle.wasi_records.specs.Records.{open_at, tcp2_at, udp2_at}
 use Rattle.host_store.specs.Store.{with_open_udp}
-use Rattle.wasi_records.specs.declared.datagrams.Incoming.{Incoming}
-use Rattle.wasi_records.specs.declared.datagrams.Receiving.{Receiving}
+use Rattle.udp_records.specs.declared.datagrams.Incoming.{Incoming}
+use Rattle.udp_records.specs.declared.datagrams.Receiving.{Receiving}
 use Rattle.wasi_jobs.specs.declared.job.HostJob.TheVariants.{Receive}
-use Rattle.wasi_records.specs.declared.udp.OpenUdp.{OpenUdp}
-use Rattle.wasi_records.specs.declared.udp.UdpRecord.{UdpRecord}
+use Rattle.udp_records.specs.declared.udp.OpenUdp.{OpenUdp}
+use Rattle.udp_records.specs.declared.udp.UdpRecord.{UdpRecord}
 use Rattle.wasi_tcp.specs.Listener.{has_accept}
 use Rattle.wasi_walks.specs.Licence.{Receives}
 use Rattle.wasi_walks.proofs.walks.Here.{MayBegin, after}

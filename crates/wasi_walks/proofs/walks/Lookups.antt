@@ -12,12 +12,13 @@ use Rattle.wasi_walks.proofs.Words.{ap, ask_made, bind, context_at, entry, inl, 
 use Rattle.wasi_world.specs.declared.asks.Polled.{Polled}
 use Rattle.wasi_world.specs.Typed.{told_names}
 use Rattle.wasi_host.specs.HandleDrops.{answered, at_once}
-use Rattle.wasi_records.specs.NameLookup.{lookup_told, next_of, turn_lookup_at, is_looking}
+use Rattle.lookup_records.specs.NameLookup.{lookup_told, next_of, is_looking}
+use Rattle.wasi_records.specs.Records.{turn_lookup_at}
 use Rattle.host_lookups.specs.NameLookupCalls.{drop_lookup_at, looked_up, lookup_handle, next_at, resolve_host, resolved, with_lookup}
 use Rattle.wasi_records.specs.Records.{lookup_at, lookup_of, lookup_put, lookup_pushed}
-use Rattle.wasi_records.specs.declared.name_lookup.Lookup.{Lookup}
-use Rattle.wasi_records.specs.declared.name_lookup.Lookup.TheVariants.{InProgress, Found, Failed}
-use Rattle.wasi_records.specs.declared.name_lookup.LookupOp.{LookupOp}
+use Rattle.lookup_records.specs.declared.name_lookup.Lookup.{Lookup}
+use Rattle.lookup_records.specs.declared.name_lookup.Lookup.TheVariants.{InProgress, Found, Failed}
+use Rattle.lookup_records.specs.declared.name_lookup.LookupOp.{LookupOp}
 use Rattle.host_store.specs.declared.kind.Kind.TheVariants.{Lookup as LookupHandle}
 use Rattle.wasi_records.specs.declared.records.Record.{Record}
 use Rattle.wasi_records.specs.declared.records.Record.TheVariants.{Lookup as LookupRecord}
@@ -30,8 +31,9 @@ use Rattle.wasi_walks.proofs.walks.Jobs.{lookup_is_record, may_begin_one}
 use Rattle.wasi_jobs.specs.declared.job.HostJob.TheVariants as jobs
 use Rattle.std.specs.Prelude.{length, slice_get}
 use Rattle.wasi_walks.proofs.walks.States.{Numbering, Over, OverWith, Sets, Starts}
-use Rattle.wasi_records.specs.declared.slot.Slot.{Slot}
+use Rattle.tcp_records.specs.declared.slot.Slot.{Slot}
 use Rattle.wasi_walks.proofs.Places.{slot_sort, there_push, there_put, input_sort, lookup_sort, other_push, other_put, output_sort, push_found, push_last, push_some, put_found, put_some, tcp_sort, udp_sort}
+use Rattle.wasi_steps.specs.declared.guest_call.NameCall.{NameCall}
 
 -- == the sockets are the same
 same_sockets : {new : LookupOp → Type 0} (xs : List Record) → SameSockets new xs xs
@@ -133,7 +135,7 @@ module _ {contexts : List WasiSocketsCtx} {line : ℕ} {origin : Step} {law : La
         (a.0, λ told fits. (k told).along (es ++ entry (own_of line) (Call.Lookup host) told ∷ []) (a.1 told fits));
   }
 
-  module _ (m : Machine) (idle : m.store.standing ≡ None) (c network : ℕ) (name : List ℕ) (is : origin ≡ Step.Call c (GuestCall.Resolve network name)) where
+  module _ (m : Machine) (idle : m.store.standing ≡ None) (c network : ℕ) (name : List ℕ) (is : origin ≡ Step.Call c (GuestCall.Names (NameCall.Resolve network name))) where
     -- where it has no handle it is given back
     looked_up_walks : (l : Lookup) (made : Result ℕ Stop × HandleTable) → SameNext m.table made → Walks law (Recorded m l made.1) OverWith (Give (looked_up m l made))
     looked_up_walks l (Ok handle, t) k = move (Lists _ _ (job_begins m l)) (gives _ (Leaves _))

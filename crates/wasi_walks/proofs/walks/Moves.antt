@@ -23,15 +23,15 @@ use Rattle.std.specs.Prelude.{◌+◌}
 use Rattle.wasi_world.specs.declared.datagram.IncomingDatagram.{IncomingDatagram}
 use Rattle.wasi_world.specs.declared.datagram.OutgoingDatagram.{OutgoingDatagram}
 use Rattle.wasi_world.specs.Operation.{Given, Waits, Done, Refused}
-use Rattle.wasi_records.specs.Binding.{left_of}
-use Rattle.wasi_records.specs.Holding.{is_held}
-use Rattle.wasi_records.specs.Sockets.{new_record}
-use Rattle.wasi_records.specs.Datagrams.{has_streams, sends, udp_connect_left, udp_reconnect_left, with_sending}
-use Rattle.wasi_records.specs.Receiving.{receive_left, with_receiving}
-use Rattle.wasi_records.specs.declared.datagrams.Incoming.{Incoming as IncomingStream}
-use Rattle.wasi_records.specs.declared.datagrams.Outgoing.{Outgoing as OutgoingStream}
-use Rattle.wasi_records.specs.declared.datagrams.Receiving.{Receiving}
-use Rattle.wasi_records.specs.declared.datagrams.Sending.{Sending}
+use Rattle.record_common.specs.Binding.{left_of}
+use Rattle.tcp_records.specs.Holding.{is_held}
+use Rattle.tcp_records.specs.Sockets.{new_record}
+use Rattle.udp_records.specs.Datagrams.{has_streams, sends, udp_connect_left, udp_reconnect_left, with_sending}
+use Rattle.udp_records.specs.Receiving.{receive_left, with_receiving}
+use Rattle.udp_records.specs.declared.datagrams.Incoming.{Incoming as IncomingStream}
+use Rattle.udp_records.specs.declared.datagrams.Outgoing.{Outgoing as OutgoingStream}
+use Rattle.udp_records.specs.declared.datagrams.Receiving.{Receiving}
+use Rattle.udp_records.specs.declared.datagrams.Sending.{Sending}
 use Rattle.host_store.specs.declared.store.BlockingCall.{BlockingCall}
 use Rattle.host_store.specs.declared.kind.Kind.TheVariants.{Tcp3, Udp3}
 use Rattle.host_streams.specs.Blocking.{blocking_handles}
@@ -43,18 +43,18 @@ use Rattle.host_store.specs.Kinds.{has_no_child, udp_of}
 use Rattle.wasi_udp.specs.Connect.{connect_start}
 use Rattle.wasi_udp.specs.Receive.{receive_start, wanting}
 use Rattle.wasi_udp.specs.Send.{at_remote, send_start}
-use Rattle.wasi_records.specs.declared.udp.OpenUdp.{OpenUdp}
-use Rattle.wasi_records.specs.declared.udp.UdpRecord.{UdpRecord}
-use Rattle.wasi_records.specs.declared.udp.UdpInProgress.{UdpInProgress}
-use Rattle.wasi_records.specs.Udp.{udp_bind_progress, udp_create_left, with_udp_progress, without_udp_socket}
+use Rattle.udp_records.specs.declared.udp.OpenUdp.{OpenUdp}
+use Rattle.udp_records.specs.declared.udp.UdpRecord.{UdpRecord}
+use Rattle.udp_records.specs.declared.udp.UdpInProgress.{UdpInProgress}
+use Rattle.udp_records.specs.Udp.{udp_bind_progress, udp_create_left, with_udp_progress, without_udp_socket}
 use Rattle.host_udp.specs.UdpCreates.{with_create}
 use Rattle.wasi_udp.specs.Bind.{bind_operation as udp_bind_operation}
 use Rattle.wasi_udp.specs.Create.{Create}
 use Rattle.wasi_udp.specs.Socket.{asker_of}
 use Rattle.wasi_udp.specs.declared.bind.UdpBindStage.{UdpBindStage}
-use Rattle.wasi_records.specs.Ends.{ends_of}
-use Rattle.wasi_records.specs.Slots.{slot_pushed}
-use Rattle.wasi_records.specs.declared.slot.Slot.{Slot}
+use Rattle.tcp_records.specs.Ends.{ends_of}
+use Rattle.wasi_records.specs.Records.{slot_pushed}
+use Rattle.tcp_records.specs.declared.slot.Slot.{Slot}
 use Rattle.host_store.specs.declared.kind.ConnectionEnd.{ConnectionEnd}
 use Rattle.wasi_records.specs.declared.records.Record.{Record}
 use Rattle.wasi_jobs.specs.declared.job.HostJob.{HostJob}
@@ -62,6 +62,10 @@ use Rattle.wasi_walks.specs.Licence.{BindsAnywhere, IsSendOf, IsUdpBindTo, IsUdp
 use Rattle.wasi_tcp.specs.declared.bind.BindStage.TheVariants.{Check}
 use Rattle.wasi_tcp.specs.declared.accept.AcceptStage.TheVariants as accept
 pub use Rattle.wasi_walks.proofs.walks.Premises.{SameSockets, IsSettled, KeepsBinding, HasBinding, HasListen, GoesOn, IsOfHandle, IsQuestionOf, IsKnown, IsUdpQuestionOf, IsOn, OfSocket, OfReader, OfWriter, IsConnecting, TakesNone, Plain, WriterMoves, Collects, Permits, Lasts, LastsAfter, Closes, tcp_place, udp_place, record_of, udp_record_of, MakesPlain, IsStreamCall, LooksAtPollables, IsCall, kind_of, Creates, CreatesUdp, MakesUdpFor, ListensFor, ListensForHandle, IsMadeUnder, CreateIsFor, Begun, Recalled, LooksUp, IsOpened, IsOfOld, Marks, ANetwork, AStream, AnAcceptedStream, APollable, AUdpPollable, ALookup, ALookupPollable, APlain, APlainPollable, AnEnd}
+use Rattle.wasi_steps.specs.declared.guest_call.TcpCall.{TcpCall}
+use Rattle.wasi_steps.specs.declared.guest_call.UdpCall.{UdpCall}
+use Rattle.wasi_steps.specs.declared.guest_call.P3TcpCall.{P3TcpCall}
+use Rattle.wasi_steps.specs.declared.guest_call.P3UdpCall.{P3UdpCall}
 
 -- == records of a bind
 abbrev pub begun_bind : OpId → OpId → TcpRecord → IpSocketAddress → Operation
@@ -224,9 +228,9 @@ receiving_now o inc op = record o { incoming = Some (with_receiving inc (Receivi
 -- The line begins one on this socket, by the handle that it names: the call that keeps the operation, the operation, and what is
 -- polled of it: a send goes by the remote address of now, and a receive takes whatever comes.
 pub data StartsDatagram (line : ℕ) (origin : Step) (t : HandleTable) (place : ℕ) (o : OpenUdp) : (Operation → BesideCall) → Operation → Operation → Type 0 where
-  StartsSend : (c s : ℕ) (d : OutgoingDatagram) (bound : Bool) → origin ≡ Step.Call c (GuestCall.P3UdpSend s d) → kind_at t s ≡ Some (Udp3 place) → (bound ≡ true → o.inner.bound ≡ true)
+  StartsSend : (c s : ℕ) (d : OutgoingDatagram) (bound : Bool) → origin ≡ Step.Call c (GuestCall.P3Udp (P3UdpCall.Send s d)) → kind_at t s ≡ Some (Udp3 place) → (bound ≡ true → o.inner.bound ≡ true)
       → StartsDatagram line origin t place o (Send place) (send_start (own_of line) o.inner d.bytes d.remote_address bound) (at_remote o.inner.remote (send_start (own_of line) o.inner d.bytes d.remote_address bound))
-  StartsReceive : (c s : ℕ) (bound : Bool) → origin ≡ Step.Call c (GuestCall.P3UdpReceive s) → kind_at t s ≡ Some (Udp3 place) → (bound ≡ true → o.inner.bound ≡ true)
+  StartsReceive : (c s : ℕ) (bound : Bool) → origin ≡ Step.Call c (GuestCall.P3Udp (P3UdpCall.Receive s)) → kind_at t s ≡ Some (Udp3 place) → (bound ≡ true → o.inner.bound ≡ true)
       → StartsDatagram line origin t place o (Receive place) (receive_start (own_of line) o.inner bound) (wanting None (receive_start (own_of line) o.inner bound))
 
 -- the same of a call that stands beside others
@@ -254,7 +258,7 @@ pub data Move (line : ℕ) (origin : Step) : Here → Here → Type 0 where
   Leaves : (h : Here) → Move line origin h (record h { at = None; made = Past })
   Spends : (h : Here) → h.own ≡ Unused → Move line origin h (record h { own = Used })
   -- room is made for a socket of a context, whose limit is kept, by a line that creates one
-  MakesRoom : (h : Here) (c : ℕ) (family : SocketAddressFamily) (ctx : WasiSocketsCtx) → origin ≡ Step.Call c (GuestCall.TcpCreate family) → Move line origin h (record h { machine = with_room h.machine ctx })
+  MakesRoom : (h : Here) (c : ℕ) (family : SocketAddressFamily) (ctx : WasiSocketsCtx) → origin ≡ Step.Call c (GuestCall.Tcp (TcpCall.Create family)) → Move line origin h (record h { machine = with_room h.machine ctx })
   -- the record
   Changes : (h : Here) (place : ℕ) (r now : TcpRecord) → Found h place r → Plain (h.made ≡ Emptied (Tcp3 place)) (IsOfOld h place) r now → Move line origin h (put h place now)
   ClosesReader : (h : Here) (place : ℕ) (r : TcpRecord) (s : Streams) → Found h place r → r.streams ≡ Some s → Move line origin h (put h place (with_reader r s ReadState.Closed))
@@ -280,10 +284,10 @@ pub data Move (line : ℕ) (origin : Step) : Here → Here → Type 0 where
   Forgets : (h : Here) (place : ℕ) (r : TcpRecord) (l : Listener) (c : ErrorCode) → Found h place r → r.listening ≡ Accepts l → l.accept ≡ Accepting.Failed c → Move line origin h (put h place (accepting_now r l Accepting.Idle))
   -- an accept: nothing was made yet; and what was handed over is taken from its listener, and joins the records
   Watches : (h : Here) → h.own ≡ Unused → Move line origin h (record h { made = Unmade })
-  Joins : (h : Here) (c handle place : ℕ) (r : TcpRecord) (l : Listener) (new : OpId) (peer : IpSocketAddress) → origin ≡ Step.Call c (GuestCall.TcpAccept handle) → record_of (kind_at h.machine.table handle) ≡ Some place → h.made ≡ Unmade → Found h place r → r.listening ≡ Accepts l → l.accept ≡ Accepting.Arrived new peer
+  Joins : (h : Here) (c handle place : ℕ) (r : TcpRecord) (l : Listener) (new : OpId) (peer : IpSocketAddress) → origin ≡ Step.Call c (GuestCall.Tcp (TcpCall.Accept handle)) → record_of (kind_at h.machine.table handle) ≡ Some place → h.made ≡ Unmade → Found h place r → r.listening ≡ Accepts l → l.accept ≡ Accepting.Arrived new peer
       → Move line origin h (joining h (tcp2_put h.machine.store.records place (accepting_now r l Accepting.Idle)) (joined l new peer))
   -- the same in 0.3, where a fault gives a socket too
-  JoinsPlain : (h : Here) (c listener remaining place : ℕ) (r : TcpRecord) (l : Listener) (new : OpId) (peer : IpSocketAddress) → origin ≡ Step.Call c (GuestCall.P3Accept listener remaining) → record_of (kind_at h.machine.table listener) ≡ Some place → h.made ≡ Unmade → Found h place r → r.listening ≡ Accepts l → l.accept ≡ Accepting.Arrived new peer
+  JoinsPlain : (h : Here) (c listener remaining place : ℕ) (r : TcpRecord) (l : Listener) (new : OpId) (peer : IpSocketAddress) → origin ≡ Step.Call c (GuestCall.P3Tcp (P3TcpCall.Accept listener remaining)) → record_of (kind_at h.machine.table listener) ≡ Some place → h.made ≡ Unmade → Found h place r → r.listening ≡ Accepts l → l.accept ≡ Accepting.Arrived new peer
       → Move line origin h (let records = tcp2_put h.machine.store.records place (accepting_now r l Accepting.Idle) in joins_as h records (joined_plain l new peer) (Joined P3 (length records)))
   JoinsFault : (h : Here) (place : ℕ) (r : TcpRecord) (l : Listener) (c : ErrorCode) → h.made ≡ Unmade → Found h place r → r.listening ≡ Accepts l → l.accept ≡ Accepting.Failed c
       → Move line origin h (let records = tcp2_put h.machine.store.records place (accepting_now r l Accepting.Idle) in joins_as h records (faulted l c) (Faulted (length records)))
@@ -307,7 +311,7 @@ pub data Move (line : ℕ) (origin : Step) : Here → Here → Type 0 where
   StandsUdpCreate : (h : Here) (ids : Ids) (place : ℕ) (face : Interface) (create : Create) → NoStart h → h.made ≡ Awaited face create.operation.who.side place → FoundUdp h place (UdpRecord.Creating create) → (ids.line ≡ line) ⊎ (origin ≡ Step.Poll ids.line)
       → Move line origin h (record h { machine = record h.machine { store = record h.machine.store { standing = Some (standing_as ids (StandingCall.UdpCreate place face)) } } })
   -- the datagram streams of a UDP socket: what they are made under, and the connect that comes before, until it is over or pending
-  RemembersStreams : (h : Here) (c handle place : ℕ) (remote : Option IpSocketAddress) → origin ≡ Step.Call c (GuestCall.UdpStream handle remote) → udp_of (kind_at h.machine.table handle) ≡ Some place → (o : OpenUdp) → FoundUdp h place (UdpRecord.Open o) → has_streams o ≡ false
+  RemembersStreams : (h : Here) (c handle place : ℕ) (remote : Option IpSocketAddress) → origin ≡ Step.Call c (GuestCall.Udp (UdpCall.Stream handle remote)) → udp_of (kind_at h.machine.table handle) ≡ Some place → (o : OpenUdp) → FoundUdp h place (UdpRecord.Open o) → has_streams o ≡ false
       → Move line origin h (record h { made = ToStream line handle place })
   RecallsStreams : (h : Here) (ids : Ids) (place handle : ℕ) → h.machine.store.standing ≡ Some (standing_as ids (StandingCall.UdpConnect place handle)) → h.own ≡ Unused → Move line origin h (record h { made = ToStream ids.line handle place; own = ToConnect place })
   BeginsUdpConnect : (h : Here) (place : ℕ) (o : OpenUdp) (a : IpSocketAddress) (bound : Bool) → h.at ≡ Some (place, line) → FoundUdp h place (UdpRecord.Open o) → IsUdpConnectTo a origin → (bound ≡ true → o.inner.bound ≡ true) → has_streams o ≡ false → h.own ≡ Unused

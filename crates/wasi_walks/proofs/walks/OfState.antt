@@ -20,26 +20,28 @@ use Rattle.host_store.specs.declared.beside.Beside.{Beside}
 use Rattle.host_lookups.specs.Resolves.{begun_lookup}
 use Rattle.host_store.specs.Kinds.{udp_kind, kind_at, tcp3_of, udp_of}
 use Rattle.host_store.specs.declared.kind.Kind.TheVariants.{Listen3, Result3, Tcp3}
-use Rattle.wasi_records.specs.Holding.{has_listener}
-use Rattle.wasi_records.specs.Udp.{with_udp_inner}
+use Rattle.tcp_records.specs.Holding.{has_listener}
+use Rattle.udp_records.specs.Udp.{with_udp_inner}
 use Rattle.wasi_records.specs.declared.records.Record.{Record}
-use Rattle.wasi_records.specs.declared.udp.OpenUdp.{OpenUdp}
-use Rattle.wasi_records.specs.declared.udp.UdpRecord.{UdpRecord}
+use Rattle.udp_records.specs.declared.udp.OpenUdp.{OpenUdp}
+use Rattle.udp_records.specs.declared.udp.UdpRecord.{UdpRecord}
 use Rattle.wasi_udp.specs.Create.{Create, after_create as udp_after_create}
 use Rattle.wasi_udp.specs.Receive.{IsLeftOfReceive, receive_start, wanting}
 use Rattle.wasi_udp.specs.Send.{IsLeftOfSend, at_remote, send_start}
 use Rattle.wasi_udp.specs.Shape.{Socket as UdpSocket}
 use Rattle.wasi_world.specs.Typed.{told_names}
 use Rattle.wasi_udp.specs.Socket.{after_local as udp_after_local, after_peer}
+use Rattle.wasi_steps.specs.declared.guest_call.TcpCall.{TcpCall}
+use Rattle.wasi_steps.specs.declared.guest_call.P3TcpCall.{P3TcpCall}
 
 -- a handle is made, which is of this kind under this parent; what the line has made is this then
 pub data Handles (origin : Step) (h : Here) : Kind → Option ℕ → Made → Type 0 where
   OfLine : (kind : Kind) (parent : Option ℕ) (sock : Option OpId) → Marks origin h kind parent sock
       → Handles origin h kind parent h.made
-  OfAccepted : (c listener place : ℕ) (r : TcpRecord) → origin ≡ Step.Call c (GuestCall.TcpAccept listener) → h.made ≡ Joined P2 place
+  OfAccepted : (c listener place : ℕ) (r : TcpRecord) → origin ≡ Step.Call c (GuestCall.Tcp (TcpCall.Accept listener)) → h.made ≡ Joined P2 place
       → h.own ≡ Used → Found h place r → Handles origin h (Tcp2 place) (Some listener)
       (Marked h.machine.table.next place)
-  OfPlain : (c listener remaining place : ℕ) (r : TcpRecord) → origin ≡ Step.Call c (GuestCall.P3Accept listener remaining)
+  OfPlain : (c listener remaining place : ℕ) (r : TcpRecord) → origin ≡ Step.Call c (GuestCall.P3Tcp (P3TcpCall.Accept listener remaining))
       → (h.made ≡ Joined P3 place) ⊎ (h.made ≡ Faulted place) → h.own ≡ Used → Found h place r
       → Handles origin h (Tcp3 place) (Some listener) Past
   OfListener : (n handle reached place : ℕ) (r : TcpRecord) → NoStart h → h.made ≡ ToListen n (Some handle) reached

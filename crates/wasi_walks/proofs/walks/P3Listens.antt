@@ -12,17 +12,17 @@ use Rattle.wasi_tcp.specs.declared.socket.TcpState.{TcpState}
 use Rattle.wasi_tcp.specs.declared.socket.TcpState.TheVariants as state
 use Rattle.wasi_tcp.specs.Listener.{accept_end, has_accept, ready_end}
 use Rattle.wasi_tcp.specs.Shape.{Socket}
-use Rattle.wasi_records.specs.declared.socket.TcpRecord.{TcpRecord}
-use Rattle.wasi_records.specs.declared.tcp_binding.InProgress.TheVariants as doing
-use Rattle.wasi_records.specs.declared.tcp_listening.Listening.{Listening}
-use Rattle.wasi_records.specs.declared.tcp_listening.Listening.TheVariants.{Not, Accepts}
-use Rattle.wasi_records.specs.Holding.{has_listener}
-use Rattle.wasi_records.specs.InProgress.{is_nothing}
-use Rattle.wasi_records.specs.Listening.{accept_listening, accept_record_asks, listen_once, look_accept_asks, look_listening, poll_listen_asks}
-use Rattle.wasi_records.specs.Names.{own_of}
+use Rattle.tcp_records.specs.declared.socket.TcpRecord.{TcpRecord}
+use Rattle.tcp_records.specs.declared.tcp_binding.InProgress.TheVariants as doing
+use Rattle.tcp_records.specs.declared.tcp_listening.Listening.{Listening}
+use Rattle.tcp_records.specs.declared.tcp_listening.Listening.TheVariants.{Not, Accepts}
+use Rattle.tcp_records.specs.Holding.{has_listener}
+use Rattle.tcp_records.specs.InProgress.{is_nothing}
+use Rattle.tcp_records.specs.Listening.{accept_listening, accept_record_asks, listen_once, look_accept_asks, look_listening, poll_listen_asks}
+use Rattle.record_common.specs.Names.{own_of}
 use Rattle.wasi_records.specs.Records.{tcp2_at, tcp2_put}
-use Rattle.wasi_records.specs.Sockets.{new_record, with_progress}
-use Rattle.wasi_records.specs.Stops.{Code}
+use Rattle.tcp_records.specs.Sockets.{new_record, with_progress}
+use Rattle.record_common.specs.Stops.{Code}
 use Rattle.host_store.specs.declared.kind.Interface.TheVariants.{P3}
 use Rattle.host_store.specs.declared.kind.Kind.TheVariants.{Listen3, Tcp3}
 use Rattle.host_store.specs.declared.machine.Machine.{Machine}
@@ -40,6 +40,7 @@ use Rattle.wasi_p3.specs.Lines.{in_host}
 use Rattle.wasi_p3.specs.Listening.{accept, accept_by, hand_over, handed, listen_to}
 use Rattle.wasi_machine.specs.Machine.{first_ids}
 use Rattle.wasi_steps.specs.declared.guest_call.GuestCall.TheVariants as guest
+use Rattle.wasi_steps.specs.declared.guest_call.P3TcpCall.TheVariants as p3_tcp_call
 use Rattle.wasi_steps.specs.declared.step.Step.{Step}
 use Rattle.wasi_steps.specs.declared.step.Step.TheVariants as step
 use Rattle.wasi_steps.specs.Steps.{handles_of}
@@ -234,7 +235,7 @@ module _ {contexts : List WasiSocketsCtx} {line : ℕ} {origin : Step} {law : La
       (λ r g. from (put_same (At line m place (Names 1)) place r g) (call _ (look_listening_walks m place r r.listening refl g) (λ c now. gives _ (Leaves _)) (λ answer now. gives _ (Leaves _))))
 
   -- == an accept: what was taken joins the records
-  accept_listening_walks : (c listener remaining : ℕ) → origin ≡ step.Call c (guest.P3Accept listener remaining) → (m : Machine) (place : ℕ) → record_of (kind_at m.table listener) ≡ Some place → (r : TcpRecord) (l : Listening) → r.listening ≡ l → tcp2_at m.store.records place ≡ Some r
+  accept_listening_walks : (c listener remaining : ℕ) → origin ≡ step.Call c (guest.P3Tcp (p3_tcp_call.Accept listener remaining)) → (m : Machine) (place : ℕ) → record_of (kind_at m.table listener) ≡ Some place → (r : TcpRecord) (l : Listening) → r.listening ≡ l → tcp2_at m.store.records place ≡ Some r
       → Walks law (put (Watching line m place (Names 1)) place r) (TookPlain (Watching line m place Used) place) (accept_listening (first_ids line) r l)
   accept_listening_walks c listener remaining is m place k r (Accepts l) e g =
       let begins = not (has_accept l.accept) in
@@ -249,19 +250,19 @@ module _ {contexts : List WasiSocketsCtx} {line : ℕ} {origin : Step} {law : La
         from (ap (λ (o : Option TcpRecord). joins_as (Watching line m place Used) records (new_record socket) (taken_in o (length records))) (push_finds tcp_sort records (new_record socket))) (give _)
     keep_walks Pending now = gives _ (Leaves _)
 
-    accept_walks : (c listener remaining : ℕ) → origin ≡ step.Call c (guest.P3Accept listener remaining) → record_of (kind_at m.table listener) ≡ Some place → Walks law (Watching line m place (Names 1)) (TakenIn m) (accept_in (first_ids line) place m.store)
+    accept_walks : (c listener remaining : ℕ) → origin ≡ step.Call c (guest.P3Tcp (p3_tcp_call.Accept listener remaining)) → record_of (kind_at m.table listener) ≡ Some place → Walks law (Watching line m place (Names 1)) (TakenIn m) (accept_in (first_ids line) place m.store)
     accept_walks c listener remaining is k =
         look (λ r. goes_on (Call Code (λ s. r) (λ s now. with_socket s place now) (accept_record_asks (first_ids line))) keep_accepted) (tcp2_at m.store.records place) (move (SpendsNames _ 1 refl) (gives _ (Leaves _)))
         (λ r g. from (put_same (Watching line m place (Names 1)) place r g)
         (call _ (accept_listening_walks c listener remaining is m place k r r.listening refl g) (λ c now. gives _ (Leaves _)) keep_walks))
 
   -- and gets a handle
-  hand_walks : (c listener remaining : ℕ) → origin ≡ step.Call c (guest.P3Accept listener remaining) → (m : Machine) (p : ℕ) → HasAt m.store p → Walks law (Between None (taken_in (tcp2_at m.store.records p) p) m) OverWith (hand_over (own_of line) listener p m)
+  hand_walks : (c listener remaining : ℕ) → origin ≡ step.Call c (guest.P3Tcp (p3_tcp_call.Accept listener remaining)) → (m : Machine) (p : ℕ) → HasAt m.store p → Walks law (Between None (taken_in (tcp2_at m.store.records p) p) m) OverWith (hand_over (own_of line) listener p m)
   hand_walks c listener remaining is m p here =
       let made : (taken_in (tcp2_at m.store.records p) p ≡ Joined P3 p) ⊎ (taken_in (tcp2_at m.store.records p) p ≡ Faulted p) = subst (λ (o : Option TcpRecord). (taken_in o p ≡ Joined P3 p) ⊎ (taken_in o p ≡ Faulted p)) (sym here.found) (which here.was.inner.state p) in
       call {mid = λ made. Over (record m { table = made.1 })} _ (record { along = λ es i. law.asks es (Between None (taken_in (tcp2_at m.store.records p) p) m) _ _ _ (MarksPlain c listener remaining p here.was is made refl here.found) tt i }) (λ why t. give _) (λ socket t. give _)
 
-  pub p3_accept_walks : (m : Machine) (c listener remaining : ℕ) → Has (handles_of origin) listener → origin ≡ step.Call c (guest.P3Accept listener remaining) → Walks law (Starts m Unused) OverWith (accept (first_ids line) true remaining listener m)
+  pub p3_accept_walks : (m : Machine) (c listener remaining : ℕ) → Has (handles_of origin) listener → origin ≡ step.Call c (guest.P3Tcp (p3_tcp_call.Accept listener remaining)) → Walks law (Starts m Unused) OverWith (accept (first_ids line) true remaining listener m)
   p3_accept_walks m c listener remaining named is =
       look (λ place. accept_by (first_ids line) true listener place (remaining == 0)) (listen3_at m listener) (gives _ (Spends _ refl))
       (λ place e. let k = listen3_record (kind_at m.table listener) place e in move (Reaches _ listener place named k) (by_remaining place k (remaining == 0)))

@@ -10,8 +10,8 @@ use Rattle.wasi_world.specs.Asks.{Asks, Give}
 use Rattle.socket_common.specs.Options.{value_set, zero_test, refused_before, set_of_side_asks, get_of_side_asks}
 use Rattle.wasi_tcp.specs.Shape.{Socket}
 use Rattle.wasi_tcp.specs.Options.{get_where, set_where, option_side, get_option_asks, set_option_asks, set_backlog_asks}
-use Rattle.wasi_records.specs.declared.socket.TcpRecord.{TcpRecord}
-use Rattle.wasi_records.specs.Sockets.{with_inner, tell_local_asks, tell_remote_asks}
+use Rattle.tcp_records.specs.declared.socket.TcpRecord.{TcpRecord}
+use Rattle.tcp_records.specs.Sockets.{with_inner, tell_local_asks, tell_remote_asks}
 use Rattle.host_store.specs.declared.machine.Machine.{Machine}
 use Rattle.host_store.specs.Kinds.{kind_at}
 use Rattle.host_store.specs.Machine.{own_of, tcp3_at}

@@ -21,16 +21,17 @@ use Rattle.wasi_tcp.specs.Addresses.{still_connected}
 use Rattle.wasi_tcp.specs.Connecting.{in_socket}
 use Rattle.wasi_tcp.specs.Halves.{polled_answer, taken_receive, taken_send, take_receive, take_send}
 use Rattle.wasi_records.specs.declared.records.Record.{Record}
-use Rattle.wasi_records.specs.declared.slot.Slot.{Slot}
-use Rattle.wasi_records.specs.declared.slot.StreamResult.TheVariants.{Dropped}
-use Rattle.wasi_records.specs.declared.socket.Streams.{Streams}
-use Rattle.wasi_records.specs.declared.socket.TcpRecord.{TcpRecord}
-use Rattle.wasi_records.specs.Ends.{ends_of, half_of, look_to_read, look_to_write, read_by_half, receive_half, receive_in, receive_taken, send_half, send_in, send_taken, take_receive_end, take_send_end, write_by_half}
-use Rattle.wasi_records.specs.Names.{own_of}
+use Rattle.tcp_records.specs.declared.slot.Slot.{Slot}
+use Rattle.tcp_records.specs.declared.slot.StreamResult.TheVariants.{Dropped}
+use Rattle.tcp_records.specs.declared.socket.Streams.{Streams}
+use Rattle.tcp_records.specs.declared.socket.TcpRecord.{TcpRecord}
+use Rattle.tcp_records.specs.Ends.{ends_of, half_of, look_to_read, look_to_write, read_by_half, receive_half, receive_in, receive_taken, send_half, send_in, send_taken, take_receive_end, take_send_end, write_by_half}
+use Rattle.record_common.specs.Names.{own_of}
 use Rattle.wasi_records.specs.Records.{tcp2_at, tcp2_put}
-use Rattle.wasi_records.specs.Slots.{StreamEnd, result_of, slot_at, slot_for}
-use Rattle.wasi_records.specs.Sockets.{with_inner}
-use Rattle.wasi_records.specs.Stops.{StopOf, Trap}
+use Rattle.tcp_records.specs.Slots.{StreamEnd, result_of, slot_for}
+use Rattle.wasi_records.specs.Records.{slot_at}
+use Rattle.tcp_records.specs.Sockets.{with_inner}
+use Rattle.record_common.specs.Stops.{StopOf, Trap}
 use Rattle.host_store.specs.declared.kind.ConnectionEnd.{ConnectionEnd}
 use Rattle.host_store.specs.declared.kind.Kind.{Kind}
 use Rattle.host_store.specs.declared.kind.Kind.TheVariants.{Receive3, Result3, Send3, Tcp3}
@@ -48,6 +49,7 @@ use Rattle.wasi_p3.specs.Streams.{Taken, make_ends, named_end, read, receive, re
 use Rattle.wasi_addr.specs.declared.p3.ErrorCode.{ErrorCode as P3Code}
 use Rattle.wasi_addr.specs.Code.{p3_of_code}
 use Rattle.wasi_steps.specs.declared.guest_call.GuestCall.TheVariants as guest
+use Rattle.wasi_steps.specs.declared.guest_call.P3TcpCall.TheVariants as p3_tcp_call
 use Rattle.wasi_steps.specs.declared.step.Step.{Step}
 use Rattle.wasi_steps.specs.declared.step.Step.TheVariants as step
 use Rattle.wasi_steps.specs.Steps.{handles_of}
@@ -240,7 +242,7 @@ module _ {contexts : List WasiSocketsCtx} {line : ℕ} {origin : Step} {law : La
     look_write_walks None by = from (sym (put_same (At line m place Used) place r g)) (give _)
     look_write_walks (Some half) by = ask (there {h = At line m place Used} g) r refl (writes_on r half (by half refl)) (refl, tt) (λ told fits. from (sym (put_same (At line m place Used) place r g)) (give _))
 
-    offer_walks : (c handle : ℕ) (given : List ℕ) (end : ConnectionEnd) → origin ≡ step.Call c (guest.P3Write handle given) → send3_at m handle ≡ Some end → end.socket ≡ Some place → (o : Option TcpSendStream) → ((half : TcpSendStream) → o ≡ Some half → WritesBy r half)
+    offer_walks : (c handle : ℕ) (given : List ℕ) (end : ConnectionEnd) → origin ≡ step.Call c (guest.P3Tcp (p3_tcp_call.Write handle given)) → send3_at m handle ≡ Some end → end.socket ≡ Some place → (o : Option TcpSendStream) → ((half : TcpSendStream) → o ≡ Some half → WritesBy r half)
         → Walks law (At line m place Unused) (λ told. At line m place Used) (write_by_half (own_of line) (take 4294967295 given) o)
     offer_walks c handle given end is e s None by = gives _ (Spends _ refl)
     offer_walks c handle given end is e s (Some half) by =
@@ -259,14 +261,14 @@ module _ {contexts : List WasiSocketsCtx} {line : ℕ} {origin : Step} {law : La
     write_none_walks [] place = gives _ (Spends _ refl)
     write_none_walks (b ∷ bytes) place = gives _ (Spends _ refl)
 
-    write_half_walks : (bytes : List ℕ) → origin ≡ step.Call c (guest.P3Write handle bytes) → (place : ℕ) → end.socket ≡ Some place → (r : TcpRecord) → tcp2_at m.store.records place ≡ Some r → Walks law (At line m place Unused) (OverIn m) (write_open (own_of line) true bytes end.slot place (send_half r) m.store)
+    write_half_walks : (bytes : List ℕ) → origin ≡ step.Call c (guest.P3Tcp (p3_tcp_call.Write handle bytes)) → (place : ℕ) → end.socket ≡ Some place → (r : TcpRecord) → tcp2_at m.store.records place ≡ Some r → Walks law (At line m place Unused) (OverIn m) (write_open (own_of line) true bytes end.slot place (send_half r) m.store)
     write_half_walks [] is place s r g =
         move (Spends _ refl) (from (put_same (At line m place Used) place r g)
         (asks_walks (λ answer. ends_with (looked true 0 answer)) (look_write_walks m end.slot place q r g (send_half r) (λ half p. writes_by r half p)) (λ answer. gives _ (Leaves _))))
     write_half_walks (b ∷ bytes) is place s r g =
         asks_walks (λ told. write_told (own_of line) true end.slot place told) (offer_walks m end.slot place q r g c handle (b ∷ bytes) end is e s (send_half r) (λ half p. writes_by r half p)) (wrote_walks m end.slot place q r g)
 
-    write_end_walks : (bytes : List ℕ) → origin ≡ step.Call c (guest.P3Write handle bytes) → (socket : Option ℕ) → end.socket ≡ socket → Walks law (Starts m Unused) (OverIn m) (write_of (own_of line) true bytes end.slot socket m.store)
+    write_end_walks : (bytes : List ℕ) → origin ≡ step.Call c (guest.P3Tcp (p3_tcp_call.Write handle bytes)) → (socket : Option ℕ) → end.socket ≡ socket → Walks law (Starts m Unused) (OverIn m) (write_of (own_of line) true bytes end.slot socket m.store)
     write_end_walks bytes is None s = gives _ (Spends _ refl)
     write_end_walks bytes is (Some place) s = by_record (tcp2_at m.store.records place) refl
       where
@@ -274,7 +276,7 @@ module _ {contexts : List WasiSocketsCtx} {line : ℕ} {origin : Step} {law : La
         by_record None g = write_none_walks bytes place
         by_record (Some r) g = move (ReachesEnd _ handle place end r named (send3_end (kind_at m.table handle) end e) s g) (write_half_walks bytes is place s r g)
 
-  pub p3_write_walks : (m : Machine) (c handle : ℕ) (bytes : List ℕ) → Has (handles_of origin) handle → origin ≡ step.Call c (guest.P3Write handle bytes) → m.store.standing ≡ None → Walks law (Starts m Unused) OverWith (write (own_of line) true bytes handle m)
+  pub p3_write_walks : (m : Machine) (c handle : ℕ) (bytes : List ℕ) → Has (handles_of origin) handle → origin ≡ step.Call c (guest.P3Tcp (p3_tcp_call.Write handle bytes)) → m.store.standing ≡ None → Walks law (Starts m Unused) OverWith (write (own_of line) true bytes handle m)
   p3_write_walks m c handle bytes named is q =
       look (λ end. last (in_base (write_of (own_of line) true bytes end.slot end.socket))) (send3_at m handle) (gives _ (Spends _ refl))
       (λ end e. call _ (write_end_walks m c handle end named e q bytes is end.socket refl) (λ why store. give _) (λ answer store. give _))
@@ -336,8 +338,8 @@ module _ {contexts : List WasiSocketsCtx} {line : ℕ} {origin : Step} {law : La
         look (λ place. goes_on (in_base (λ store. Give (take_end takes place store))) (with_side line socket kind place)) (tcp3_at m socket) (gives _ (Spends _ refl))
         (λ place e. taken_walks place (tcp3_kind (kind_at m.table socket) place e) (tcp2_at m.store.records place) refl)
 
-  pub p3_receive_walks : (m : Machine) (c socket : ℕ) → origin ≡ step.Call c (guest.P3TcpReceive socket) → Walks law (Starts m Unused) OverWith (receive (own_of line) socket m)
+  pub p3_receive_walks : (m : Machine) (c socket : ℕ) → origin ≡ step.Call c (guest.P3Tcp (p3_tcp_call.Receive socket)) → Walks law (Starts m Unused) OverWith (receive (own_of line) socket m)
   p3_receive_walks m c socket is = take_walks take_receive_end receive_so (λ end. Receive3 end) (λ end. refl) m socket (λ end. subst (MakesEnd socket (Receive3 end)) (sym is) refl) (subst (MakesEnds socket) (sym is) refl)
 
-  pub p3_send_walks : (m : Machine) (c socket : ℕ) → origin ≡ step.Call c (guest.P3TcpSend socket) → Walks law (Starts m Unused) OverWith (send (own_of line) socket m)
+  pub p3_send_walks : (m : Machine) (c socket : ℕ) → origin ≡ step.Call c (guest.P3Tcp (p3_tcp_call.Send socket)) → Walks law (Starts m Unused) OverWith (send (own_of line) socket m)
   p3_send_walks m c socket is = take_walks take_send_end send_so (λ end. Send3 end) (λ end. refl) m socket (λ end. subst (MakesEnd socket (Send3 end)) (sym is) refl) (subst (MakesEnds socket) (sym is) refl)

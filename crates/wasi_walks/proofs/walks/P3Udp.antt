@@ -6,10 +6,10 @@ use Rattle.wasi_world.specs.declared.outcome.WasiSocketsCtx.{WasiSocketsCtx}
 use Rattle.wasi_world.specs.Asks.{Asks}
 use Rattle.socket_common.specs.Options.{value_set}
 use Rattle.wasi_udp.specs.Options.{get_option_asks, set_option_asks}
-use Rattle.wasi_records.specs.declared.udp.OpenUdp.{OpenUdp}
-use Rattle.wasi_records.specs.declared.udp.UdpRecord.TheVariants.{Open}
+use Rattle.udp_records.specs.declared.udp.OpenUdp.{OpenUdp}
+use Rattle.udp_records.specs.declared.udp.UdpRecord.TheVariants.{Open}
 use Rattle.wasi_records.specs.Records.{open_at}
-use Rattle.wasi_records.specs.Udp.{udp_local_asks}
+use Rattle.udp_records.specs.Udp.{udp_local_asks}
 use Rattle.host_store.specs.declared.machine.Machine.{Machine}
 use Rattle.host_store.specs.Block.{Call, last}
 use Rattle.host_store.specs.Kinds.{kind_at}

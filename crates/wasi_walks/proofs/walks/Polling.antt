@@ -6,21 +6,21 @@ use Rattle.wasi_world.specs.declared.ids.Ids.{Ids}
 use Rattle.wasi_tcp.specs.declared.listener.Accepting.{Accepting}
 use Rattle.wasi_tcp.specs.Listener.{has_accept, ids_after}
 use Rattle.host_udp.specs.DatagramCalls.{incoming_names}
-use Rattle.wasi_records.specs.Listening.{ids_of}
+use Rattle.tcp_records.specs.Listening.{ids_of}
 use Rattle.wasi_host.specs.Pollables.{ready_ids_on}
-use Rattle.wasi_records.specs.Looks.{begins_accept, socket_begins}
-use Rattle.wasi_records.specs.Receiving.{would_receive, has_none}
+use Rattle.tcp_records.specs.Looks.{begins_accept, socket_begins}
+use Rattle.udp_records.specs.Receiving.{would_receive, has_none}
 use Rattle.wasi_host.specs.Polling.{Found, are_pollables, begins_at, begins_on, block_by, blocked_on, found_of, ids_after_look, look_at_pollable, look_each, look_later, look_once, looked_at, places_given, poll_asks, poll_by, poll_when, polled_each, ready_places, tcp_begins, udp_begins}
-use Rattle.wasi_records.specs.Looks.{idle_ids, socket_ids}
+use Rattle.tcp_records.specs.Looks.{idle_ids, socket_ids}
 use Rattle.host_store.specs.Readiness.{ready_ids_at}
-use Rattle.wasi_records.specs.Receiving.{fetch_names, look_names}
+use Rattle.udp_records.specs.Receiving.{fetch_names, look_names}
 use Rattle.wasi_records.specs.Records.{open_at, tcp2_at}
 use Rattle.host_store.specs.declared.store.BlockingCall.TheVariants as blocking
-use Rattle.wasi_records.specs.declared.datagrams.Incoming.{Incoming}
-use Rattle.wasi_records.specs.declared.datagrams.Receiving.{Receiving}
+use Rattle.udp_records.specs.declared.datagrams.Incoming.{Incoming}
+use Rattle.udp_records.specs.declared.datagrams.Receiving.{Receiving}
 use Rattle.wasi_host.specs.declared.polling.Look.{Look}
 use Rattle.wasi_host.specs.declared.polling.Look.TheVariants.{First, Later}
-use Rattle.wasi_records.specs.declared.udp.OpenUdp.{OpenUdp}
+use Rattle.udp_records.specs.declared.udp.OpenUdp.{OpenUdp}
 use Rattle.wasi_walks.specs.Licence.{Receives}
 use Rattle.wasi_walks.proofs.walks.Here.{after, after_names, part_after}
 use Rattle.wasi_walks.proofs.walks.Moves.{Calls, CallsHandles, Counts, Here, Leaves, LooksAtPollables, Names, NoStartStands, OfPollables, Own, SpendsNames, StandsBlocking, Unused, Used}

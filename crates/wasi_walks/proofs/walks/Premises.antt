@@ -15,8 +15,8 @@ use Rattle.wasi_world.specs.declared.ids.Ids.{Ids}
 use Rattle.wasi_walks.proofs.walks.Here.{Interface, P2, P3, CallKind, OfPollables, OfStreams, Found, Here, Used, Made, Marked, Past, ToListen, IsNumbered, Numbered, ToResult, end_in, MakesEnd, IsEndAt}
 use Rattle.std.specs.Prelude.{slice_get}
 use Rattle.wasi_records.specs.Records.{tcp2_at, udp2_at, lookup_at, input_pipe_at, output_pipe_at}
-use Rattle.wasi_records.specs.declared.name_lookup.Lookup.TheVariants as lookup
-use Rattle.wasi_records.specs.declared.name_lookup.LookupOp.{LookupOp}
+use Rattle.lookup_records.specs.declared.name_lookup.Lookup.TheVariants as lookup
+use Rattle.lookup_records.specs.declared.name_lookup.LookupOp.{LookupOp}
 use Rattle.std.specs.Prelude.{IsSome, is_some, slice_get}
 use Rattle.wasi_names.specs.declared.name.HostName.TheVariants.{Domain}
 use Rattle.wasi_names.specs.Names.{name_is}
@@ -27,13 +27,22 @@ use Rattle.host_store.specs.declared.kind.PlainInput.TheVariants as plain_input
 use Rattle.host_store.specs.declared.kind.PlainOutput.TheVariants as plain_output
 use Rattle.host_store.specs.Kinds.{watched_by}
 use Rattle.host_udp.specs.UdpCreates.{udp_side_at}
-use Rattle.wasi_records.specs.Slots.{slot_at}
+use Rattle.wasi_records.specs.Records.{slot_at}
 use Rattle.host_store.specs.declared.kind.ConnectionEnd.{ConnectionEnd}
 use Rattle.wasi_records.specs.declared.records.Record.{Record}
 use Rattle.wasi_walks.specs.Licence.{IsGetOf, IsSetTo}
 use Rattle.wasi_walks.specs.Answered.{streams_in}
 use Rattle.wasi_walks.specs.Waiting.{StartsTold}
 use Rattle.wasi_tcp.specs.declared.writer.WriteError.{WriteError}
+use Rattle.wasi_steps.specs.declared.guest_call.TcpCall.{TcpCall}
+use Rattle.wasi_steps.specs.declared.guest_call.UdpCall.{UdpCall}
+use Rattle.wasi_steps.specs.declared.guest_call.NameCall.{NameCall}
+use Rattle.wasi_steps.specs.declared.guest_call.StreamCall.{StreamCall}
+use Rattle.wasi_steps.specs.declared.guest_call.PipeCall.{PipeCall}
+use Rattle.wasi_steps.specs.declared.guest_call.PollableCall.{PollableCall}
+use Rattle.wasi_steps.specs.declared.guest_call.P3TcpCall.{P3TcpCall}
+use Rattle.wasi_steps.specs.declared.guest_call.P3UdpCall.{P3UdpCall}
+use Rattle.wasi_steps.specs.declared.guest_call.P3NameCall.{P3NameCall}
 
 -- The sockets are as they were, and a lookup stays one, and so do a pipe and a result slot, and each place is there still. A lookup is in progress only where it was, or is one of
 -- these.
@@ -179,35 +188,35 @@ udp_record_of _ = None
 
 -- the step makes such an input or output of no connection
 abbrev pub MakesPlain : Step → Kind → Type 0
-MakesPlain (Step.Call ctx (GuestCall.PipeIn bytes)) (PlainInput (plain_input.Pipe place)) = ⊤
-MakesPlain (Step.Call ctx (GuestCall.PipeOut capacity)) (PlainOutput (plain_output.Pipe place)) = ⊤
-MakesPlain (Step.Call ctx GuestCall.Sink) (PlainOutput plain_output.Sink) = ⊤
-MakesPlain (Step.Call ctx GuestCall.ClosedIn) (PlainInput plain_input.Closed) = ⊤
-MakesPlain (Step.Call ctx GuestCall.ClosedOut) (PlainOutput plain_output.Closed) = ⊤
+MakesPlain (Step.Call ctx (GuestCall.Pipe (PipeCall.In bytes))) (PlainInput (plain_input.Pipe place)) = ⊤
+MakesPlain (Step.Call ctx (GuestCall.Pipe (PipeCall.Out capacity))) (PlainOutput (plain_output.Pipe place)) = ⊤
+MakesPlain (Step.Call ctx (GuestCall.Pipe PipeCall.Sink)) (PlainOutput plain_output.Sink) = ⊤
+MakesPlain (Step.Call ctx (GuestCall.Pipe PipeCall.ClosedIn)) (PlainInput plain_input.Closed) = ⊤
+MakesPlain (Step.Call ctx (GuestCall.Pipe PipeCall.ClosedOut)) (PlainOutput plain_output.Closed) = ⊤
 MakesPlain _ _ = ⊥
 
 -- a call of streams
 abbrev pub IsStreamCall : Step → Type 0
-IsStreamCall (Step.Call ctx (GuestCall.Read input len)) = ⊤
-IsStreamCall (Step.Call ctx (GuestCall.Skip input len)) = ⊤
-IsStreamCall (Step.Call ctx (GuestCall.CheckWrite output)) = ⊤
-IsStreamCall (Step.Call ctx (GuestCall.Write output bytes)) = ⊤
-IsStreamCall (Step.Call ctx (GuestCall.WriteZeroes output len)) = ⊤
-IsStreamCall (Step.Call ctx (GuestCall.Flush output)) = ⊤
-IsStreamCall (Step.Call ctx (GuestCall.Splice output input len)) = ⊤
-IsStreamCall (Step.Call ctx (GuestCall.BlockingRead input len)) = ⊤
-IsStreamCall (Step.Call ctx (GuestCall.BlockingSkip input len)) = ⊤
-IsStreamCall (Step.Call ctx (GuestCall.BlockingWrite output bytes)) = ⊤
-IsStreamCall (Step.Call ctx (GuestCall.BlockingZeroes output len)) = ⊤
-IsStreamCall (Step.Call ctx (GuestCall.BlockingFlush output)) = ⊤
-IsStreamCall (Step.Call ctx (GuestCall.BlockingSplice output input len)) = ⊤
+IsStreamCall (Step.Call ctx (GuestCall.Stream (StreamCall.Read input len))) = ⊤
+IsStreamCall (Step.Call ctx (GuestCall.Stream (StreamCall.Skip input len))) = ⊤
+IsStreamCall (Step.Call ctx (GuestCall.Stream (StreamCall.CheckWrite output))) = ⊤
+IsStreamCall (Step.Call ctx (GuestCall.Stream (StreamCall.Write output bytes))) = ⊤
+IsStreamCall (Step.Call ctx (GuestCall.Stream (StreamCall.WriteZeroes output len))) = ⊤
+IsStreamCall (Step.Call ctx (GuestCall.Stream (StreamCall.Flush output))) = ⊤
+IsStreamCall (Step.Call ctx (GuestCall.Stream (StreamCall.Splice output input len))) = ⊤
+IsStreamCall (Step.Call ctx (GuestCall.Stream (StreamCall.BlockingRead input len))) = ⊤
+IsStreamCall (Step.Call ctx (GuestCall.Stream (StreamCall.BlockingSkip input len))) = ⊤
+IsStreamCall (Step.Call ctx (GuestCall.Stream (StreamCall.BlockingWrite output bytes))) = ⊤
+IsStreamCall (Step.Call ctx (GuestCall.Stream (StreamCall.BlockingZeroes output len))) = ⊤
+IsStreamCall (Step.Call ctx (GuestCall.Stream (StreamCall.BlockingFlush output))) = ⊤
+IsStreamCall (Step.Call ctx (GuestCall.Stream (StreamCall.BlockingSplice output input len))) = ⊤
 IsStreamCall _ = ⊥
 
 -- a look at a pollable, or a wait for some
 abbrev pub LooksAtPollables : Step → Type 0
-LooksAtPollables (Step.Call ctx (GuestCall.Ready pollable)) = ⊤
-LooksAtPollables (Step.Call ctx (GuestCall.Block pollable)) = ⊤
-LooksAtPollables (Step.Call ctx (GuestCall.PollList pollables)) = ⊤
+LooksAtPollables (Step.Call ctx (GuestCall.Pollable (PollableCall.Ready pollable))) = ⊤
+LooksAtPollables (Step.Call ctx (GuestCall.Pollable (PollableCall.Block pollable))) = ⊤
+LooksAtPollables (Step.Call ctx (GuestCall.Pollable (PollableCall.PollList pollables))) = ⊤
 LooksAtPollables _ = ⊥
 
 abbrev pub IsCall : CallKind → Step → Type 0
@@ -227,26 +236,26 @@ kind_of (blocking.Poll pollables) = OfPollables
 
 -- a create of this family, by this context, of the interface
 abbrev pub Creates : List WasiSocketsCtx → WasiSocketsCtx → SocketAddressFamily → Interface → Step → Type 0
-Creates contexts ctx family face (Step.Call n (GuestCall.TcpCreate f)) = (context_at contexts n ≡ ctx) × (f ≡ family) × (face ≡ P2)
-Creates contexts ctx family face (Step.Call n (GuestCall.P3TcpCreate f)) = (context_at contexts n ≡ ctx) × (f ≡ family) × (face ≡ P3)
+Creates contexts ctx family face (Step.Call n (GuestCall.Tcp (TcpCall.Create f))) = (context_at contexts n ≡ ctx) × (f ≡ family) × (face ≡ P2)
+Creates contexts ctx family face (Step.Call n (GuestCall.P3Tcp (P3TcpCall.Create f))) = (context_at contexts n ≡ ctx) × (f ≡ family) × (face ≡ P3)
 Creates contexts ctx family face _ = ⊥
 
 -- the same of a UDP socket
 abbrev pub CreatesUdp : List WasiSocketsCtx → WasiSocketsCtx → SocketAddressFamily → Interface → Step → Type 0
-CreatesUdp contexts ctx family face (Step.Call n (GuestCall.UdpCreate f)) = (context_at contexts n ≡ ctx) × (f ≡ family) × (face ≡ P2)
-CreatesUdp contexts ctx family face (Step.Call n (GuestCall.P3UdpCreate f)) = (context_at contexts n ≡ ctx) × (f ≡ family) × (face ≡ P3)
+CreatesUdp contexts ctx family face (Step.Call n (GuestCall.Udp (UdpCall.Create f))) = (context_at contexts n ≡ ctx) × (f ≡ family) × (face ≡ P2)
+CreatesUdp contexts ctx family face (Step.Call n (GuestCall.P3Udp (P3UdpCall.Create f))) = (context_at contexts n ≡ ctx) × (f ≡ family) × (face ≡ P3)
 CreatesUdp contexts ctx family face _ = ⊥
 
 -- a create of a UDP socket of the interface
 abbrev pub MakesUdpFor : Interface → Step → Type 0
-MakesUdpFor face (Step.Call n (GuestCall.UdpCreate f)) = face ≡ P2
-MakesUdpFor face (Step.Call n (GuestCall.P3UdpCreate f)) = face ≡ P3
+MakesUdpFor face (Step.Call n (GuestCall.Udp (UdpCall.Create f))) = face ≡ P2
+MakesUdpFor face (Step.Call n (GuestCall.P3Udp (P3UdpCall.Create f))) = face ≡ P3
 MakesUdpFor face _ = ⊥
 
 -- a listen whose listener gets a handle under this one, or gets none
 abbrev pub ListensFor : Option ℕ → Step → Type 0
-ListensFor None (Step.Call n (GuestCall.TcpStartListen s)) = ⊤
-ListensFor (Some handle) (Step.Call n (GuestCall.P3TcpListen s)) = s ≡ handle
+ListensFor None (Step.Call n (GuestCall.Tcp (TcpCall.StartListen s))) = ⊤
+ListensFor (Some handle) (Step.Call n (GuestCall.P3Tcp (P3TcpCall.Listen s))) = s ≡ handle
 ListensFor marks _ = ⊥
 
 -- the line listens, and its listener gets a handle
@@ -266,8 +275,8 @@ pub data CreateIsFor (line : ℕ) (origin : Step) (standing : Option Standing) (
 
 -- a lookup of this host, by a context that may look names up
 abbrev pub LooksUp : List WasiSocketsCtx → List ℕ → Step → Type 0
-LooksUp contexts host (Step.Call n (GuestCall.Resolve network name)) = ((context_at contexts n).ip_name_lookup ≡ true) × (name_is name ≡ Some (Domain host))
-LooksUp contexts host (Step.Call n (GuestCall.P3Resolve name)) = ((context_at contexts n).ip_name_lookup ≡ true) × (name_is name ≡ Some (Domain host))
+LooksUp contexts host (Step.Call n (GuestCall.Names (NameCall.Resolve network name))) = ((context_at contexts n).ip_name_lookup ≡ true) × (name_is name ≡ Some (Domain host))
+LooksUp contexts host (Step.Call n (GuestCall.P3Names (P3NameCall.Resolve name))) = ((context_at contexts n).ip_name_lookup ≡ true) × (name_is name ≡ Some (Domain host))
 LooksUp contexts host _ = ⊥
 
 -- The handle is that of the record's socket, whose streams are there; it is no accept's.
@@ -283,13 +292,13 @@ pub record IsOfOld (h : Here) (place : ℕ) : Type 0 where
 
 -- a handle that the line may mark, with its parent and its network socket
 pub data Marks (origin : Step) (h : Here) : Kind → Option ℕ → Option OpId → Type 0 where
-  ANetwork : (c : ℕ) → origin ≡ Step.Call c GuestCall.Network → Marks origin h Network None None
-  AStream : (c handle place : ℕ) (kind : Kind) → origin ≡ Step.Call c (GuestCall.TcpFinishConnect handle) → (kind ≡ Input place) ⊎ (kind ≡ Output place) → IsOpened h handle place → Marks origin h kind (Some handle) (side_at (tcp2_at h.machine.store.records place))
-  AnAcceptedStream : (c listener handle place : ℕ) (kind : Kind) (r : TcpRecord) → origin ≡ Step.Call c (GuestCall.TcpAccept listener) → (kind ≡ Input place) ⊎ (kind ≡ Output place) → h.made ≡ Marked handle place → h.own ≡ Used → Found h place r → Marks origin h kind (Some handle) (side_at (tcp2_at h.machine.store.records place))
-  APollable : (c handle : ℕ) (w : Watched) → origin ≡ Step.Call c (GuestCall.Subscribe handle) → tcp_place w ≡ Some (place_in w) → record_of (kind_at h.machine.table handle) ≡ Some (place_in w) → watched_by (kind_at h.machine.table handle) ≡ Some w → Marks origin h (Pollable w) (Some handle) (side_at (tcp2_at h.machine.store.records (place_in w)))
-  AUdpPollable : (c handle : ℕ) (w : Watched) → origin ≡ Step.Call c (GuestCall.Subscribe handle) → udp_place w ≡ Some (place_in w) → udp_record_of (kind_at h.machine.table handle) ≡ Some (place_in w) → watched_by (kind_at h.machine.table handle) ≡ Some w → Marks origin h (Pollable w) (Some handle) (udp_side_at (udp2_at h.machine.store.records (place_in w)))
-  ALookup : (c network place : ℕ) (name : List ℕ) → origin ≡ Step.Call c (GuestCall.Resolve network name) → is_some (lookup_at h.machine.store.records place) ≡ true → h.made ≡ Numbered place h.machine.table.next → Marks origin h (Lookup place) (Some network) None
-  ALookupPollable : (c handle place : ℕ) → origin ≡ Step.Call c (GuestCall.Subscribe handle) → kind_at h.machine.table handle ≡ Some (Lookup place) → Marks origin h (Pollable (Watched.Lookup place)) (Some handle) None
+  ANetwork : (c : ℕ) → origin ≡ Step.Call c (GuestCall.Names NameCall.Network) → Marks origin h Network None None
+  AStream : (c handle place : ℕ) (kind : Kind) → origin ≡ Step.Call c (GuestCall.Tcp (TcpCall.FinishConnect handle)) → (kind ≡ Input place) ⊎ (kind ≡ Output place) → IsOpened h handle place → Marks origin h kind (Some handle) (side_at (tcp2_at h.machine.store.records place))
+  AnAcceptedStream : (c listener handle place : ℕ) (kind : Kind) (r : TcpRecord) → origin ≡ Step.Call c (GuestCall.Tcp (TcpCall.Accept listener)) → (kind ≡ Input place) ⊎ (kind ≡ Output place) → h.made ≡ Marked handle place → h.own ≡ Used → Found h place r → Marks origin h kind (Some handle) (side_at (tcp2_at h.machine.store.records place))
+  APollable : (c handle : ℕ) (w : Watched) → origin ≡ Step.Call c (GuestCall.Pollable (PollableCall.Subscribe handle)) → tcp_place w ≡ Some (place_in w) → record_of (kind_at h.machine.table handle) ≡ Some (place_in w) → watched_by (kind_at h.machine.table handle) ≡ Some w → Marks origin h (Pollable w) (Some handle) (side_at (tcp2_at h.machine.store.records (place_in w)))
+  AUdpPollable : (c handle : ℕ) (w : Watched) → origin ≡ Step.Call c (GuestCall.Pollable (PollableCall.Subscribe handle)) → udp_place w ≡ Some (place_in w) → udp_record_of (kind_at h.machine.table handle) ≡ Some (place_in w) → watched_by (kind_at h.machine.table handle) ≡ Some w → Marks origin h (Pollable w) (Some handle) (udp_side_at (udp2_at h.machine.store.records (place_in w)))
+  ALookup : (c network place : ℕ) (name : List ℕ) → origin ≡ Step.Call c (GuestCall.Names (NameCall.Resolve network name)) → is_some (lookup_at h.machine.store.records place) ≡ true → h.made ≡ Numbered place h.machine.table.next → Marks origin h (Lookup place) (Some network) None
+  ALookupPollable : (c handle place : ℕ) → origin ≡ Step.Call c (GuestCall.Pollable (PollableCall.Subscribe handle)) → kind_at h.machine.table handle ≡ Some (Lookup place) → Marks origin h (Pollable (Watched.Lookup place)) (Some handle) None
   APlain : (kind : Kind) → MakesPlain origin kind → IsNumbered h kind → Marks origin h kind None None
-  APlainPollable : (c handle : ℕ) → origin ≡ Step.Call c (GuestCall.Subscribe handle) → watched_by (kind_at h.machine.table handle) ≡ Some Watched.Plain → Marks origin h (Pollable Watched.Plain) (Some handle) None
+  APlainPollable : (c handle : ℕ) → origin ≡ Step.Call c (GuestCall.Pollable (PollableCall.Subscribe handle)) → watched_by (kind_at h.machine.table handle) ≡ Some Watched.Plain → Marks origin h (Pollable Watched.Plain) (Some handle) None
   AnEnd : (socket place : ℕ) (kind : Kind) (end : ConnectionEnd) (r : TcpRecord) → MakesEnd socket kind origin → end_in kind ≡ Some end → kind_at h.machine.table socket ≡ Some (Tcp3 place) → Found h place r → IsEndAt place end → h.made ≡ ToResult end.slot → Marks origin h kind (Some socket) (side_at (tcp2_at h.machine.store.records place))

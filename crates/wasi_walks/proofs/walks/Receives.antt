@@ -10,16 +10,16 @@ use Rattle.host_udp.specs.DatagramCalls.{begins_receive, drop_incoming_at, recei
 use Rattle.host_store.specs.Jobs.{turn_receive_at}
 use Rattle.wasi_host.specs.HandleDrops.{answered, at_once}
 use Rattle.host_store.specs.Machine.{incoming_at}
-use Rattle.wasi_records.specs.Receiving.{all_received, fetch_asks, fetch_names, poll_receive_asks, receive_after, receive_all, receive_datagrams_asks, receive_next_asks, taken, turn_incoming, turn_receiving, with_incoming, with_receiving}
+use Rattle.udp_records.specs.Receiving.{all_received, fetch_asks, fetch_names, poll_receive_asks, receive_after, receive_all, receive_datagrams_asks, receive_next_asks, taken, turn_incoming, turn_receiving, with_incoming, with_receiving}
 use Rattle.wasi_records.specs.Records.{open_at, udp2_at}
 use Rattle.host_store.specs.Store.{with_open_udp}
-use Rattle.wasi_records.specs.declared.datagrams.Incoming.{Incoming}
-use Rattle.wasi_records.specs.declared.datagrams.Receiving.{Receiving}
+use Rattle.udp_records.specs.declared.datagrams.Incoming.{Incoming}
+use Rattle.udp_records.specs.declared.datagrams.Receiving.{Receiving}
 use Rattle.wasi_jobs.specs.declared.job.HostJob.TheVariants.{Receive}
 use Rattle.host_store.specs.declared.kind.Kind.TheVariants as kinds
 use Rattle.wasi_records.specs.declared.records.Record.{Record}
-use Rattle.wasi_records.specs.declared.udp.OpenUdp.{OpenUdp}
-use Rattle.wasi_records.specs.declared.udp.UdpRecord.{UdpRecord}
+use Rattle.udp_records.specs.declared.udp.OpenUdp.{OpenUdp}
+use Rattle.udp_records.specs.declared.udp.UdpRecord.{UdpRecord}
 use Rattle.wasi_p2.specs.Udp.{receive_datagrams_on}
 use Rattle.wasi_udp.specs.Receive.{receive_asks, receive_start}
 use Rattle.wasi_udp.specs.Shape.{Socket}
@@ -34,6 +34,7 @@ use Rattle.wasi_walks.proofs.walks.States.{At, Emptying, OverWith, Put, Sets, St
 use Rattle.wasi_walks.proofs.walks.Udp.{open_is, part_bound_walks, udp_there}
 use Rattle.wasi_walks.proofs.walks.UdpLaw.{HasUdp, udp_put_put, udp_put_same, udp_found, poll_receive_walks}
 use Rattle.wasi_walks.proofs.Places.{put_finds, udp_sort}
+use Rattle.wasi_steps.specs.declared.guest_call.UdpCall.{UdpCall}
 
 -- an incoming stream that has what it had
 kept_in : (o : OpenUdp) (now : Option Incoming) → (receiving_in now ≡ receiving_in o.incoming) → (came_in now ≡ came_in o.incoming) → UdpPlain o (record o { incoming = now })
@@ -162,13 +163,13 @@ module _ {contexts : List WasiSocketsCtx} {line : ℕ} {origin : Step} {law : La
       (and_then (datagrams_walks (udp_there {h = At line m place Unused} g) refl is takes o o.incoming most refl refl) (λ done. listed_walks m place (Receive place) (done.0, with_open_udp m.store place done.1) (begins_receive o done.1) (put_finds udp_sort m.store.records place (UdpRecord.Open o) (UdpRecord.Open done.1) g)))
 
   -- of the handle that the line names
-  receives_on : Receives origin → (m : Machine) (c incoming most : ℕ) → origin ≡ Step.Call c (GuestCall.UdpReceive incoming most) → Has (handles_of origin) incoming → (o : Option ℕ) → incoming_at m incoming ≡ o → Walks law (Starts m Unused) OverWith (receive_datagrams_on m (first_ids line) most o)
+  receives_on : Receives origin → (m : Machine) (c incoming most : ℕ) → origin ≡ Step.Call c (GuestCall.Udp (UdpCall.Receive incoming most)) → Has (handles_of origin) incoming → (o : Option ℕ) → incoming_at m incoming ≡ o → Walks law (Starts m Unused) OverWith (receive_datagrams_on m (first_ids line) most o)
   receives_on is m c incoming most its named None e = gives _ (Spends _ refl)
   receives_on is m c incoming most its named (Some place) e =
       move (ReachesUdp _ incoming place named (incoming_record (kind_at m.table incoming) place e))
       (and_then (receives_at is m place most (record { ctx = c; handle = incoming; most = most; is = its; of = incoming_kind (kind_at m.table incoming) place e }) (open_at m.store.records place) refl) (λ done. gives _ (Leaves _)))
 
-  pub receive_walks : Receives origin → (m : Machine) (c incoming most : ℕ) → origin ≡ Step.Call c (GuestCall.UdpReceive incoming most) → Has (handles_of origin) incoming → Walks law (Starts m Unused) OverWith (receive_datagrams_on m (first_ids line) most (incoming_at m incoming))
+  pub receive_walks : Receives origin → (m : Machine) (c incoming most : ℕ) → origin ≡ Step.Call c (GuestCall.Udp (UdpCall.Receive incoming most)) → Has (handles_of origin) incoming → Walks law (Starts m Unused) OverWith (receive_datagrams_on m (first_ids line) most (incoming_at m incoming))
   receive_walks is m c incoming most its named = receives_on is m c incoming most its named (incoming_at m incoming) refl
 
   -- == a turn

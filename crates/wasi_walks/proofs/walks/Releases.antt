@@ -14,7 +14,7 @@ use Rattle.wasi_walks.proofs.Words.{wait_put, wait_writer, with_listening}
 use Rattle.wasi_walks.proofs.Words.{ℕ, ◌≡◌}
 use Rattle.wasi_world.specs.declared.ids.Ids.{Ids}
 use Rattle.wasi_records.specs.Records.{tcp2_at}
-use Rattle.wasi_records.specs.Holding.{drop_listener_asks, drop_socket_asks, is_held, let_go_by, without_socket}
+use Rattle.tcp_records.specs.Holding.{drop_listener_asks, drop_socket_asks, is_held, let_go_by, without_socket}
 use Rattle.host_tcp.specs.Dropping.{left_so, let_go_at, released}
 use Rattle.wasi_walks.proofs.walks.Moves.{Used, Unused, Here, put, Spends, Leaves, IsGone, Stands}
 use Rattle.wasi_walks.proofs.walks.Law.{Law, HasRecord, Walks, give, and_then, move, gives, from, found, on, put_same, ends, close, give_up, and_so}

@@ -11,7 +11,7 @@ use Rattle.wasi_world.specs.declared.asks.Polled.TheVariants as polled
 use Rattle.wasi_world.specs.declared.call.Call.TheVariants.{Lookup}
 use Rattle.wasi_world.specs.Asks.{Give, bind}
 use Rattle.wasi_world.specs.Typed.{told_names}
-use Rattle.wasi_records.specs.Names.{own_of}
+use Rattle.record_common.specs.Names.{own_of}
 use Rattle.host_store.specs.declared.beside.Beside.{Beside}
 use Rattle.host_store.specs.declared.beside.BesideCall.TheVariants.{Resolve}
 use Rattle.host_store.specs.declared.machine.Machine.{Machine}
@@ -23,6 +23,7 @@ use Rattle.host_store.specs.Store.{Records}
 use Rattle.wasi_machine.specs.Machine.{context_at}
 use Rattle.wasi_p3.specs.Lookup.{resolve, resolve_host}
 use Rattle.wasi_steps.specs.declared.guest_call.GuestCall.TheVariants as guest
+use Rattle.wasi_steps.specs.declared.guest_call.P3NameCall.TheVariants as p3_name_call
 use Rattle.wasi_steps.specs.declared.step.Step.{Step}
 use Rattle.wasi_steps.specs.declared.step.Step.TheVariants as step
 use Rattle.wasi_walks.proofs.Words.{WasiSocketsCtx, entry}
@@ -48,7 +49,7 @@ module _ {contexts : List WasiSocketsCtx} {line : ℕ} {origin : Step} {law : La
         (a.0, λ told fits. (begun_walks m host (told_names told)).along (es ++ entry (own_of line) (Lookup host) told ∷ []) (a.1 told fits));
   }
 
-  module _ (m : Machine) (c : ℕ) (name : List ℕ) (is : origin ≡ step.Call c (guest.P3Resolve name)) where
+  module _ (m : Machine) (c : ℕ) (name : List ℕ) (is : origin ≡ step.Call c (guest.P3Names (p3_name_call.Resolve name))) where
     stored : (done : Resolved × Records) → Walks law (OverIn m done) OverWith (after_call same_stop storing gives_all m done)
     stored (Ok answer, store) = give _
     stored (Err stop, store) = give _

@@ -10,18 +10,18 @@ use Rattle.wasi_world.specs.declared.datagram.OutgoingDatagram.{OutgoingDatagram
 use Rattle.wasi_world.specs.declared.ids.Ids.{Ids}
 use Rattle.wasi_world.specs.declared.ids.OpId.{OpId}
 use Rattle.host_udp.specs.DatagramCalls.{begins_send, check_send_at, check_send_by, drop_outgoing_at, drop_outgoing_by, send_datagrams_at}
-use Rattle.wasi_records.specs.Datagrams.{permitted, sends, with_sending, send_left, turned_left, poll_send_asks, send_one_asks, one_sent, send_next_asks, send_after, send_all, all_sent, send_permitted, send_some, send_datagrams_asks, turn_sending, turn_outgoing}
+use Rattle.udp_records.specs.Datagrams.{permitted, sends, with_sending, send_left, turned_left, poll_send_asks, send_one_asks, one_sent, send_next_asks, send_after, send_all, all_sent, send_permitted, send_some, send_datagrams_asks, turn_sending, turn_outgoing}
 use Rattle.host_store.specs.Jobs.{with_job, turn_datagram_at}
 use Rattle.host_store.specs.Machine.{outgoing_at}
 use Rattle.wasi_records.specs.Records.{open_at, udp2_at}
 use Rattle.host_store.specs.Store.{with_open_udp}
-use Rattle.wasi_records.specs.declared.datagrams.Outgoing.{Outgoing}
-use Rattle.wasi_records.specs.declared.datagrams.Sending.{Sending}
+use Rattle.udp_records.specs.declared.datagrams.Outgoing.{Outgoing}
+use Rattle.udp_records.specs.declared.datagrams.Sending.{Sending}
 use Rattle.wasi_jobs.specs.declared.job.HostJob.{HostJob}
 use Rattle.wasi_jobs.specs.declared.job.HostJob.TheVariants.{Datagram}
 use Rattle.wasi_records.specs.declared.records.Record.{Record}
-use Rattle.wasi_records.specs.declared.udp.OpenUdp.{OpenUdp}
-use Rattle.wasi_records.specs.declared.udp.UdpRecord.{UdpRecord}
+use Rattle.udp_records.specs.declared.udp.OpenUdp.{OpenUdp}
+use Rattle.udp_records.specs.declared.udp.UdpRecord.{UdpRecord}
 use Rattle.wasi_p2.specs.Udp.{check_send_on, send_datagrams_on}
 use Rattle.wasi_udp.specs.Send.{send_asks, send_start}
 use Rattle.wasi_udp.specs.Shape.{Socket}
@@ -36,6 +36,7 @@ use Rattle.wasi_walks.proofs.walks.States.{At, Over, OverWith, Put, Sets, Starts
 use Rattle.wasi_walks.proofs.walks.Udp.{open_is, on_udp, part_bound_walks, udp_there}
 use Rattle.wasi_walks.proofs.walks.UdpLaw.{HasUdp, udp_put_put, udp_put_same, udp_found, poll_send_walks}
 use Rattle.wasi_walks.proofs.Places.{put_finds, udp_sort}
+use Rattle.wasi_steps.specs.declared.guest_call.UdpCall.{UdpCall}
 
 -- what a first poll leaves, and what a turn leaves
 first_settles : (op : Operation) → SettlesSend op (send_left op)
@@ -69,8 +70,8 @@ sent_from origin n all (d ∷ ds) k = (subst (λ m. IsSendOf (suc m) d origin) z
     plus_suc : (j : ℕ) → suc j + n ≡ j + suc n
     plus_suc j = omega arith
 
-pub all_sent_by : (c outgoing : ℕ) (ds : List OutgoingDatagram) → AreSent 1 (Step.Call c (GuestCall.UdpSend outgoing ds)) ds
-all_sent_by c outgoing ds = sent_from (Step.Call c (GuestCall.UdpSend outgoing ds)) 0 ds ds (λ k d i. subst (λ m. IsItem (suc m) d ds) (plus_none k) i)
+pub all_sent_by : (c outgoing : ℕ) (ds : List OutgoingDatagram) → AreSent 1 (Step.Call c (GuestCall.Udp (UdpCall.Send outgoing ds))) ds
+all_sent_by c outgoing ds = sent_from (Step.Call c (GuestCall.Udp (UdpCall.Send outgoing ds))) 0 ds ds (λ k d i. subst (λ m. IsItem (suc m) d ds) (plus_none k) i)
   where
     plus_none : (k : ℕ) → k ≡ k + 0
     plus_none k = omega arith
@@ -178,7 +179,7 @@ module _ {contexts : List WasiSocketsCtx} {line : ℕ} {origin : Step} {law : La
       from (udp_put_same (At line m place Unused) place (UdpRecord.Open o) g)
       (and_then (datagrams_walks (udp_there {h = At line m place Unused} g) refl o o.outgoing ds are refl refl) (λ done. listed_walks m place (Datagram place) (done.0, with_open_udp m.store place done.1) (begins_send o done.1) (put_finds udp_sort m.store.records place (UdpRecord.Open o) (UdpRecord.Open done.1) g)))
 
-  pub send_walks : (m : Machine) (c outgoing : ℕ) (ds : List OutgoingDatagram) → origin ≡ Step.Call c (GuestCall.UdpSend outgoing ds) → Has (handles_of origin) outgoing → Walks law (Starts m Unused) OverWith (send_datagrams_on m (first_ids line) ds (outgoing_at m outgoing))
+  pub send_walks : (m : Machine) (c outgoing : ℕ) (ds : List OutgoingDatagram) → origin ≡ Step.Call c (GuestCall.Udp (UdpCall.Send outgoing ds)) → Has (handles_of origin) outgoing → Walks law (Starts m Unused) OverWith (send_datagrams_on m (first_ids line) ds (outgoing_at m outgoing))
   send_walks m c outgoing ds is named = on_udp m outgoing (outgoing_at m outgoing) named (outgoing_record (kind_at m.table outgoing)) (λ place. sends_at m place ds (subst (λ (s : Step). AreSent 1 s ds) (sym is) (all_sent_by c outgoing ds)) (open_at m.store.records place) refl)
 
   -- == a permit

@@ -12,13 +12,13 @@ use Rattle.wasi_udp.specs.Receive.{receive_asks, receive_start, wanting}
 use Rattle.wasi_udp.specs.Send.{at_remote, send_asks, send_start}
 use Rattle.wasi_udp.specs.Shape.{Socket}
 use Rattle.wasi_udp.specs.Socket.{bound_asks}
-use Rattle.wasi_records.specs.declared.udp.OpenUdp.{OpenUdp}
-use Rattle.wasi_records.specs.declared.udp.UdpRecord.{UdpRecord}
-use Rattle.wasi_records.specs.Binding.{bind_answer}
-use Rattle.wasi_records.specs.Names.{own_of}
+use Rattle.udp_records.specs.declared.udp.OpenUdp.{OpenUdp}
+use Rattle.udp_records.specs.declared.udp.UdpRecord.{UdpRecord}
+use Rattle.record_common.specs.Binding.{bind_answer}
+use Rattle.record_common.specs.Names.{own_of}
 use Rattle.wasi_records.specs.Records.{open_at, udp2_at}
-use Rattle.wasi_records.specs.Stops.{Code}
-use Rattle.wasi_records.specs.Udp.{with_udp_inner, without_udp_socket}
+use Rattle.record_common.specs.Stops.{Code}
+use Rattle.udp_records.specs.Udp.{with_udp_inner, without_udp_socket}
 use Rattle.host_store.specs.declared.beside.Beside.{Beside}
 use Rattle.host_store.specs.declared.beside.BesideCall.{BesideCall}
 use Rattle.host_store.specs.declared.beside.BesideCall.TheVariants.{Connect, Resolve, Send, Receive}
@@ -36,6 +36,7 @@ use Rattle.host_store.specs.Store.{with_open_udp}
 use Rattle.wasi_p3.specs.Lines.{in_base}
 use Rattle.wasi_p3.specs.Udp.{receive, send}
 use Rattle.wasi_steps.specs.declared.guest_call.GuestCall.{GuestCall}
+use Rattle.wasi_steps.specs.declared.guest_call.P3UdpCall.{P3UdpCall}
 use Rattle.wasi_steps.specs.declared.step.Step.{Step}
 use Rattle.wasi_steps.specs.Steps.{handles_of}
 use Rattle.wasi_walks.specs.Licence.{Has}
@@ -74,13 +75,13 @@ module _ (line : ℕ) (origin : Step) (m : Machine) (place : ℕ) where
     same : begun.0 ≡ receive_start (own_of line) begun.1 bound
     known : bound ≡ true → begun.1.bound ≡ true
 
-  send_given : (c s : ℕ) (d : OutgoingDatagram) → origin ≡ Step.Call c (GuestCall.P3UdpSend s d) → kind_at m.table s ≡ Some (Udp3 place) → (o : OpenUdp) → Given (HasBegun line origin m place (Send place) sent_on) (send_begins (own_of line) d o)
+  send_given : (c s : ℕ) (d : OutgoingDatagram) → origin ≡ Step.Call c (GuestCall.P3Udp (P3UdpCall.Send s d)) → kind_at m.table s ≡ Some (Udp3 place) → (o : OpenUdp) → Given (HasBegun line origin m place (Send place) sent_on) (send_begins (own_of line) d o)
   send_given c s d is at o =
       given_along (SendStarts d) (HasBegun line origin m place (Send place) sent_on) (send_asks (own_of line) o.inner d.bytes d.remote_address) (λ begun. Give (begun_on o begun))
       (given_along KeepsBound (SendStarts d) (bound_asks (own_of line) o.inner) _ (bound_given (own_of line) o.inner) (λ b k. record { bound = b.0; same = refl; known = k }))
       (λ begun k. record { socket = with_udp_inner o begun.1; op = _; is = ap (λ (op : Operation). (Ok (op, with_udp_inner o begun.1), with_udp_inner o begun.1)) k.same; starts = StartsSend c s d k.bound is at k.known })
 
-  receive_given : (c s : ℕ) → origin ≡ Step.Call c (GuestCall.P3UdpReceive s) → kind_at m.table s ≡ Some (Udp3 place) → (o : OpenUdp) → Given (HasBegun line origin m place (Receive place) received_on) (receive_begins (own_of line) o)
+  receive_given : (c s : ℕ) → origin ≡ Step.Call c (GuestCall.P3Udp (P3UdpCall.Receive s)) → kind_at m.table s ≡ Some (Udp3 place) → (o : OpenUdp) → Given (HasBegun line origin m place (Receive place) received_on) (receive_begins (own_of line) o)
   receive_given c s is at o =
       given_along ReceiveStarts (HasBegun line origin m place (Receive place) received_on) (receive_asks (own_of line) o.inner) (λ begun. Give (begun_on o begun))
       (given_along KeepsBound ReceiveStarts (bound_asks (own_of line) o.inner) _ (bound_given (own_of line) o.inner) (λ b k. record { bound = b.0; same = refl; known = k }))
@@ -149,12 +150,12 @@ module _ {contexts : List WasiSocketsCtx} {line : ℕ} {origin : Step} {law : La
         ends_walks (Refused c given, items) = over_walks (Refused c given)
 
   -- == the calls
-  send_of_walks : (m : Machine) (c s : ℕ) (d : OutgoingDatagram) → origin ≡ Step.Call c (GuestCall.P3UdpSend s d) → (place : ℕ) → kind_at m.table s ≡ Some (Udp3 place) → Walks law (At line m place Unused) (Put line m place) (send_of line place d m.store)
+  send_of_walks : (m : Machine) (c s : ℕ) (d : OutgoingDatagram) → origin ≡ Step.Call c (GuestCall.P3Udp (P3UdpCall.Send s d)) → (place : ℕ) → kind_at m.table s ≡ Some (Udp3 place) → Walks law (At line m place Unused) (Put line m place) (send_of line place d m.store)
   send_of_walks m c s d is place at =
       begins_walks bind_answer (Send place) sent_on m place (send_begins (own_of line) d) (send_given line origin m place c s d is at)
       (λ o g. and_then (and_then (bound_walks (udp_there {h = At line m place Unused} g) refl o) (λ b. give _)) (λ begun. give _))
 
-  receive_of_walks : (m : Machine) (c s : ℕ) → origin ≡ Step.Call c (GuestCall.P3UdpReceive s) → (place : ℕ) → kind_at m.table s ≡ Some (Udp3 place) → Walks law (At line m place Unused) (Put line m place) (receive_of line place m.store)
+  receive_of_walks : (m : Machine) (c s : ℕ) → origin ≡ Step.Call c (GuestCall.P3Udp (P3UdpCall.Receive s)) → (place : ℕ) → kind_at m.table s ≡ Some (Udp3 place) → Walks law (At line m place Unused) (Put line m place) (receive_of line place m.store)
   receive_of_walks m c s is place at =
       begins_walks received_answer (Receive place) received_on m place (receive_begins (own_of line)) (receive_given line origin m place c s is at)
       (λ o g. and_then (and_then (bound_walks (udp_there {h = At line m place Unused} g) refl o) (λ b. give _)) (λ begun. give _))
@@ -166,10 +167,10 @@ module _ {contexts : List WasiSocketsCtx} {line : ℕ} {origin : Step} {law : La
       look (λ place. last (in_base (does place))) (udp3_at m s) (gives _ (Spends _ refl))
       (λ place e. move (ReachesUdp _ s place named (udp3_record (kind_at m.table s) place e)) (call _ (w place (udp3_kind (kind_at m.table s) place e)) (λ stop t. gives _ (Leaves _)) (λ a t. gives _ (Leaves _))))
 
-  pub p3_udp_send_walks : (m : Machine) (c s : ℕ) (d : OutgoingDatagram) → origin ≡ Step.Call c (GuestCall.P3UdpSend s d) → Has (handles_of origin) s → Walks law (Starts m Unused) OverWith (send line s d m)
+  pub p3_udp_send_walks : (m : Machine) (c s : ℕ) (d : OutgoingDatagram) → origin ≡ Step.Call c (GuestCall.P3Udp (P3UdpCall.Send s d)) → Has (handles_of origin) s → Walks law (Starts m Unused) OverWith (send line s d m)
   p3_udp_send_walks m c s d is named = on_named_walks m s named (λ place. send_of line place d) (send_of_walks m c s d is)
 
-  pub p3_udp_receive_walks : (m : Machine) (c s : ℕ) → origin ≡ Step.Call c (GuestCall.P3UdpReceive s) → Has (handles_of origin) s → Walks law (Starts m Unused) OverWith (receive line s m)
+  pub p3_udp_receive_walks : (m : Machine) (c s : ℕ) → origin ≡ Step.Call c (GuestCall.P3Udp (P3UdpCall.Receive s)) → Has (handles_of origin) s → Walks law (Starts m Unused) OverWith (receive line s m)
   p3_udp_receive_walks m c s is named = on_named_walks m s named (λ place. receive_of line place) (receive_of_walks m c s is)
 
   pub resend_walks : (m : Machine) (n place : ℕ) (b : Beside) (op : Operation) → origin ≡ Step.Poll n → beside_of m.store n ≡ Some b → b.call ≡ Send place op → Walks law (Over m) (OverIn m) (resend_of n place op m.store)

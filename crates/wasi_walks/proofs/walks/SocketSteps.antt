@@ -25,12 +25,13 @@ use Rattle.wasi_walks.proofs.walks.Sockets.{BindsSo, WaitsSo, waits_so, begun_bi
 use Rattle.wasi_walks.proofs.walks.Streams.{shut_walks}
 use Rattle.wasi_walks.proofs.walks.Lines.{look, call, call_given}
 use Rattle.wasi_addr.specs.declared.p2.ErrorCode.TheVariants.{NotInProgress}
-use Rattle.wasi_records.specs.Stops.{Code, StopOf, code_stop}
-use Rattle.wasi_records.specs.Sockets.{poll_connect_asks}
+use Rattle.record_common.specs.Stops.{Code, StopOf, code_stop}
+use Rattle.tcp_records.specs.Sockets.{poll_connect_asks}
 use Rattle.host_store.specs.Block.{Call, Does, Read, last, need, goes_on, or_trap, ◌>>=◌, ◌>>◌}
 use Rattle.host_store.specs.Lines.{tcp_at, in_store, same_stop, storing, on_tcp, done_by, finish_connect_of}
 use Rattle.wasi_p2.specs.Tcp.{local_address, remote_address, finish_connect, make_streams}
 use Rattle.wasi_walks.proofs.walks.States.{OverWith, Between, socket_record, make_given, socket_kind, At, Starts, streams_are, Put, Over, there}
+use Rattle.wasi_steps.specs.declared.guest_call.TcpCall.{TcpCall}
 
 module _ {contexts : List WasiSocketsCtx} {line : ℕ} {origin : Step} {law : Law contexts line origin} where
   -- == a call on the record of a handle
@@ -145,7 +146,7 @@ module _ {contexts : List WasiSocketsCtx} {line : ℕ} {origin : Step} {law : La
       call_given _ (λ done. G done.1) (more m.table (Input place) g) (mark (marks m.table (Input place) (inl refl) g)) (λ why t. gives _ (Leaves _))
       (λ input t k. call _ (mark (marks t (Output place) (inr refl) k)) (λ why u. gives _ (Leaves _)) (λ output u. gives _ (Leaves _)))
 
-  pub finish_connect_walks : (c s : ℕ) (m : Machine) → Has (handles_of origin) s → origin ≡ Step.Call c (GuestCall.TcpFinishConnect s)
+  pub finish_connect_walks : (c s : ℕ) (m : Machine) → Has (handles_of origin) s → origin ≡ Step.Call c (GuestCall.Tcp (TcpCall.FinishConnect s))
       → Walks law (Starts m Unused) OverWith (finish_connect (own_of line) s m)
   finish_connect_walks c s m named is =
       look (λ place. in_store (finish_connect_of place) >> (Read (λ m. side_at (tcp2_at m.store.records place)) >>= λ side. make_streams (own_of line) s place side))

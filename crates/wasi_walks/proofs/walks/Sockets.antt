@@ -3,7 +3,7 @@ use Rattle.std.specs.Prelude.{IsSome}
 use Rattle.wasi_tcp.specs.Halves.{take_send}
 use Rattle.wasi_records.specs.Records.{tcp2_at}
 use Rattle.host_store.specs.Store.{with_socket}
-use Rattle.wasi_records.specs.Stops.{Code}
+use Rattle.record_common.specs.Stops.{Code}
 use Rattle.wasi_addr.specs.declared.p2.ErrorCode.TheVariants.{NotInProgress}
 use Rattle.host_store.specs.Block.{give as gives_all, after_call, last, need, or_trap, ◌>>◌}
 use Rattle.host_store.specs.Lines.{done_by, finish_connect_of, same_stop}
@@ -28,7 +28,7 @@ use Rattle.wasi_tcp.specs.Listening.{listen_asks, listen_ended, listen_goes_on}
 use Rattle.wasi_walks.proofs.walks.Told.{IsTold, told_first}
 use Rattle.wasi_addr.specs.Clamp.{clamped_backlog}
 use Rattle.wasi_world.specs.declared.call.Opt.{Opt}
-use Rattle.wasi_records.specs.Holding.{has_listener}
+use Rattle.tcp_records.specs.Holding.{has_listener}
 use Rattle.wasi_walks.specs.Licence.{BindsAnywhere, IsGetOf, IsSetTo}
 use Rattle.wasi_tcp.specs.Addresses.{usable_side, local_side, local_from, after_peer, peer_known, remote_in, still_connected}
 use Rattle.wasi_walks.proofs.walks.Moves.{IsOfOld, HasBinding, ListensForHandle, Interface, IsConnecting, NoStart, IsSettled, GoesOn, Used, Unused, Here, put, opened_by, Reconnects, Opens, BeginsConnect, OfSocket, Plain, Spends, Changes, BeginsBind, begun_bind, beginning_listen, BeginsListen, Unlistens, HasListen}

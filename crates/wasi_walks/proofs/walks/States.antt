@@ -18,6 +18,7 @@ use Rattle.wasi_walks.proofs.walks.Law.{HasRecord, Given, given_then}
 use Rattle.wasi_records.specs.Records.{tcp2_at, tcp2_put}
 use Rattle.wasi_records.specs.declared.records.Record.{Record}
 use Rattle.wasi_walks.proofs.Places.{push_finds, tcp_sort}
+use Rattle.wasi_steps.specs.declared.guest_call.PipeCall.{PipeCall}
 
 -- a line begins, and is over
 abbrev pub Starts : Machine → Own → Here
@@ -224,9 +225,9 @@ IsPlain (PlainOutput plain) = ⊤
 IsPlain _ = ⊥
 
 pub makes_plain : (s : Step) (kind : Kind) → MakesPlain s kind → IsPlain kind
-makes_plain (Step.Call ctx (GuestCall.PipeIn bytes)) (PlainInput (plain_input.Pipe place)) m = tt
-makes_plain (Step.Call ctx (GuestCall.PipeOut capacity)) (PlainOutput (plain_output.Pipe place)) m = tt
-makes_plain (Step.Call ctx GuestCall.Sink) (PlainOutput plain_output.Sink) m = tt
-makes_plain (Step.Call ctx GuestCall.ClosedIn) (PlainInput plain_input.Closed) m = tt
-makes_plain (Step.Call ctx GuestCall.ClosedOut) (PlainOutput plain_output.Closed) m = tt
+makes_plain (Step.Call ctx (GuestCall.Pipe (PipeCall.In bytes))) (PlainInput (plain_input.Pipe place)) m = tt
+makes_plain (Step.Call ctx (GuestCall.Pipe (PipeCall.Out capacity))) (PlainOutput (plain_output.Pipe place)) m = tt
+makes_plain (Step.Call ctx (GuestCall.Pipe PipeCall.Sink)) (PlainOutput plain_output.Sink) m = tt
+makes_plain (Step.Call ctx (GuestCall.Pipe PipeCall.ClosedIn)) (PlainInput plain_input.Closed) m = tt
+makes_plain (Step.Call ctx (GuestCall.Pipe PipeCall.ClosedOut)) (PlainOutput plain_output.Closed) m = tt
 makes_plain _ _ m = absurd m

@@ -40,7 +40,7 @@ use Rattle.wasi_walks.proofs.walks.Sends.{check_send_walks, drop_outgoing_walks,
 use Rattle.wasi_walks.proofs.walks.Udp.{on_udp, udp_local_at_walks, udp_get_at_walks, udp_set_at_walks, start_udp_bind_walks, finish_udp_bind_walks, Polling, polled_walks, create_udp_walks}
 use Rattle.wasi_walks.proofs.walks.P3Udp.{p3_disconnect_walks, p3_udp_get_walks, p3_udp_local_walks, p3_udp_set_walks}
 use Rattle.host_store.specs.BaseStops.{BaseStop}
-use Rattle.wasi_records.specs.declared.udp.UdpRecord.{UdpRecord}
+use Rattle.udp_records.specs.declared.udp.UdpRecord.{UdpRecord}
 use Rattle.wasi_walks.proofs.Words.{Asks, append-nil, first_ids, handles_of, inr, ◌∙◌, ◌∷◌, []}
 use Rattle.wasi_streams.specs.Streams.{zeros}
 use Rattle.host_store.specs.declared.kind.Kind.TheVariants.{PlainInput, PlainOutput}
@@ -64,6 +64,15 @@ use Rattle.wasi_walks.proofs.walks.SocketDatagrams.{p3_udp_receive_walks, p3_udp
 use Rattle.wasi_walks.proofs.walks.Cancels.{cancel_walks}
 use Rattle.wasi_walks.proofs.walks.Pipes.{input_pipe_walks, output_pipe_walks, plain_walks}
 use Rattle.wasi_walks.proofs.walks.Splices.{splice_walks}
+use Rattle.wasi_steps.specs.declared.guest_call.TcpCall.{TcpCall}
+use Rattle.wasi_steps.specs.declared.guest_call.UdpCall.{UdpCall}
+use Rattle.wasi_steps.specs.declared.guest_call.NameCall.{NameCall}
+use Rattle.wasi_steps.specs.declared.guest_call.StreamCall.{StreamCall}
+use Rattle.wasi_steps.specs.declared.guest_call.PipeCall.{PipeCall}
+use Rattle.wasi_steps.specs.declared.guest_call.PollableCall.{PollableCall}
+use Rattle.wasi_steps.specs.declared.guest_call.P3TcpCall.{P3TcpCall}
+use Rattle.wasi_steps.specs.declared.guest_call.P3UdpCall.{P3UdpCall}
+use Rattle.wasi_steps.specs.declared.guest_call.P3NameCall.{P3NameCall}
 
 -- it makes no handle, and is no listen
 abbrev MakesNoHandle : StandingCall → Type 0
@@ -85,10 +94,10 @@ ResumesSimply (Some s) = ContinuesSimply s.call
 
 -- nor does the step, which is done beside this pending call
 abbrev IsSimpleAt : Option Standing → Step → Type 0
-IsSimpleAt o (Step.Call ctx (GuestCall.Splice output input len)) = ⊥
-IsSimpleAt o (Step.Call ctx (GuestCall.BlockingWrite output bytes)) = ⊥
-IsSimpleAt o (Step.Call ctx (GuestCall.BlockingZeroes output len)) = ⊥
-IsSimpleAt o (Step.Call ctx (GuestCall.BlockingSplice output input len)) = ⊥
+IsSimpleAt o (Step.Call ctx (GuestCall.Stream (StreamCall.Splice output input len))) = ⊥
+IsSimpleAt o (Step.Call ctx (GuestCall.Stream (StreamCall.BlockingWrite output bytes))) = ⊥
+IsSimpleAt o (Step.Call ctx (GuestCall.Stream (StreamCall.BlockingZeroes output len))) = ⊥
+IsSimpleAt o (Step.Call ctx (GuestCall.Stream (StreamCall.BlockingSplice output input len))) = ⊥
 IsSimpleAt o (Step.Poll n) = ResumesSimply o
 IsSimpleAt o _ = ⊤
 
@@ -203,16 +212,16 @@ module _ {contexts : List WasiSocketsCtx} {line : ℕ} {origin : Step} {law : La
   begun_calls is q w = calls is q (move (Spends _ refl) w)
 
 -- what a set sets, by what its setting chooses
-option_set : (c s : ℕ) (setting : TcpSetting) (option : Opt) (value : ℕ) → chosen setting ≡ AnOption option value → IsSetTo option (value_set option value) (Step.Call c (GuestCall.TcpSet s setting))
+option_set : (c s : ℕ) (setting : TcpSetting) (option : Opt) (value : ℕ) → chosen setting ≡ AnOption option value → IsSetTo option (value_set option value) (Step.Call c (GuestCall.Tcp (TcpCall.Set s setting)))
 option_set c s setting option value e = subst (SetsOption option (value_set option value)) (sym e) (refl, refl)
 
-backlog_set : (c s : ℕ) (setting : TcpSetting) (value : ℕ) → chosen setting ≡ TheBacklog value → IsBacklogSet (clamped_backlog value) (Step.Call c (GuestCall.TcpSet s setting))
+backlog_set : (c s : ℕ) (setting : TcpSetting) (value : ℕ) → chosen setting ≡ TheBacklog value → IsBacklogSet (clamped_backlog value) (Step.Call c (GuestCall.Tcp (TcpCall.Set s setting)))
 backlog_set c s setting value e = subst (SetsBacklog (clamped_backlog value)) (sym e) refl
 
-p3_option_set : (c s : ℕ) (setting : TcpSetting) (option : Opt) (value : ℕ) → chosen setting ≡ AnOption option value → IsSetTo option (value_set option value) (Step.Call c (GuestCall.P3TcpSet s setting))
+p3_option_set : (c s : ℕ) (setting : TcpSetting) (option : Opt) (value : ℕ) → chosen setting ≡ AnOption option value → IsSetTo option (value_set option value) (Step.Call c (GuestCall.P3Tcp (P3TcpCall.Set s setting)))
 p3_option_set c s setting option value e = subst (SetsOption option (value_set option value)) (sym e) (refl, refl)
 
-p3_backlog_set : (c s : ℕ) (setting : TcpSetting) (value : ℕ) → chosen setting ≡ TheBacklog value → IsBacklogSet (clamped_backlog value) (Step.Call c (GuestCall.P3TcpSet s setting))
+p3_backlog_set : (c s : ℕ) (setting : TcpSetting) (value : ℕ) → chosen setting ≡ TheBacklog value → IsBacklogSet (clamped_backlog value) (Step.Call c (GuestCall.P3Tcp (P3TcpCall.Set s setting)))
 p3_backlog_set c s setting value e = subst (SetsBacklog (clamped_backlog value)) (sym e) refl
 
 -- what is finished is no bind in progress
@@ -226,93 +235,93 @@ listen_settles _ e = tt
 
 -- each step is made of moves; where a guest calls, nothing is pending
 pub step_walks : {contexts : List WasiSocketsCtx} (line : ℕ) (s : Step) {law : Law contexts line s} → (m : Machine) → BeginsWrites law ⊎ IsSimpleAt m.store.standing s → (is_guest_call s ≡ true → m.store.standing ≡ None) → Walks law (Starts m (may m s)) OverWith (step_asks contexts m line s)
-step_walks line (Step.Call c GuestCall.Network) m b f = move (Spends _ refl) (and_then (and_then (mark (ANetwork c refl)) (λ made. give _)) (λ done. give _))
-step_walks {contexts} line (Step.Call c (GuestCall.TcpCreate family)) m b f = move (MakesRoom _ c family (context_at contexts c) refl) (and_then (create same_told code_told P2 (context_at contexts c) family (refl, refl, refl) refl refl refl) (λ done. give _))
-step_walks line (Step.Call c (GuestCall.TcpStartBind s n a)) m b f = and_then (start_bind_walks m s n a (inl refl) refl (none_stands (f refl))) (λ done. give _)
-step_walks line (Step.Call c (GuestCall.TcpFinishBind s)) m b f = as_left (finish_started_walks m is_bind bind_settles (socket_at m s))
-step_walks line (Step.Call c (GuestCall.TcpStartConnect s n a)) m b f = and_then (start_connect_walks m s n a (inl refl) refl) (λ done. give _)
-step_walks line (Step.Call c (GuestCall.TcpFinishConnect s)) m b f = and_then (finish_connect_walks c s m (inl refl) refl) (λ done. give _)
-step_walks line (Step.Call c (GuestCall.TcpStartListen s)) m b f = and_then (start_listen_walks m s (socket_at m s) refl (inl refl) tt tt (none_stands (f refl))) (λ done. give _)
-step_walks line (Step.Call c (GuestCall.TcpFinishListen s)) m b f = as_left (finish_started_walks m is_listen listen_settles (socket_at m s))
-step_walks line (Step.Call c (GuestCall.TcpAccept s)) m b f = and_then (accept_on_walks c s m (socket_at m s) refl (inl refl) refl) (λ done. give _)
-step_walks line (Step.Call c (GuestCall.TcpLocalAddress s)) m b f = and_then (local_address_walks m s (inl refl)) (λ done. give _)
-step_walks line (Step.Call c (GuestCall.TcpRemoteAddress s)) m b f = and_then (remote_address_walks m s (inl refl)) (λ done. give _)
-step_walks line (Step.Call c (GuestCall.TcpIsListening s)) m b f = gives _ (Spends _ refl)
-step_walks line (Step.Call c (GuestCall.TcpAddressFamily s)) m b f = gives _ (Spends _ refl)
-step_walks line (Step.Call c (GuestCall.TcpGet s option)) m b f = and_then (on_socket m s (socket_at m s) (inl refl) (socket_record (kind_at m.table s)) (λ place. looked_walks m place (λ x. get_option_asks (own_of line) x option) (tcp2_at m.store.records place) refl (λ r here. get_walks here refl r option refl refl))) (λ done. give _)
-step_walks line (Step.Call c (GuestCall.TcpSet s setting)) m b f = and_then (set_chosen_walks m s (socket_at m s) (chosen setting) (inl refl) (socket_record (kind_at m.table s)) (option_set c s setting) (backlog_set c s setting)) (λ done. give _)
-step_walks line (Step.Call c (GuestCall.TcpShutdown s how)) m b f = and_then (on_socket m s (socket_at m s) (inl refl) (socket_record (kind_at m.table s)) (λ place. shutdown_at_walks m place how (tcp2_at m.store.records place) refl)) (λ done. give _)
-step_walks {contexts} line (Step.Call c (GuestCall.P3TcpCreate family)) m b f = and_then (create p3.handle_told p3.code_told P3 (context_at contexts c) family (refl, refl, refl) refl refl refl) (λ done. give _)
-step_walks line (Step.Call c (GuestCall.P3TcpBind s a)) m b f = and_then (p3_bind_walks m s a (inl refl) refl (none_stands (f refl))) (λ done. give _)
-step_walks line (Step.Call c (GuestCall.P3TcpConnect s a)) m b f = and_then (p3_connect_walks m s a (inl refl) refl) (λ done. give _)
-step_walks line (Step.Call c (GuestCall.P3TcpListen s)) m b f = and_then (p3_listen_walks m s (inl refl) tt tt refl (none_stands (f refl))) (λ done. give _)
-step_walks line (Step.Call c (GuestCall.P3Accept listener remaining)) m b f = and_then (p3_accept_walks m c listener remaining (inl refl) refl) (λ done. give _)
-step_walks line (Step.Call c (GuestCall.P3TcpReceive s)) m b f = and_then (p3_receive_walks m c s refl) (λ done. give _)
-step_walks line (Step.Call c (GuestCall.P3TcpSend s)) m b f = and_then (p3_send_walks m c s refl) (λ done. give _)
-step_walks line (Step.Call c (GuestCall.P3Read end len)) m b f = and_then (p3_read_walks m end len (inl refl) (f refl)) (λ done. give _)
-step_walks line (Step.Call c (GuestCall.P3Write end bytes)) m b f = and_then (p3_write_walks m c end bytes (inl refl) refl (f refl)) (λ done. give _)
-step_walks line (Step.Call c (GuestCall.P3Result slot)) m b f = p3_result_walks (λ done. (slot_reply done.0, done.1)) (λ done. refl) m slot (f refl)
-step_walks line (Step.Call c (GuestCall.P3TcpLocalAddress s)) m b f = and_then (p3_local_walks m s (inl refl)) (λ done. give _)
-step_walks line (Step.Call c (GuestCall.P3TcpRemoteAddress s)) m b f = and_then (p3_remote_walks m s (inl refl)) (λ done. give _)
-step_walks line (Step.Call c (GuestCall.P3TcpIsListening s)) m b f = gives _ (Spends _ refl)
-step_walks line (Step.Call c (GuestCall.P3TcpAddressFamily s)) m b f = gives _ (Spends _ refl)
-step_walks line (Step.Call c (GuestCall.P3TcpGet s option)) m b f = and_then (p3_get_walks m s option (inl refl) refl) (λ done. give _)
-step_walks line (Step.Call c (GuestCall.P3TcpSet s setting)) m b f = and_then (p3_set_walks m s (chosen setting) (inl refl) (p3_option_set c s setting) (p3_backlog_set c s setting)) (λ done. give _)
-step_walks {contexts} line (Step.Call c (GuestCall.P3UdpCreate family)) m b f = and_then (and_then (create_udp_walks P3 m (context_at contexts c) family (refl, refl, refl) (f refl)) (λ done. give _)) (λ done. give _)
-step_walks line (Step.Call c (GuestCall.P3UdpBind s a)) m b f = and_then (p3_udp_bind_walks m s a (inl refl) refl (none_stands (f refl))) (λ done. give _)
-step_walks line (Step.Call c (GuestCall.P3UdpConnect s a)) m b f = and_then (p3_udp_connect_walks m s a (inl refl) refl (none_stands (f refl))) (λ done. give _)
-step_walks line (Step.Call c (GuestCall.P3UdpDisconnect s)) m b f = and_then (p3_disconnect_walks m s (inl refl) tt) (λ done. give _)
-step_walks line (Step.Call c (GuestCall.P3UdpSend s d)) m b f = and_then (p3_udp_send_walks m c s d refl (inl refl)) (λ done. give _)
-step_walks line (Step.Call c (GuestCall.P3UdpReceive s)) m b f = and_then (p3_udp_receive_walks m c s refl (inl refl)) (λ done. give _)
-step_walks line (Step.Call c (GuestCall.P3UdpLocalAddress s)) m b f = and_then (p3_udp_local_walks m s (inl refl)) (λ done. give _)
-step_walks line (Step.Call c (GuestCall.P3UdpRemoteAddress s)) m b f = gives _ (Spends _ refl)
-step_walks line (Step.Call c (GuestCall.P3UdpAddressFamily s)) m b f = gives _ (Spends _ refl)
-step_walks line (Step.Call c (GuestCall.P3UdpGet s option)) m b f = and_then (p3_udp_get_walks m s (udp_opt option) (inl refl) refl) (λ done. give _)
-step_walks line (Step.Call c (GuestCall.P3UdpSet s setting)) m b f = and_then (p3_udp_set_walks m s (udp_chosen setting).0 (udp_chosen setting).1 (inl refl) (refl, refl)) (λ done. give _)
-step_walks line (Step.Call c (GuestCall.P3Resolve name)) m b f = and_then (p3_resolve_walks m c name refl) (λ done. give _)
-step_walks {contexts} line (Step.Call c (GuestCall.UdpCreate family)) m b f = and_then (and_then (create_udp_walks P2 m (context_at contexts c) family (refl, refl, refl) (f refl)) (λ done. give _)) (λ done. give _)
-step_walks line (Step.Call c (GuestCall.UdpStartBind s n a)) m b f = and_then (start_udp_bind_walks m s n a (inl refl) refl (none_stands (f refl))) (λ done. give _)
-step_walks line (Step.Call c (GuestCall.UdpFinishBind s)) m b f = as_left (finish_udp_bind_walks m (udp_socket_at m s))
-step_walks line (Step.Call c (GuestCall.UdpLocalAddress s)) m b f = and_then (on_udp m s (udp_socket_at m s) (inl refl) (udp_record (kind_at m.table s)) (λ place. udp_local_at_walks m place (open_at m.store.records place) refl)) (λ done. give _)
-step_walks line (Step.Call c (GuestCall.UdpRemoteAddress s)) m b f = gives _ (Spends _ refl)
-step_walks line (Step.Call c (GuestCall.UdpAddressFamily s)) m b f = gives _ (Spends _ refl)
-step_walks line (Step.Call c (GuestCall.UdpGet s option)) m b f = and_then (on_udp m s (udp_socket_at m s) (inl refl) (udp_record (kind_at m.table s)) (λ place. udp_get_at_walks m place (udp_opt option) refl (open_at m.store.records place) refl)) (λ done. give _)
-step_walks line (Step.Call c (GuestCall.UdpSet s setting)) m b f = and_then (on_udp m s (udp_socket_at m s) (inl refl) (udp_record (kind_at m.table s)) (λ place. udp_set_at_walks m place (udp_chosen setting).0 (udp_chosen setting).1 (refl, refl) (open_at m.store.records place) refl)) (λ done. give _)
-step_walks line (Step.Call c (GuestCall.UdpStream s remote)) m b f = and_then (stream_walks m c s remote (udp_socket_at m s) refl refl (inl refl) (none_stands (f refl))) (λ done. give _)
-step_walks line (Step.Call c (GuestCall.UdpReceive incoming most)) m b f = and_then (receive_walks tt m c incoming most refl (inl refl)) (λ done. give _)
-step_walks line (Step.Call c (GuestCall.UdpCheckSend outgoing)) m b f = as_left (check_send_walks m (outgoing_at m outgoing))
-step_walks line (Step.Call c (GuestCall.UdpSend outgoing ds)) m b f = and_then (send_walks m c outgoing ds refl (inl refl)) (λ done. give _)
-step_walks line (Step.Call c (GuestCall.Resolve network name)) m b f = and_then (resolve_walks m (f refl) c network name refl) (λ done. give _)
-step_walks line (Step.Call c (GuestCall.ResolveNext lookup)) m b f = as_left (next_address_walks m (lookup_number m lookup))
-step_walks line (Step.Call c (GuestCall.NetworkErrorCode e)) m b f = gives _ (Spends _ refl)
-step_walks line (Step.Call c (GuestCall.Read input len)) m b f = and_then (begun_calls tt (none_stands (f refl)) (calls_over (read_asks_walks m input (inl refl) len))) (λ done. give _)
-step_walks line (Step.Call c (GuestCall.CheckWrite output)) m b f = and_then (begun_calls tt (none_stands (f refl)) (calls_over (check_asks_walks m output (inl refl)))) (λ done. give _)
-step_walks line (Step.Call c (GuestCall.Write output bytes)) m b f = and_then (calls tt (none_stands (f refl)) (calls_over (write_asks_walks m output (inl refl) bytes (AsLet refl)))) (λ done. give _)
-step_walks line (Step.Call c (GuestCall.Flush output)) m b f = and_then (begun_calls tt (none_stands (f refl)) (calls_over (flushed_asks_walks m output (inl refl)))) (λ done. give _)
-step_walks line (Step.Call c (GuestCall.Subscribe s)) m b f = and_then (subscribe_walks c s m (watched_by (kind_at m.table s)) refl refl) (λ done. give _)
-step_walks line (Step.Call c (GuestCall.Ready p)) m b f = ready_asks_walks m (none_stands (f refl)) p (inl refl) tt tt _
-step_walks line (Step.Call c (GuestCall.Block p)) {law = law} m b f = and_then (looks_begin tt (none_stands (f refl)) (block_walks law line (p ∷ []) First (refl, (λ q k. k), tt) p refl m 1)) (λ done. give _)
-step_walks line (Step.Call c (GuestCall.PollList ps)) m b f = and_then (looks_begin tt (none_stands (f refl)) (poll_asks_walks tt m ps (sym (append-nil ps)))) (λ done. give _)
-step_walks line (Step.Call c (GuestCall.Drop this)) m b f = and_then (drop_walks m this (kind_at m.table this) (inl refl) refl (f refl)) (λ done. give _)
-step_walks line (Step.Call c (GuestCall.PipeIn bytes)) m b f = and_then (input_pipe_walks m bytes tt) (λ done. give _)
-step_walks line (Step.Call c (GuestCall.PipeOut capacity)) m b f = and_then (output_pipe_walks m capacity tt) (λ done. give _)
-step_walks line (Step.Call c (GuestCall.PipeContents output)) m b f = gives _ (Spends _ refl)
-step_walks line (Step.Call c GuestCall.Sink) m b f = and_then (plain_walks m (PlainOutput plain_output.Sink) tt tt) (λ done. give _)
-step_walks line (Step.Call c GuestCall.ClosedIn) m b f = and_then (plain_walks m (PlainInput plain_input.Closed) tt tt) (λ done. give _)
-step_walks line (Step.Call c GuestCall.ClosedOut) m b f = and_then (plain_walks m (PlainOutput plain_output.Closed) tt tt) (λ done. give _)
-step_walks line (Step.Call c (GuestCall.Skip input len)) m b f = and_then (begun_calls tt (none_stands (f refl)) (calls_over (skip_asks_walks m input (inl refl) len))) (λ done. give _)
-step_walks line (Step.Call c (GuestCall.WriteZeroes output len)) m b f = and_then (calls tt (none_stands (f refl)) (calls_over (write_asks_walks m output (inl refl) (zeros len) (AsLet refl)))) (λ done. give _)
-step_walks line (Step.Call c (GuestCall.Splice output input len)) m (inl begins) f = and_then (begun_calls tt (none_stands (f refl)) (splice_walks begins output input (inl refl) (inr (inl refl)) m len)) (λ done. give _)
-step_walks line (Step.Call c (GuestCall.Splice output input len)) m (inr none) f = absurd none
-step_walks line (Step.Call c (GuestCall.BlockingRead input len)) m b f = and_then (begun_calls tt (none_stands (f refl)) (blocking_read_walks (first_ids line) input len m)) (λ done. give _)
-step_walks line (Step.Call c (GuestCall.BlockingSkip input len)) m b f = and_then (begun_calls tt (none_stands (f refl)) (blocking_skip_walks (first_ids line) input len m)) (λ done. give _)
-step_walks line (Step.Call c (GuestCall.BlockingWrite output bytes)) m (inl begins) f = and_then (begun_calls tt (none_stands (f refl)) (blocking_write_walks (first_ids line) output begins m bytes)) (λ done. give _)
-step_walks line (Step.Call c (GuestCall.BlockingWrite output bytes)) m (inr none) f = absurd none
-step_walks line (Step.Call c (GuestCall.BlockingZeroes output len)) m (inl begins) f = and_then (begun_calls tt (none_stands (f refl)) (blocking_zeroes_walks (first_ids line) output begins m len)) (λ done. give _)
-step_walks line (Step.Call c (GuestCall.BlockingZeroes output len)) m (inr none) f = absurd none
-step_walks line (Step.Call c (GuestCall.BlockingFlush output)) m b f = and_then (begun_calls tt (none_stands (f refl)) (blocking_flush_walks (first_ids line) output m)) (λ done. give _)
-step_walks line (Step.Call c (GuestCall.BlockingSplice output input len)) m (inl begins) f = and_then (begun_calls tt (none_stands (f refl)) (blocking_splice_walks (first_ids line) begins output input len m)) (λ done. give _)
-step_walks line (Step.Call c (GuestCall.BlockingSplice output input len)) m (inr none) f = absurd none
+step_walks line (Step.Call c (GuestCall.Names NameCall.Network)) m b f = move (Spends _ refl) (and_then (and_then (mark (ANetwork c refl)) (λ made. give _)) (λ done. give _))
+step_walks {contexts} line (Step.Call c (GuestCall.Tcp (TcpCall.Create family))) m b f = move (MakesRoom _ c family (context_at contexts c) refl) (and_then (create same_told code_told P2 (context_at contexts c) family (refl, refl, refl) refl refl refl) (λ done. give _))
+step_walks line (Step.Call c (GuestCall.Tcp (TcpCall.StartBind s n a))) m b f = and_then (start_bind_walks m s n a (inl refl) refl (none_stands (f refl))) (λ done. give _)
+step_walks line (Step.Call c (GuestCall.Tcp (TcpCall.FinishBind s))) m b f = as_left (finish_started_walks m is_bind bind_settles (socket_at m s))
+step_walks line (Step.Call c (GuestCall.Tcp (TcpCall.StartConnect s n a))) m b f = and_then (start_connect_walks m s n a (inl refl) refl) (λ done. give _)
+step_walks line (Step.Call c (GuestCall.Tcp (TcpCall.FinishConnect s))) m b f = and_then (finish_connect_walks c s m (inl refl) refl) (λ done. give _)
+step_walks line (Step.Call c (GuestCall.Tcp (TcpCall.StartListen s))) m b f = and_then (start_listen_walks m s (socket_at m s) refl (inl refl) tt tt (none_stands (f refl))) (λ done. give _)
+step_walks line (Step.Call c (GuestCall.Tcp (TcpCall.FinishListen s))) m b f = as_left (finish_started_walks m is_listen listen_settles (socket_at m s))
+step_walks line (Step.Call c (GuestCall.Tcp (TcpCall.Accept s))) m b f = and_then (accept_on_walks c s m (socket_at m s) refl (inl refl) refl) (λ done. give _)
+step_walks line (Step.Call c (GuestCall.Tcp (TcpCall.LocalAddress s))) m b f = and_then (local_address_walks m s (inl refl)) (λ done. give _)
+step_walks line (Step.Call c (GuestCall.Tcp (TcpCall.RemoteAddress s))) m b f = and_then (remote_address_walks m s (inl refl)) (λ done. give _)
+step_walks line (Step.Call c (GuestCall.Tcp (TcpCall.IsListening s))) m b f = gives _ (Spends _ refl)
+step_walks line (Step.Call c (GuestCall.Tcp (TcpCall.AddressFamily s))) m b f = gives _ (Spends _ refl)
+step_walks line (Step.Call c (GuestCall.Tcp (TcpCall.Get s option))) m b f = and_then (on_socket m s (socket_at m s) (inl refl) (socket_record (kind_at m.table s)) (λ place. looked_walks m place (λ x. get_option_asks (own_of line) x option) (tcp2_at m.store.records place) refl (λ r here. get_walks here refl r option refl refl))) (λ done. give _)
+step_walks line (Step.Call c (GuestCall.Tcp (TcpCall.Set s setting))) m b f = and_then (set_chosen_walks m s (socket_at m s) (chosen setting) (inl refl) (socket_record (kind_at m.table s)) (option_set c s setting) (backlog_set c s setting)) (λ done. give _)
+step_walks line (Step.Call c (GuestCall.Tcp (TcpCall.Shutdown s how))) m b f = and_then (on_socket m s (socket_at m s) (inl refl) (socket_record (kind_at m.table s)) (λ place. shutdown_at_walks m place how (tcp2_at m.store.records place) refl)) (λ done. give _)
+step_walks {contexts} line (Step.Call c (GuestCall.P3Tcp (P3TcpCall.Create family))) m b f = and_then (create p3.handle_told p3.code_told P3 (context_at contexts c) family (refl, refl, refl) refl refl refl) (λ done. give _)
+step_walks line (Step.Call c (GuestCall.P3Tcp (P3TcpCall.Bind s a))) m b f = and_then (p3_bind_walks m s a (inl refl) refl (none_stands (f refl))) (λ done. give _)
+step_walks line (Step.Call c (GuestCall.P3Tcp (P3TcpCall.Connect s a))) m b f = and_then (p3_connect_walks m s a (inl refl) refl) (λ done. give _)
+step_walks line (Step.Call c (GuestCall.P3Tcp (P3TcpCall.Listen s))) m b f = and_then (p3_listen_walks m s (inl refl) tt tt refl (none_stands (f refl))) (λ done. give _)
+step_walks line (Step.Call c (GuestCall.P3Tcp (P3TcpCall.Accept listener remaining))) m b f = and_then (p3_accept_walks m c listener remaining (inl refl) refl) (λ done. give _)
+step_walks line (Step.Call c (GuestCall.P3Tcp (P3TcpCall.Receive s))) m b f = and_then (p3_receive_walks m c s refl) (λ done. give _)
+step_walks line (Step.Call c (GuestCall.P3Tcp (P3TcpCall.Send s))) m b f = and_then (p3_send_walks m c s refl) (λ done. give _)
+step_walks line (Step.Call c (GuestCall.P3Tcp (P3TcpCall.Read end len))) m b f = and_then (p3_read_walks m end len (inl refl) (f refl)) (λ done. give _)
+step_walks line (Step.Call c (GuestCall.P3Tcp (P3TcpCall.Write end bytes))) m b f = and_then (p3_write_walks m c end bytes (inl refl) refl (f refl)) (λ done. give _)
+step_walks line (Step.Call c (GuestCall.P3Tcp (P3TcpCall.Result slot))) m b f = p3_result_walks (λ done. (slot_reply done.0, done.1)) (λ done. refl) m slot (f refl)
+step_walks line (Step.Call c (GuestCall.P3Tcp (P3TcpCall.LocalAddress s))) m b f = and_then (p3_local_walks m s (inl refl)) (λ done. give _)
+step_walks line (Step.Call c (GuestCall.P3Tcp (P3TcpCall.RemoteAddress s))) m b f = and_then (p3_remote_walks m s (inl refl)) (λ done. give _)
+step_walks line (Step.Call c (GuestCall.P3Tcp (P3TcpCall.IsListening s))) m b f = gives _ (Spends _ refl)
+step_walks line (Step.Call c (GuestCall.P3Tcp (P3TcpCall.AddressFamily s))) m b f = gives _ (Spends _ refl)
+step_walks line (Step.Call c (GuestCall.P3Tcp (P3TcpCall.Get s option))) m b f = and_then (p3_get_walks m s option (inl refl) refl) (λ done. give _)
+step_walks line (Step.Call c (GuestCall.P3Tcp (P3TcpCall.Set s setting))) m b f = and_then (p3_set_walks m s (chosen setting) (inl refl) (p3_option_set c s setting) (p3_backlog_set c s setting)) (λ done. give _)
+step_walks {contexts} line (Step.Call c (GuestCall.P3Udp (P3UdpCall.Create family))) m b f = and_then (and_then (create_udp_walks P3 m (context_at contexts c) family (refl, refl, refl) (f refl)) (λ done. give _)) (λ done. give _)
+step_walks line (Step.Call c (GuestCall.P3Udp (P3UdpCall.Bind s a))) m b f = and_then (p3_udp_bind_walks m s a (inl refl) refl (none_stands (f refl))) (λ done. give _)
+step_walks line (Step.Call c (GuestCall.P3Udp (P3UdpCall.Connect s a))) m b f = and_then (p3_udp_connect_walks m s a (inl refl) refl (none_stands (f refl))) (λ done. give _)
+step_walks line (Step.Call c (GuestCall.P3Udp (P3UdpCall.Disconnect s))) m b f = and_then (p3_disconnect_walks m s (inl refl) tt) (λ done. give _)
+step_walks line (Step.Call c (GuestCall.P3Udp (P3UdpCall.Send s d))) m b f = and_then (p3_udp_send_walks m c s d refl (inl refl)) (λ done. give _)
+step_walks line (Step.Call c (GuestCall.P3Udp (P3UdpCall.Receive s))) m b f = and_then (p3_udp_receive_walks m c s refl (inl refl)) (λ done. give _)
+step_walks line (Step.Call c (GuestCall.P3Udp (P3UdpCall.LocalAddress s))) m b f = and_then (p3_udp_local_walks m s (inl refl)) (λ done. give _)
+step_walks line (Step.Call c (GuestCall.P3Udp (P3UdpCall.RemoteAddress s))) m b f = gives _ (Spends _ refl)
+step_walks line (Step.Call c (GuestCall.P3Udp (P3UdpCall.AddressFamily s))) m b f = gives _ (Spends _ refl)
+step_walks line (Step.Call c (GuestCall.P3Udp (P3UdpCall.Get s option))) m b f = and_then (p3_udp_get_walks m s (udp_opt option) (inl refl) refl) (λ done. give _)
+step_walks line (Step.Call c (GuestCall.P3Udp (P3UdpCall.Set s setting))) m b f = and_then (p3_udp_set_walks m s (udp_chosen setting).0 (udp_chosen setting).1 (inl refl) (refl, refl)) (λ done. give _)
+step_walks line (Step.Call c (GuestCall.P3Names (P3NameCall.Resolve name))) m b f = and_then (p3_resolve_walks m c name refl) (λ done. give _)
+step_walks {contexts} line (Step.Call c (GuestCall.Udp (UdpCall.Create family))) m b f = and_then (and_then (create_udp_walks P2 m (context_at contexts c) family (refl, refl, refl) (f refl)) (λ done. give _)) (λ done. give _)
+step_walks line (Step.Call c (GuestCall.Udp (UdpCall.StartBind s n a))) m b f = and_then (start_udp_bind_walks m s n a (inl refl) refl (none_stands (f refl))) (λ done. give _)
+step_walks line (Step.Call c (GuestCall.Udp (UdpCall.FinishBind s))) m b f = as_left (finish_udp_bind_walks m (udp_socket_at m s))
+step_walks line (Step.Call c (GuestCall.Udp (UdpCall.LocalAddress s))) m b f = and_then (on_udp m s (udp_socket_at m s) (inl refl) (udp_record (kind_at m.table s)) (λ place. udp_local_at_walks m place (open_at m.store.records place) refl)) (λ done. give _)
+step_walks line (Step.Call c (GuestCall.Udp (UdpCall.RemoteAddress s))) m b f = gives _ (Spends _ refl)
+step_walks line (Step.Call c (GuestCall.Udp (UdpCall.AddressFamily s))) m b f = gives _ (Spends _ refl)
+step_walks line (Step.Call c (GuestCall.Udp (UdpCall.Get s option))) m b f = and_then (on_udp m s (udp_socket_at m s) (inl refl) (udp_record (kind_at m.table s)) (λ place. udp_get_at_walks m place (udp_opt option) refl (open_at m.store.records place) refl)) (λ done. give _)
+step_walks line (Step.Call c (GuestCall.Udp (UdpCall.Set s setting))) m b f = and_then (on_udp m s (udp_socket_at m s) (inl refl) (udp_record (kind_at m.table s)) (λ place. udp_set_at_walks m place (udp_chosen setting).0 (udp_chosen setting).1 (refl, refl) (open_at m.store.records place) refl)) (λ done. give _)
+step_walks line (Step.Call c (GuestCall.Udp (UdpCall.Stream s remote))) m b f = and_then (stream_walks m c s remote (udp_socket_at m s) refl refl (inl refl) (none_stands (f refl))) (λ done. give _)
+step_walks line (Step.Call c (GuestCall.Udp (UdpCall.Receive incoming most))) m b f = and_then (receive_walks tt m c incoming most refl (inl refl)) (λ done. give _)
+step_walks line (Step.Call c (GuestCall.Udp (UdpCall.CheckSend outgoing))) m b f = as_left (check_send_walks m (outgoing_at m outgoing))
+step_walks line (Step.Call c (GuestCall.Udp (UdpCall.Send outgoing ds))) m b f = and_then (send_walks m c outgoing ds refl (inl refl)) (λ done. give _)
+step_walks line (Step.Call c (GuestCall.Names (NameCall.Resolve network name))) m b f = and_then (resolve_walks m (f refl) c network name refl) (λ done. give _)
+step_walks line (Step.Call c (GuestCall.Names (NameCall.ResolveNext lookup))) m b f = as_left (next_address_walks m (lookup_number m lookup))
+step_walks line (Step.Call c (GuestCall.Names (NameCall.NetworkErrorCode e))) m b f = gives _ (Spends _ refl)
+step_walks line (Step.Call c (GuestCall.Stream (StreamCall.Read input len))) m b f = and_then (begun_calls tt (none_stands (f refl)) (calls_over (read_asks_walks m input (inl refl) len))) (λ done. give _)
+step_walks line (Step.Call c (GuestCall.Stream (StreamCall.CheckWrite output))) m b f = and_then (begun_calls tt (none_stands (f refl)) (calls_over (check_asks_walks m output (inl refl)))) (λ done. give _)
+step_walks line (Step.Call c (GuestCall.Stream (StreamCall.Write output bytes))) m b f = and_then (calls tt (none_stands (f refl)) (calls_over (write_asks_walks m output (inl refl) bytes (AsLet refl)))) (λ done. give _)
+step_walks line (Step.Call c (GuestCall.Stream (StreamCall.Flush output))) m b f = and_then (begun_calls tt (none_stands (f refl)) (calls_over (flushed_asks_walks m output (inl refl)))) (λ done. give _)
+step_walks line (Step.Call c (GuestCall.Pollable (PollableCall.Subscribe s))) m b f = and_then (subscribe_walks c s m (watched_by (kind_at m.table s)) refl refl) (λ done. give _)
+step_walks line (Step.Call c (GuestCall.Pollable (PollableCall.Ready p))) m b f = ready_asks_walks m (none_stands (f refl)) p (inl refl) tt tt _
+step_walks line (Step.Call c (GuestCall.Pollable (PollableCall.Block p))) {law = law} m b f = and_then (looks_begin tt (none_stands (f refl)) (block_walks law line (p ∷ []) First (refl, (λ q k. k), tt) p refl m 1)) (λ done. give _)
+step_walks line (Step.Call c (GuestCall.Pollable (PollableCall.PollList ps))) m b f = and_then (looks_begin tt (none_stands (f refl)) (poll_asks_walks tt m ps (sym (append-nil ps)))) (λ done. give _)
+step_walks line (Step.Call c (GuestCall.Pollable (PollableCall.Drop this))) m b f = and_then (drop_walks m this (kind_at m.table this) (inl refl) refl (f refl)) (λ done. give _)
+step_walks line (Step.Call c (GuestCall.Pipe (PipeCall.In bytes))) m b f = and_then (input_pipe_walks m bytes tt) (λ done. give _)
+step_walks line (Step.Call c (GuestCall.Pipe (PipeCall.Out capacity))) m b f = and_then (output_pipe_walks m capacity tt) (λ done. give _)
+step_walks line (Step.Call c (GuestCall.Pipe (PipeCall.Contents output))) m b f = gives _ (Spends _ refl)
+step_walks line (Step.Call c (GuestCall.Pipe PipeCall.Sink)) m b f = and_then (plain_walks m (PlainOutput plain_output.Sink) tt tt) (λ done. give _)
+step_walks line (Step.Call c (GuestCall.Pipe PipeCall.ClosedIn)) m b f = and_then (plain_walks m (PlainInput plain_input.Closed) tt tt) (λ done. give _)
+step_walks line (Step.Call c (GuestCall.Pipe PipeCall.ClosedOut)) m b f = and_then (plain_walks m (PlainOutput plain_output.Closed) tt tt) (λ done. give _)
+step_walks line (Step.Call c (GuestCall.Stream (StreamCall.Skip input len))) m b f = and_then (begun_calls tt (none_stands (f refl)) (calls_over (skip_asks_walks m input (inl refl) len))) (λ done. give _)
+step_walks line (Step.Call c (GuestCall.Stream (StreamCall.WriteZeroes output len))) m b f = and_then (calls tt (none_stands (f refl)) (calls_over (write_asks_walks m output (inl refl) (zeros len) (AsLet refl)))) (λ done. give _)
+step_walks line (Step.Call c (GuestCall.Stream (StreamCall.Splice output input len))) m (inl begins) f = and_then (begun_calls tt (none_stands (f refl)) (splice_walks begins output input (inl refl) (inr (inl refl)) m len)) (λ done. give _)
+step_walks line (Step.Call c (GuestCall.Stream (StreamCall.Splice output input len))) m (inr none) f = absurd none
+step_walks line (Step.Call c (GuestCall.Stream (StreamCall.BlockingRead input len))) m b f = and_then (begun_calls tt (none_stands (f refl)) (blocking_read_walks (first_ids line) input len m)) (λ done. give _)
+step_walks line (Step.Call c (GuestCall.Stream (StreamCall.BlockingSkip input len))) m b f = and_then (begun_calls tt (none_stands (f refl)) (blocking_skip_walks (first_ids line) input len m)) (λ done. give _)
+step_walks line (Step.Call c (GuestCall.Stream (StreamCall.BlockingWrite output bytes))) m (inl begins) f = and_then (begun_calls tt (none_stands (f refl)) (blocking_write_walks (first_ids line) output begins m bytes)) (λ done. give _)
+step_walks line (Step.Call c (GuestCall.Stream (StreamCall.BlockingWrite output bytes))) m (inr none) f = absurd none
+step_walks line (Step.Call c (GuestCall.Stream (StreamCall.BlockingZeroes output len))) m (inl begins) f = and_then (begun_calls tt (none_stands (f refl)) (blocking_zeroes_walks (first_ids line) output begins m len)) (λ done. give _)
+step_walks line (Step.Call c (GuestCall.Stream (StreamCall.BlockingZeroes output len))) m (inr none) f = absurd none
+step_walks line (Step.Call c (GuestCall.Stream (StreamCall.BlockingFlush output))) m b f = and_then (begun_calls tt (none_stands (f refl)) (blocking_flush_walks (first_ids line) output m)) (λ done. give _)
+step_walks line (Step.Call c (GuestCall.Stream (StreamCall.BlockingSplice output input len))) m (inl begins) f = and_then (begun_calls tt (none_stands (f refl)) (blocking_splice_walks (first_ids line) begins output input len m)) (λ done. give _)
+step_walks line (Step.Call c (GuestCall.Stream (StreamCall.BlockingSplice output input len))) m (inr none) f = absurd none
 step_walks line (Step.Cancel n) m b f = and_then (cancel_walks m n (call_of m.store.standing n) refl) (λ done. give _)
 step_walks line Step.Turn m b f = and_then (turn_walks m) (λ done. give _)
 step_walks line (Step.Poll n) m b f = and_then (resume_walks m n refl (call_of m.store.standing n) refl b) (λ done. give _)

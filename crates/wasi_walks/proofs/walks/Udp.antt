@@ -8,16 +8,17 @@ use Rattle.wasi_machine.specs.Machine.{first_ids}
 use Rattle.wasi_world.specs.declared.ids.Ids.{Ids}
 use Rattle.wasi_world.specs.declared.call.Opt.{Opt}
 use Rattle.socket_common.specs.Options.{value_set, zero_test, refused_before, refused_after}
-use Rattle.wasi_records.specs.Records.{open_at, open_of, udp2_at}
+use Rattle.wasi_records.specs.Records.{open_at, udp2_at}
+use Rattle.udp_records.specs.Udp.{open_of}
 use Rattle.host_store.specs.declared.kind.Interface.{Interface}
 use Rattle.host_store.specs.BaseStops.{BaseStop}
 use Rattle.wasi_walks.proofs.Words.{GuestCall, OpId, Told}
-use Rattle.wasi_records.specs.declared.udp.OpenUdp.{OpenUdp}
-use Rattle.wasi_records.specs.declared.udp.UdpRecord.{UdpRecord}
-use Rattle.wasi_records.specs.declared.udp.UdpInProgress.{UdpInProgress}
-use Rattle.wasi_records.specs.Datagrams.{has_streams}
+use Rattle.udp_records.specs.declared.udp.OpenUdp.{OpenUdp}
+use Rattle.udp_records.specs.declared.udp.UdpRecord.{UdpRecord}
+use Rattle.udp_records.specs.declared.udp.UdpInProgress.{UdpInProgress}
+use Rattle.udp_records.specs.Datagrams.{has_streams}
 use Rattle.host_store.specs.Machine.{udp_socket_at}
-use Rattle.wasi_records.specs.Udp.{begin_udp_bind_asks, close_udp_asks, is_udp_bound, is_udp_idle, poll_create_asks, poll_udp_bind_asks, poll_udp_binding, udp_bind_begun, udp_bind_ended, udp_create_ended, udp_create_left, udp_local_asks, udp_side, with_udp_inner, with_udp_progress}
+use Rattle.udp_records.specs.Udp.{begin_udp_bind_asks, close_udp_asks, is_udp_bound, is_udp_idle, poll_create_asks, poll_udp_bind_asks, poll_udp_binding, udp_bind_begun, udp_bind_ended, udp_create_ended, udp_create_left, udp_local_asks, udp_side, with_udp_inner, with_udp_progress}
 use Rattle.host_udp.specs.UdpCalls.{finish_udp_bind_at, finish_udp_bind_by, get_udp_option_at, release_udp_at, set_udp_option_at, udp_left, start_udp_bind_at, start_udp_bind_by, start_udp_bind_unless, udp_call_answered, udp_local_at, udp_put_back}
 use Rattle.host_udp.specs.UdpCreates.{create_answered, create_begun, create_so, create_udp, handle_made, mark_udp, poll_create_at, with_create}
 use Rattle.wasi_p2.specs.Options.{record_asks}
@@ -36,6 +37,8 @@ use Rattle.wasi_walks.proofs.walks.Law.{Law, Walks, Given, given_then, given_on,
 use Rattle.wasi_walks.proofs.walks.States.{At, Awaiting, Over, OverWith, Put, Starts, none_stands, udp_record}
 use Rattle.wasi_walks.proofs.walks.UdpLaw.{HasUdp, udp_put_put, udp_put_same, udp_found, begin_create, mark_udp_walks, ask_udp, disconnect_udp, learn_udp, peer_udp, close_udp, poll_create_walks, poll_udp_bind_walks}
 use Rattle.wasi_walks.proofs.Places.{push_finds, put_finds, udp_sort}
+use Rattle.wasi_steps.specs.declared.guest_call.UdpCall.{UdpCall}
+use Rattle.wasi_steps.specs.declared.guest_call.P3UdpCall.{P3UdpCall}
 
 -- what is open at a place is the UDP socket there
 pub open_is : (u : Option UdpRecord) (o : OpenUdp) → open_of u ≡ Some o → u ≡ Some (UdpRecord.Open o)
@@ -165,8 +168,8 @@ same_polling face m place (UdpRecord.Closed s) g = udp_put_same (Over m) place (
 
 -- a step that creates is one that makes sockets of its interface
 made_for : (contexts : List WasiSocketsCtx) (face : Interface) (ctx : WasiSocketsCtx) (family : SocketAddressFamily) (s : Step) → CreatesUdp contexts ctx family face s → MakesUdpFor face s
-made_for contexts face ctx family (Step.Call n (GuestCall.UdpCreate f)) c = c.2
-made_for contexts face ctx family (Step.Call n (GuestCall.P3UdpCreate f)) c = c.2
+made_for contexts face ctx family (Step.Call n (GuestCall.Udp (UdpCall.Create f))) c = c.2
+made_for contexts face ctx family (Step.Call n (GuestCall.P3Udp (P3UdpCall.Create f))) c = c.2
 made_for contexts face ctx family _ c = absurd c
 
 module _ (m : Machine) (place : ℕ) where

@@ -11,12 +11,12 @@ use Rattle.wasi_world.specs.declared.ids.OpId.{OpId}
 use Rattle.wasi_udp.specs.Connect.{connect_asks, connect_start, is_connectable}
 use Rattle.wasi_udp.specs.Shape.{Socket}
 use Rattle.wasi_udp.specs.Socket.{bound_asks}
-use Rattle.wasi_records.specs.declared.udp.OpenUdp.{OpenUdp}
-use Rattle.wasi_records.specs.declared.udp.UdpRecord.TheVariants.{Open}
-use Rattle.wasi_records.specs.Datagrams.{has_streams, udp_alone_begun, udp_connect_asks, udp_reconnect_asks, udp_reconnect_ended, udp_reconnect_left, udp_reconnecting}
+use Rattle.udp_records.specs.declared.udp.OpenUdp.{OpenUdp}
+use Rattle.udp_records.specs.declared.udp.UdpRecord.TheVariants.{Open}
+use Rattle.udp_records.specs.Datagrams.{has_streams, udp_alone_begun, udp_connect_asks, udp_reconnect_asks, udp_reconnect_ended, udp_reconnect_left, udp_reconnecting}
 use Rattle.wasi_records.specs.Records.{open_at}
-use Rattle.wasi_records.specs.Stops.{Code}
-use Rattle.wasi_records.specs.Udp.{with_udp_inner}
+use Rattle.record_common.specs.Stops.{Code}
+use Rattle.udp_records.specs.Udp.{with_udp_inner}
 use Rattle.host_store.specs.declared.store.StandingCall.TheVariants.{UdpConnect3}
 use Rattle.host_store.specs.BaseStops.{renamed}
 use Rattle.host_store.specs.Lines.{Answered, keeps}

@@ -7,6 +7,7 @@ use Rattle.wasi_streams.specs.Streams.{zeros}
 use Rattle.wasi_walks.proofs.walks.Moves.{Own, Used, Unused, ToWrite}
 use Rattle.wasi_walks.proofs.walks.Law.{Law, BeginsWrites}
 use Rattle.wasi_records.specs.Records.{tcp2_at}
+use Rattle.wasi_steps.specs.declared.guest_call.StreamCall.{StreamCall}
 
 -- what the writer lets a write begin
 abbrev pub may_begin : WriteState → List ℕ → Own
@@ -29,8 +30,8 @@ may_at m bytes (Some place) = may_in (tcp2_at m.store.records place) bytes
 
 -- the bytes that a step may begin to write
 abbrev pub may : Machine → Step → Own
-may m (Step.Call ctx (GuestCall.Write output bytes)) = may_at m bytes (output_at m output)
-may m (Step.Call ctx (GuestCall.WriteZeroes output len)) = may_at m (zeros len) (output_at m output)
+may m (Step.Call ctx (GuestCall.Stream (StreamCall.Write output bytes))) = may_at m bytes (output_at m output)
+may m (Step.Call ctx (GuestCall.Stream (StreamCall.WriteZeroes output len))) = may_at m (zeros len) (output_at m output)
 may m _ = Unused
 
 -- the bytes that a step is let write to a network socket

@@ -1,31 +1,33 @@
 use Rattle.drawn_scripts.specs.Generate.{bytes_of, call, tcp2_block}
-use Rattle.wasi_run.proofs.Words.{◌+◌, Drop}
+use Rattle.wasi_run.proofs.Words.{◌+◌}
 use Rattle.drawn_scripts.proofs.GeneratedLines.{at_place, check_line, connect_line, create_line, drop_line, finish_line, pieces, pushed, shutdown_line, write_front, write_line, written}
+use Rattle.wasi_steps.specs.declared.guest_call.GuestCall.TheVariants as guest
+use Rattle.wasi_steps.specs.declared.guest_call.PollableCall.TheVariants as pollable_call
 use Rattle.drawn_scripts.proofs.drawn.push_tcp2.Goals as goal
 
 pub returns-in-0 : goal.returns-in-0
-returns-in-0 c = at_place c.push_str.result _ _ (tcp2_block c.args.socket c.args.x) (call (Drop c.args.socket)) c.args.place 0 c.in-0.is (pushed c.push_str.result _ _ _ _ c.push_str.ensures.bytes create_line)
+returns-in-0 c = at_place c.push_str.result _ _ (tcp2_block c.args.socket c.args.x) (call (guest.Pollable (pollable_call.Drop c.args.socket))) c.args.place 0 c.in-0.is (pushed c.push_str.result _ _ _ _ c.push_str.ensures.bytes create_line)
 
 pub returns-in-1 : goal.returns-in-1
-returns-in-1 c = at_place c.write.result _ _ (tcp2_block c.args.socket c.args.x) (call (Drop c.args.socket)) c.args.place 1 c.in-1.is (rw (← c.port_of-port.ensures) (written c.write.result _ _ _ _ c.write.ensures.bytes (connect_line c.args.socket c.port_of-port.result)))
+returns-in-1 c = at_place c.write.result _ _ (tcp2_block c.args.socket c.args.x) (call (guest.Pollable (pollable_call.Drop c.args.socket))) c.args.place 1 c.in-1.is (rw (← c.port_of-port.ensures) (written c.write.result _ _ _ _ c.write.ensures.bytes (connect_line c.args.socket c.port_of-port.result)))
 
 pub returns-in-2 : goal.returns-in-2
-returns-in-2 c = at_place c.push_named.result _ _ (tcp2_block c.args.socket c.args.x) (call (Drop c.args.socket)) c.args.place 2 c.in-2.is (written c.push_named.result _ _ _ _ c.push_named.ensures (finish_line c.args.socket))
+returns-in-2 c = at_place c.push_named.result _ _ (tcp2_block c.args.socket c.args.x) (call (guest.Pollable (pollable_call.Drop c.args.socket))) c.args.place 2 c.in-2.is (written c.push_named.result _ _ _ _ c.push_named.ensures (finish_line c.args.socket))
 
 pub returns-in-3 : goal.returns-in-3
-returns-in-3 c = at_place c.push_named-in-3.result _ _ (tcp2_block c.args.socket c.args.x) (call (Drop c.args.socket)) c.args.place 3 c.in-3.is (written c.push_named-in-3.result _ _ _ _ c.push_named-in-3.ensures (check_line (c.args.socket + 2)))
+returns-in-3 c = at_place c.push_named-in-3.result _ _ (tcp2_block c.args.socket c.args.x) (call (guest.Pollable (pollable_call.Drop c.args.socket))) c.args.place 3 c.in-3.is (written c.push_named-in-3.result _ _ _ _ c.push_named-in-3.ensures (check_line (c.args.socket + 2)))
 
 pub returns-in_ok-write-in-4 : goal.returns-in_ok-write-in-4
-returns-in_ok-write-in-4 c = at_place c.push_bytes.result _ _ (tcp2_block c.args.socket c.args.x) (call (Drop c.args.socket)) c.args.place 4 c.in-4.is (pieces c.push_bytes.result _ _ _ (write_front (c.args.socket + 2)) _ _ c.in_ok-write-in-4.ensures.bytes c.push_bytes.ensures (write_line (c.args.socket + 2) (bytes_of c.args.x)))
+returns-in_ok-write-in-4 c = at_place c.push_bytes.result _ _ (tcp2_block c.args.socket c.args.x) (call (guest.Pollable (pollable_call.Drop c.args.socket))) c.args.place 4 c.in-4.is (pieces c.push_bytes.result _ _ _ (write_front (c.args.socket + 2)) _ _ c.in_ok-write-in-4.ensures.bytes c.push_bytes.ensures (write_line (c.args.socket + 2) (bytes_of c.args.x)))
 
 pub returns-in-5 : goal.returns-in-5
-returns-in-5 c = at_place c.write-in-5.result _ _ (tcp2_block c.args.socket c.args.x) (call (Drop c.args.socket)) c.args.place 5 c.in-5.is (written c.write-in-5.result _ _ _ _ c.write-in-5.ensures.bytes (shutdown_line c.args.socket))
+returns-in-5 c = at_place c.write-in-5.result _ _ (tcp2_block c.args.socket c.args.x) (call (guest.Pollable (pollable_call.Drop c.args.socket))) c.args.place 5 c.in-5.is (written c.write-in-5.result _ _ _ _ c.write-in-5.ensures.bytes (shutdown_line c.args.socket))
 
 pub returns-in-6 : goal.returns-in-6
-returns-in-6 c = at_place c.push_named-in-6.result _ _ (tcp2_block c.args.socket c.args.x) (call (Drop c.args.socket)) c.args.place 6 c.in-6.is (written c.push_named-in-6.result _ _ _ _ c.push_named-in-6.ensures (drop_line (c.args.socket + 1)))
+returns-in-6 c = at_place c.push_named-in-6.result _ _ (tcp2_block c.args.socket c.args.x) (call (guest.Pollable (pollable_call.Drop c.args.socket))) c.args.place 6 c.in-6.is (written c.push_named-in-6.result _ _ _ _ c.push_named-in-6.ensures (drop_line (c.args.socket + 1)))
 
 pub returns-in-7 : goal.returns-in-7
-returns-in-7 c = at_place c.push_named-in-7.result _ _ (tcp2_block c.args.socket c.args.x) (call (Drop c.args.socket)) c.args.place 7 c.in-7.is (written c.push_named-in-7.result _ _ _ _ c.push_named-in-7.ensures (drop_line (c.args.socket + 2)))
+returns-in-7 c = at_place c.push_named-in-7.result _ _ (tcp2_block c.args.socket c.args.x) (call (guest.Pollable (pollable_call.Drop c.args.socket))) c.args.place 7 c.in-7.is (written c.push_named-in-7.result _ _ _ _ c.push_named-in-7.ensures (drop_line (c.args.socket + 2)))
 
 pub returns-in-8 : goal.returns-in-8
-returns-in-8 c = at_place c.push_named-in-8.result _ _ (tcp2_block c.args.socket c.args.x) (call (Drop c.args.socket)) c.args.place 8 c.in-8.is (written c.push_named-in-8.result _ _ _ _ c.push_named-in-8.ensures (drop_line c.args.socket))
+returns-in-8 c = at_place c.push_named-in-8.result _ _ (tcp2_block c.args.socket c.args.x) (call (guest.Pollable (pollable_call.Drop c.args.socket))) c.args.place 8 c.in-8.is (written c.push_named-in-8.result _ _ _ _ c.push_named-in-8.ensures (drop_line c.args.socket))

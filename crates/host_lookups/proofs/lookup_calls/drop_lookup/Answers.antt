@@ -1,5 +1,5 @@
 use Rattle.std.proofs.Common.{refl, sym}
-use Rattle.wasi_records.specs.declared.name_lookup.Lookup.TheVariants.{Failed}
+use Rattle.lookup_records.specs.declared.name_lookup.Lookup.TheVariants.{Failed}
 use Rattle.wasi_records.specs.declared.records.Record.TheVariants.{Lookup}
 use Rattle.host_store.proofs.GivenBack.{was_none}
 use Rattle.wasi_records.proofs.NameLookups.{held_in-lookup}

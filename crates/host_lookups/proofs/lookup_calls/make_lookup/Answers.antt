@@ -3,7 +3,7 @@ use Rattle.host_store.specs.declared.machine.Machine.{Machine}
 use Rattle.host_lookups.specs.NameLookupCalls.{with_lookup}
 use Rattle.wasi_records.specs.Sides.{held_in}
 use Rattle.host_store.specs.Store.{Records}
-use Rattle.wasi_records.proofs.Hosts.{host_none}
+use Rattle.record_common.proofs.Hosts.{host_none}
 use Rattle.wasi_records.proofs.NameLookups.{lookup_held, held_in-lookup_more}
 use Rattle.host_lookups.proofs.LookupHandles.{lookup_lost, lookup_made}
 use Rattle.host_store.proofs.KnownSides.{knows_same}

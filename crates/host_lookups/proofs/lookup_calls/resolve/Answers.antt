@@ -1,6 +1,6 @@
 use Rattle.std.proofs.Common.{refl}
 use Rattle.wasi_world.proofs.Walks.{asks_then}
-use Rattle.wasi_records.proofs.Hosts.{host_exit, host_none}
+use Rattle.record_common.proofs.Hosts.{host_exit, host_none}
 use Rattle.host_store.proofs.KnownSides.{knows_none}
 use Rattle.host_lookups.proofs.lookup_calls.resolve.Goals as goal
 

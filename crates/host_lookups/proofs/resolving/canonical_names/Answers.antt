@@ -2,7 +2,7 @@ use Rattle.std.proofs.Math.Seq.{take-append_seam}
 use Rattle.std.proofs.Common.{◌≡◌, ◌<◌, ◌++◌, List, length, take, drop, slice_set, slice_index_or, ap, sym, ◌∙◌, subst, add-one, arith}
 use Rattle.wasi_addr.specs.Address.{canonical}
 use Rattle.wasi_addr.specs.declared.address.IpAddress.{IpAddress}
-use Rattle.wasi_records.proofs.NameLookups.{converted, converted_all, converted_next}
+use Rattle.lookup_records.proofs.NameLookups.{converted, converted_all, converted_next}
 use Rattle.host_lookups.proofs.resolving.canonical_names.Goals as goal
 
 pub loop-address-init : goal.loop-address-init

@@ -1,5 +1,5 @@
 use Rattle.std.proofs.Common.{◌≡◌}
-use Rattle.wasi_records.proofs.NameLookups.{converted}
+use Rattle.lookup_records.proofs.NameLookups.{converted}
 use Rattle.host_lookups.proofs.resolving.canonical_names.Given as goal
 
 -- those before the index are in their canonical form

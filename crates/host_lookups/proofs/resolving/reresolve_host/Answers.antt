@@ -1,7 +1,7 @@
 use Rattle.std.proofs.Common.{refl}
-use Rattle.wasi_records.specs.Names.{own_of}
-use Rattle.wasi_records.proofs.NameLookups.{calm_lookup}
-use Rattle.wasi_records.proofs.SideCounts.{none_calm}
+use Rattle.record_common.specs.Names.{own_of}
+use Rattle.lookup_records.proofs.NameLookups.{calm_lookup}
+use Rattle.record_common.proofs.SideCounts.{none_calm}
 use Rattle.host_store.specs.Store.{Records}
 use Rattle.host_store.proofs.KnownSides.{knows_none}
 use Rattle.host_lookups.proofs.Resolves.{lookup_stays, polled_asked}

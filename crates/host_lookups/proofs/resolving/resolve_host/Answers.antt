@@ -2,9 +2,9 @@ use Rattle.std.proofs.Common.{refl, sym}
 use Rattle.wasi_world.specs.declared.ids.OpId.{OpId}
 use Rattle.wasi_world.specs.Typed.{ask_lookup}
 use Rattle.wasi_world.proofs.Walks.{asks_at}
-use Rattle.wasi_records.specs.Names.{own_of}
-use Rattle.wasi_records.proofs.NameLookups.{calm_lookup}
-use Rattle.wasi_records.proofs.SideCounts.{none_calm}
+use Rattle.record_common.specs.Names.{own_of}
+use Rattle.lookup_records.proofs.NameLookups.{calm_lookup}
+use Rattle.record_common.proofs.SideCounts.{none_calm}
 use Rattle.host_store.specs.declared.beside.BesideCall.TheVariants.{Resolve}
 use Rattle.host_store.specs.Beside.{beside_as}
 use Rattle.host_store.specs.Store.{Records}

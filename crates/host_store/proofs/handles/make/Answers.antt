@@ -1,8 +1,8 @@
 use Rattle.std.proofs.Common.{refl}
 use Rattle.wasi_world.proofs.Walks.{asks_end}
-use Rattle.wasi_records.proofs.Hosts.{fault_exit, fault_on}
+use Rattle.record_common.proofs.Hosts.{fault_exit, fault_on}
 use Rattle.host_store.proofs.LiveHandles.{stays_live, comes_live}
-use Rattle.wasi_records.proofs.SideCounts.{Any, calm_made}
+use Rattle.record_common.proofs.SideCounts.{Any, calm_made}
 use Rattle.host_store.proofs.KnownSides.{knows_calm}
 use Rattle.host_store.proofs.handles.make.Goals as goal
 

@@ -1,15 +1,16 @@
 use Rattle.std.proofs.Common.{◌≡◌, ℕ, refl, ap, sym, ◌∙◌}
 use Rattle.wasi_world.proofs.Walks.{asks_at, asks_gives, asks_given}
 use Rattle.wasi_tcp.specs.Writer.{check_write_asks}
-use Rattle.wasi_records.specs.Halves.{writer_asks}
+use Rattle.tcp_records.specs.Halves.{writer_asks}
 use Rattle.host_store.specs.Limits.{most_at}
 use Rattle.host_store.specs.Store.{Records, with_record_put}
 use Rattle.wasi_records.specs.Records.{tcp2_at}
 use Rattle.wasi_records.proofs.Lookups.{found_at, none_at}
-use Rattle.wasi_records.proofs.SideCounts.{Any, held_in-set}
+use Rattle.record_common.proofs.SideCounts.{Any}
+use Rattle.wasi_records.proofs.SideCounts.{held_in-set}
 use Rattle.host_store.proofs.KnownSides.{knows_asked}
 use Rattle.host_store.proofs.KeptLimits.{most_small}
-use Rattle.wasi_records.proofs.StreamCounts.{calm_writer, calm_check}
+use Rattle.tcp_records.proofs.StreamCounts.{calm_writer, calm_check}
 use Rattle.host_store.specs.declared.store.Store.TheView.{view}
 use Rattle.host_streams.proofs.connections.check_write.Goals as goal
 

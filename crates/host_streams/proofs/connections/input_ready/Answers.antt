@@ -3,9 +3,10 @@ use Rattle.wasi_world.proofs.Walks.{asks_gives, asks_given}
 use Rattle.wasi_tcp.specs.Socket.{side_of}
 use Rattle.host_store.specs.Store.{Records}
 use Rattle.host_store.specs.Readiness.{ready_put}
-use Rattle.wasi_records.proofs.SideCounts.{Any, held_in-set}
+use Rattle.record_common.proofs.SideCounts.{Any}
+use Rattle.wasi_records.proofs.SideCounts.{held_in-set}
 use Rattle.host_store.proofs.KnownSides.{knows_asked}
-use Rattle.wasi_records.proofs.Looks.{calm_ready_reader}
+use Rattle.tcp_records.proofs.Looks.{calm_ready_reader}
 use Rattle.wasi_records.proofs.Lookups.{found_at, none_at}
 use Rattle.host_store.specs.declared.store.Store.TheView.{view}
 use Rattle.host_streams.proofs.connections.input_ready.Goals as goal

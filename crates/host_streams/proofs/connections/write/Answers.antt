@@ -6,12 +6,13 @@ use Rattle.wasi_tcp.specs.Writer.{write_state_asks}
 use Rattle.host_store.specs.Jobs.{noted, write_at}
 use Rattle.wasi_records.specs.Sides.{held_in}
 use Rattle.host_store.specs.Store.{Records, with_record_put}
-use Rattle.wasi_records.specs.Halves.{writer_asks}
+use Rattle.tcp_records.specs.Halves.{writer_asks}
 use Rattle.host_store.proofs.JobLists.{noted_as, noted_none}
 use Rattle.wasi_records.proofs.Lookups.{found_at, none_at, set_back}
-use Rattle.wasi_records.proofs.SideCounts.{Any, held_in-set}
+use Rattle.record_common.proofs.SideCounts.{Any}
+use Rattle.wasi_records.proofs.SideCounts.{held_in-set}
 use Rattle.host_store.proofs.KnownSides.{knows_asked, knows_same}
-use Rattle.wasi_records.proofs.StreamCounts.{calm_writer, calm_write}
+use Rattle.tcp_records.proofs.StreamCounts.{calm_writer, calm_write}
 use Rattle.host_store.specs.declared.store.Store.TheView.{view}
 use Rattle.host_streams.proofs.connections.write.Goals as goal
 

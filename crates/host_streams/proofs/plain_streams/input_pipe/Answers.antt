@@ -1,5 +1,5 @@
 use Rattle.std.proofs.Common.{refl}
-use Rattle.wasi_records.proofs.Hosts.{fault_none}
+use Rattle.record_common.proofs.Hosts.{fault_none}
 use Rattle.host_streams.proofs.plain_streams.input_pipe.Goals as goal
 
 pub returns-in_err-chunk-clause-asked : goal.returns-in_err-chunk-clause-asked

@@ -2,7 +2,7 @@ use Rattle.std.proofs.Common.{ap, refl, ◌∙◌}
 use Rattle.host_store.specs.declared.machine.Machine.{Machine}
 use Rattle.wasi_records.specs.Sides.{held_in}
 use Rattle.host_store.specs.Store.{Records}
-use Rattle.wasi_records.proofs.Hosts.{fault_none}
+use Rattle.record_common.proofs.Hosts.{fault_none}
 use Rattle.wasi_records.proofs.PipeCounts.{held_in-more}
 use Rattle.host_streams.proofs.Pipes.{pipe_made, pipe_refused}
 use Rattle.host_store.proofs.KnownSides.{knows_same}

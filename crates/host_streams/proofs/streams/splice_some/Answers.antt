@@ -1,6 +1,6 @@
 use Rattle.std.proofs.Common.{refl}
 use Rattle.wasi_world.proofs.Walks.{asks_end, asks_then}
-use Rattle.wasi_records.specs.Names.{own_of}
+use Rattle.record_common.specs.Names.{own_of}
 use Rattle.host_store.specs.Views.{state_of}
 use Rattle.host_streams.proofs.Blocks.{never, call_passed, some_count, read_some}
 use Rattle.host_streams.proofs.streams.splice_some.Goals as goal

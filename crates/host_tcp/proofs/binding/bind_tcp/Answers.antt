@@ -1,12 +1,12 @@
 use Rattle.std.proofs.Common.{Ok, ap, sym, ◌∙◌, refl}
 use Rattle.wasi_world.specs.declared.ids.OpId.{OpId}
 use Rattle.wasi_world.specs.declared.outcome.Answer.{Answer}
-use Rattle.wasi_records.specs.declared.socket.TcpRecord.{TcpRecord}
+use Rattle.tcp_records.specs.declared.socket.TcpRecord.{TcpRecord}
 use Rattle.wasi_world.specs.Asks.{Give}
 use Rattle.wasi_world.proofs.Walks.{asks_at, asks_end, asks_given, asks_gives}
 use Rattle.wasi_tcp.specs.Shape.{Socket}
 use Rattle.wasi_tcp.specs.Socket.{side_of}
-use Rattle.wasi_records.specs.Binding.{begin_bind_asks}
+use Rattle.tcp_records.specs.Binding.{begin_bind_asks}
 use Rattle.host_store.specs.declared.kind.Interface.TheVariants.{P3}
 use Rattle.host_tcp.specs.Binds.{bind_told}
 use Rattle.host_store.specs.Store.{Records, with_socket}

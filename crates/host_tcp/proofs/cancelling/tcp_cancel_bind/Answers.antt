@@ -1,9 +1,9 @@
 use Rattle.std.proofs.Common.{refl}
 use Rattle.host_store.specs.Store.{Records}
-use Rattle.wasi_records.proofs.ConnectCounts.{balances_as}
+use Rattle.tcp_records.proofs.ConnectCounts.{balances_as}
 use Rattle.host_store.proofs.KnownSides.{knows_polled}
 use Rattle.wasi_records.proofs.Lookups.{found_at}
-use Rattle.wasi_records.proofs.SideCounts.{balances_none}
+use Rattle.tcp_records.proofs.SideCounts.{balances_none}
 use Rattle.host_store.specs.declared.store.Store.TheView.{view}
 use Rattle.host_tcp.proofs.cancelling.tcp_cancel_bind.Goals as goal
 

@@ -1,7 +1,7 @@
 use Rattle.std.proofs.Common.{refl}
 use Rattle.wasi_world.proofs.Walks.{asks_then, refused_on}
-use Rattle.wasi_records.proofs.ListenStarts.{balances_inner}
-use Rattle.wasi_records.proofs.SideCounts.{balances_then}
+use Rattle.tcp_records.proofs.ListenStarts.{balances_inner}
+use Rattle.tcp_records.proofs.SideCounts.{balances_then}
 use Rattle.host_tcp.specs.Connects.{connect_begun}
 use Rattle.host_tcp.proofs.Connects.{calm_start_connect}
 use Rattle.host_tcp.proofs.connecting.connect.Goals as goal

@@ -5,7 +5,7 @@ use Rattle.wasi_world.specs.Asks.{Give}
 use Rattle.wasi_world.proofs.Walks.{asks_at, asks_end, reaches_all}
 use Rattle.wasi_records.specs.declared.records.Record.{Record}
 use Rattle.wasi_records.specs.Sides.{held_in}
-use Rattle.wasi_records.specs.Stops.{Code}
+use Rattle.record_common.specs.Stops.{Code}
 use Rattle.wasi_records.proofs.Lookups.{found_at, none_at, set_back}
 use Rattle.host_store.specs.declared.beside.BesideCall.TheVariants.{Connect}
 use Rattle.host_store.specs.Beside.{beside_as}

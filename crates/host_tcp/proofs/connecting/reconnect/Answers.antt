@@ -1,6 +1,6 @@
 use Rattle.wasi_world.proofs.Walks.{asks_gives}
-use Rattle.wasi_records.specs.Sockets.{inner_answered}
-use Rattle.wasi_records.proofs.ConnectCounts.{closed_by_poll}
+use Rattle.tcp_records.specs.Sockets.{inner_answered}
+use Rattle.tcp_records.proofs.ConnectCounts.{closed_by_poll}
 use Rattle.host_tcp.proofs.connecting.reconnect.Goals as goal
 
 pub returns-clause-asked : goal.returns-clause-asked

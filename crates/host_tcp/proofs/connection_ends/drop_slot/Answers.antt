@@ -1,6 +1,6 @@
 use Rattle.std.proofs.Common.{refl, sym}
 use Rattle.wasi_records.specs.declared.records.Record.TheVariants.{Slot as SlotRecord}
-use Rattle.wasi_records.specs.declared.slot.Slot.TheVariants.{Unfilled}
+use Rattle.tcp_records.specs.declared.slot.Slot.TheVariants.{Unfilled}
 use Rattle.wasi_records.proofs.SlotCounts.{held_in-slot}
 use Rattle.host_store.proofs.GivenBack.{was_none}
 use Rattle.host_tcp.proofs.connection_ends.drop_slot.Goals as goal

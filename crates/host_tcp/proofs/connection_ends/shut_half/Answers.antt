@@ -1,8 +1,9 @@
 use Rattle.std.proofs.Common.{refl}
 use Rattle.wasi_world.proofs.Walks.{asks_gives, asks_given}
-use Rattle.wasi_records.proofs.EndCalms.{calm_shut_half}
+use Rattle.tcp_records.proofs.EndCalms.{calm_shut_half}
 use Rattle.wasi_records.proofs.Lookups.{found_at, none_at}
-use Rattle.wasi_records.proofs.SideCounts.{Any, held_in-set}
+use Rattle.record_common.proofs.SideCounts.{Any}
+use Rattle.wasi_records.proofs.SideCounts.{held_in-set}
 use Rattle.host_store.specs.Store.{Records, with_socket}
 use Rattle.host_store.proofs.KnownSides.{knows_asked}
 use Rattle.host_store.specs.declared.store.Store.TheView.{view}

@@ -1,9 +1,9 @@
 use Rattle.std.proofs.Common.{List, Ok, Err, length, sym, ap, ◌∙◌}
 use Rattle.wasi_world.specs.declared.outcome.TrapKind.TheVariants.{NoSuchHandle}
 use Rattle.wasi_records.specs.declared.records.Record.{Record}
-use Rattle.wasi_records.specs.Ends.{take_send_end}
+use Rattle.tcp_records.specs.Ends.{take_send_end}
 use Rattle.wasi_records.specs.Sides.{held_in}
-use Rattle.wasi_records.specs.Stops.{Trap}
+use Rattle.record_common.specs.Stops.{Trap}
 use Rattle.host_tcp.specs.ConnectionEnds.{end_of, with_end}
 use Rattle.host_store.specs.Store.{Records}
 use Rattle.host_tcp.proofs.AcceptedRecords.{found_still, none_still}

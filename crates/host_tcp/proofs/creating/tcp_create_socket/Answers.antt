@@ -1,6 +1,6 @@
 use Rattle.std.proofs.Common.{ap, refl}
 use Rattle.wasi_records.specs.Sides.{held_in}
-use Rattle.wasi_records.proofs.Hosts.{fault_told, host_none}
+use Rattle.record_common.proofs.Hosts.{fault_told, host_none}
 use Rattle.host_store.specs.declared.kind.Kind.TheVariants.{Tcp2}
 use Rattle.host_store.specs.Limits.{with_limit}
 use Rattle.host_tcp.specs.Creates.{same_told, code_told}

@@ -2,8 +2,8 @@ use Rattle.std.proofs.Common.{◌≡◌, ◌==◌, Ok, Some, false, ap, sym, ◌
 use Rattle.wasi_world.specs.Asks.{Give}
 use Rattle.wasi_world.proofs.Walks.{asks_at, asks_end, asks_then, reaches_on}
 use Rattle.wasi_records.specs.Sides.{held_in}
-use Rattle.wasi_records.proofs.EndCalms.{calm_look_to_read, calm_read_by_half}
-use Rattle.wasi_records.proofs.SideCounts.{Any}
+use Rattle.tcp_records.proofs.EndCalms.{calm_look_to_read, calm_read_by_half}
+use Rattle.record_common.proofs.SideCounts.{Any}
 use Rattle.host_store.specs.Store.{Records}
 use Rattle.host_tcp.proofs.ConnectionEnds.{memory_exit, started_in}
 use Rattle.host_tcp.proofs.EndPolls.{read_goes, read_looks}

@@ -3,8 +3,8 @@ use Rattle.std.proofs.lemmas.List.{take_min}
 use Rattle.wasi_world.specs.Asks.{Give}
 use Rattle.wasi_world.proofs.Walks.{asks_at, asks_end, asks_then, reaches_on}
 use Rattle.wasi_records.specs.Sides.{held_in}
-use Rattle.wasi_records.proofs.EndCalms.{calm_look_to_write, calm_write_by_half}
-use Rattle.wasi_records.proofs.SideCounts.{Any}
+use Rattle.tcp_records.proofs.EndCalms.{calm_look_to_write, calm_write_by_half}
+use Rattle.record_common.proofs.SideCounts.{Any}
 use Rattle.host_store.specs.Store.{Records}
 use Rattle.host_tcp.proofs.ConnectionEnds.{memory_exit, started_in}
 use Rattle.host_tcp.proofs.EndPolls.{no_bytes, some_bytes, write_goes, write_looks}

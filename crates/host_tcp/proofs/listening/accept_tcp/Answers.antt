@@ -5,7 +5,7 @@ use Rattle.wasi_world.specs.Asks.{Give}
 use Rattle.wasi_world.proofs.Walks.{asks_end, asks_given}
 use Rattle.wasi_records.specs.Records.{tcp2_put}
 use Rattle.wasi_records.specs.declared.records.Record.{Record}
-use Rattle.wasi_records.specs.Stops.{Code, Trap}
+use Rattle.record_common.specs.Stops.{Code, Trap}
 use Rattle.host_store.specs.BaseStops.{ends_as}
 use Rattle.host_tcp.specs.Listens.{keep_accepted}
 use Rattle.host_store.specs.Store.{Records}

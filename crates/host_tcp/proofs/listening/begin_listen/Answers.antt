@@ -6,7 +6,7 @@ use Rattle.wasi_world.specs.Asks.{Give}
 use Rattle.wasi_world.proofs.Walks.{asks_at, asks_end, asks_given}
 use Rattle.wasi_records.specs.declared.records.Record.{Record}
 use Rattle.wasi_records.specs.Sides.{held_in}
-use Rattle.wasi_records.specs.Stops.{Code}
+use Rattle.record_common.specs.Stops.{Code}
 use Rattle.wasi_records.proofs.Lookups.{found_at, none_at, set_back}
 use Rattle.host_tcp.specs.Listens.{listens}
 use Rattle.host_store.specs.Store.{Records, with_socket}

@@ -1,7 +1,7 @@
 use Rattle.std.proofs.Common.{Ok, ap, refl, sym}
 use Rattle.wasi_world.specs.Asks.{Give}
 use Rattle.wasi_world.proofs.Walks.{asks_end, refused_on}
-use Rattle.wasi_records.specs.declared.socket.TcpRecord.{TcpRecord}
+use Rattle.tcp_records.specs.declared.socket.TcpRecord.{TcpRecord}
 use Rattle.host_tcp.proofs.Listens.{left_balances}
 use Rattle.host_tcp.proofs.listening.listen.Goals as goal
 

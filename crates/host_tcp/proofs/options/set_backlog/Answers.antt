@@ -1,11 +1,12 @@
 use Rattle.std.proofs.Common.{refl}
 use Rattle.wasi_world.proofs.Walks.{asks_given, asks_end}
-use Rattle.wasi_records.specs.Sockets.{with_inner}
-use Rattle.wasi_records.proofs.Hosts.{host_refused}
+use Rattle.tcp_records.specs.Sockets.{with_inner}
+use Rattle.record_common.proofs.Hosts.{host_refused}
 use Rattle.wasi_records.proofs.Lookups.{found_at, none_at}
-use Rattle.wasi_records.proofs.SideCounts.{Any, held_in-set}
+use Rattle.record_common.proofs.SideCounts.{Any}
+use Rattle.wasi_records.proofs.SideCounts.{held_in-set}
 use Rattle.host_store.proofs.KnownSides.{knows_asked, knows_calm}
-use Rattle.wasi_records.proofs.OptionSides.{calm_backlog}
+use Rattle.tcp_records.proofs.OptionSides.{calm_backlog}
 use Rattle.host_tcp.proofs.options.set_backlog.Goals as goal
 
 pub returns-in_default-clause-asked : goal.returns-in_default-clause-asked

@@ -1,10 +1,10 @@
 use Rattle.std.proofs.Common.{refl}
 use Rattle.wasi_world.proofs.Walks.{asks_end, asks_given}
-use Rattle.wasi_records.proofs.Hosts.{host_refused}
+use Rattle.record_common.proofs.Hosts.{host_refused}
 use Rattle.wasi_records.proofs.Lookups.{got_at, not_got}
-use Rattle.wasi_records.proofs.SideCounts.{Any}
+use Rattle.record_common.proofs.SideCounts.{Any}
 use Rattle.host_store.proofs.KnownSides.{knows_asked, knows_calm}
-use Rattle.wasi_records.proofs.OptionSides.{calm_get}
+use Rattle.tcp_records.proofs.OptionSides.{calm_get}
 use Rattle.host_tcp.proofs.options.tcp_get_option.Goals as goal
 
 pub returns-in_default-clause-asked : goal.returns-in_default-clause-asked

@@ -1,11 +1,11 @@
 use Rattle.std.proofs.Common.{refl}
 use Rattle.wasi_world.proofs.Walks.{asks_given, asks_end}
 use Rattle.socket_common.specs.Options.{option_of, number_of}
-use Rattle.wasi_records.proofs.Hosts.{host_refused}
+use Rattle.record_common.proofs.Hosts.{host_refused}
 use Rattle.wasi_records.proofs.Lookups.{found_at, none_at, set_back}
-use Rattle.wasi_records.proofs.SideCounts.{Any}
+use Rattle.record_common.proofs.SideCounts.{Any}
 use Rattle.host_store.proofs.KnownSides.{knows_asked, knows_calm}
-use Rattle.wasi_records.proofs.OptionSides.{calm_set}
+use Rattle.tcp_records.proofs.OptionSides.{calm_set}
 use Rattle.host_tcp.proofs.options.tcp_set_option.Goals as goal
 
 pub returns-in_default-clause-asked : goal.returns-in_default-clause-asked

@@ -3,9 +3,10 @@ use Rattle.wasi_world.proofs.Walks.{asks_gives, asks_given}
 use Rattle.wasi_tcp.specs.Socket.{side_of}
 use Rattle.host_store.specs.Store.{Records}
 use Rattle.host_tcp.specs.Dropping.{wait_put}
-use Rattle.wasi_records.proofs.SideCounts.{Any, held_in-set}
+use Rattle.record_common.proofs.SideCounts.{Any}
+use Rattle.wasi_records.proofs.SideCounts.{held_in-set}
 use Rattle.host_store.proofs.KnownSides.{knows_asked}
-use Rattle.wasi_records.proofs.Looks.{calm_wait_writer}
+use Rattle.tcp_records.proofs.Looks.{calm_wait_writer}
 use Rattle.wasi_records.proofs.Lookups.{found_at, none_at}
 use Rattle.host_store.specs.declared.store.Store.TheView.{view}
 use Rattle.host_tcp.proofs.releasing.poll_writer.Goals as goal

@@ -5,13 +5,13 @@ use Rattle.wasi_world.specs.Asks.{Give}
 use Rattle.wasi_world.proofs.Walks.{asks_end, asks_given}
 use Rattle.wasi_records.specs.Records.{tcp2_put}
 use Rattle.wasi_records.specs.declared.records.Record.{Record}
-use Rattle.wasi_records.specs.Stops.{Code, Trap, code_stop, host_outcome}
-use Rattle.wasi_records.specs.Listening.{with_accepted_in}
+use Rattle.record_common.specs.Stops.{Code, Trap, code_stop, host_outcome}
+use Rattle.wasi_records.specs.Accepted.{with_accepted_in}
 use Rattle.host_tcp.specs.TcpCalls.{with_records}
 use Rattle.host_store.specs.Store.{Records}
 use Rattle.host_tcp.proofs.AcceptedRecords.{knows_accepted, found_still, none_still, names_left}
 use Rattle.host_store.proofs.KnownSides.{knows_polled}
-use Rattle.wasi_records.proofs.Hosts.{host_none, host_refused}
+use Rattle.record_common.proofs.Hosts.{host_none, host_refused}
 use Rattle.host_store.specs.declared.store.Store.TheView.{view}
 use Rattle.host_tcp.proofs.tcp_calls.accept.Goals as goal
 

@@ -3,7 +3,7 @@ use Rattle.wasi_world.specs.Asks.{Give}
 use Rattle.wasi_world.proofs.Walks.{asks_end, asks_given}
 use Rattle.host_store.specs.Standing.{allowed_answer}
 use Rattle.host_store.specs.Store.{Records, with_socket}
-use Rattle.wasi_records.proofs.Hosts.{host_refused}
+use Rattle.record_common.proofs.Hosts.{host_refused}
 use Rattle.host_store.proofs.KnownSides.{knows_polled, knows_stood}
 use Rattle.wasi_records.proofs.Lookups.{found_at, none_at}
 use Rattle.host_store.specs.declared.store.Store.TheView.{view}

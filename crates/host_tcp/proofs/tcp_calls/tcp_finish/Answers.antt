@@ -1,7 +1,7 @@
 use Rattle.std.proofs.Common.{Bool, List, ap, sym, ◌∙◌, refl}
 use Rattle.wasi_records.specs.Sides.{held_in}
 use Rattle.wasi_records.specs.declared.records.Record.{Record}
-use Rattle.wasi_records.specs.declared.tcp_binding.InProgress.TheVariants.{Nothing}
+use Rattle.tcp_records.specs.declared.tcp_binding.InProgress.TheVariants.{Nothing}
 use Rattle.host_store.specs.Store.{Records}
 use Rattle.host_tcp.specs.TcpCalls.{finish_by}
 use Rattle.wasi_records.proofs.Lookups.{found_at, set_back}

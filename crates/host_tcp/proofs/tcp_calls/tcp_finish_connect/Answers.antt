@@ -5,7 +5,7 @@ use Rattle.wasi_world.proofs.Walks.{asks_given}
 use Rattle.host_store.proofs.KnownSides.{knows_same, knows_polled}
 use Rattle.wasi_records.specs.Sides.{held_in}
 use Rattle.wasi_records.specs.declared.records.Record.{Record}
-use Rattle.wasi_records.specs.Stops.{Code}
+use Rattle.record_common.specs.Stops.{Code}
 use Rattle.host_store.specs.Store.{Records, with_socket}
 use Rattle.host_store.proofs.Called.{called_last}
 use Rattle.wasi_records.proofs.Lookups.{found_at, none_at, set_back}

@@ -1,8 +1,10 @@
 use Rattle.std.proofs.Common.{refl}
 use Rattle.wasi_world.proofs.Walks.{asks_end, asks_given}
-use Rattle.wasi_records.proofs.Hosts.{host_refused}
+use Rattle.record_common.proofs.Hosts.{host_refused}
 use Rattle.wasi_records.proofs.Lookups.{found_at, none_at}
-use Rattle.wasi_records.proofs.SideCounts.{Any, held_in-set, calm_tell_local}
+use Rattle.record_common.proofs.SideCounts.{Any}
+use Rattle.wasi_records.proofs.SideCounts.{held_in-set}
+use Rattle.tcp_records.proofs.SideCounts.{calm_tell_local}
 use Rattle.host_store.proofs.KnownSides.{knows_asked, knows_calm}
 use Rattle.host_tcp.proofs.tcp_calls.tcp_local_address.Goals as goal
 

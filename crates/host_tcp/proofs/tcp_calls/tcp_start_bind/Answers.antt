@@ -5,12 +5,12 @@ use Rattle.wasi_world.specs.Asks.{Give}
 use Rattle.wasi_world.proofs.Walks.{asks_at, asks_end, asks_given}
 use Rattle.wasi_records.specs.Sides.{held_in}
 use Rattle.wasi_records.specs.declared.records.Record.{Record}
-use Rattle.wasi_records.specs.Binding.{begin_bind_asks}
+use Rattle.tcp_records.specs.Binding.{begin_bind_asks}
 use Rattle.host_tcp.specs.TcpCalls.{start_bind_by}
-use Rattle.wasi_records.specs.Stops.{Code}
+use Rattle.record_common.specs.Stops.{Code}
 use Rattle.host_store.specs.Standing.{allowed_answer}
 use Rattle.host_store.specs.Store.{Records, with_socket}
-use Rattle.wasi_records.proofs.Hosts.{host_refused}
+use Rattle.record_common.proofs.Hosts.{host_refused}
 use Rattle.wasi_records.proofs.Lookups.{found_at, none_at, set_back}
 use Rattle.host_store.proofs.KnownSides.{knows_none, knows_stood, knows_same}
 use Rattle.wasi_records.proofs.SideCounts.{held_in-set}

@@ -4,12 +4,14 @@ use Rattle.wasi_world.specs.Asks.{Give}
 use Rattle.wasi_world.proofs.Walks.{asks_at, asks_end, asks_given}
 use Rattle.wasi_records.specs.Sides.{held_in}
 use Rattle.wasi_records.specs.declared.records.Record.{Record}
-use Rattle.wasi_records.specs.Stops.{Code}
+use Rattle.record_common.specs.Stops.{Code}
 use Rattle.host_store.specs.Store.{Records}
 use Rattle.host_tcp.specs.TcpCalls.{start_connect_by}
-use Rattle.wasi_records.proofs.Hosts.{host_refused}
+use Rattle.record_common.proofs.Hosts.{host_refused}
 use Rattle.wasi_records.proofs.Lookups.{found_at, none_at, set_back}
-use Rattle.wasi_records.proofs.SideCounts.{Any, held_in-set, calm_begin_connect}
+use Rattle.record_common.proofs.SideCounts.{Any}
+use Rattle.wasi_records.proofs.SideCounts.{held_in-set}
+use Rattle.tcp_records.proofs.SideCounts.{calm_begin_connect}
 use Rattle.host_store.proofs.KnownSides.{knows_asked, knows_calm, knows_same}
 use Rattle.host_store.specs.declared.store.Store.TheView.{view}
 use Rattle.host_tcp.proofs.tcp_calls.tcp_start_connect.Goals as goal

@@ -4,9 +4,9 @@ use Rattle.wasi_world.proofs.Walks.{asks_end, asks_exit}
 use Rattle.host_store.specs.GivingBack.{given_back}
 use Rattle.host_store.specs.Store.{Records}
 use Rattle.wasi_records.specs.declared.records.Record.TheVariants.{Udp}
-use Rattle.wasi_records.specs.declared.udp.UdpRecord.{UdpRecord}
-use Rattle.wasi_records.specs.declared.udp.UdpRecord.TheVariants.{Closed}
-use Rattle.wasi_records.proofs.ReceiveLists.{on_err}
+use Rattle.udp_records.specs.declared.udp.UdpRecord.{UdpRecord}
+use Rattle.udp_records.specs.declared.udp.UdpRecord.TheVariants.{Closed}
+use Rattle.udp_records.proofs.ReceiveLists.{on_err}
 use Rattle.host_store.proofs.GivenBack.{given_back_put}
 use Rattle.host_udp.proofs.UdpLeft.{knows_cancelled}
 use Rattle.host_store.specs.declared.store.Store.TheView.{view}

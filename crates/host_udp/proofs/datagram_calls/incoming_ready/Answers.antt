@@ -5,7 +5,7 @@ use Rattle.host_udp.specs.DatagramCalls.{begins_receive}
 use Rattle.wasi_records.specs.Sides.{held_in}
 use Rattle.host_store.specs.Store.{Records}
 use Rattle.host_udp.proofs.DatagramStores.{begins_now, begins_none, job_noted, knows_open, looked_so}
-use Rattle.wasi_records.proofs.Hosts.{fault_exit, fault_none}
+use Rattle.record_common.proofs.Hosts.{fault_exit, fault_none}
 use Rattle.host_store.proofs.KnownSides.{knows_same}
 use Rattle.wasi_records.proofs.UdpLookups.{open_back, open_found}
 use Rattle.host_udp.proofs.datagram_calls.incoming_ready.Goals.{then-not-before, else-not-before}

@@ -1,6 +1,6 @@
 use Rattle.std.proofs.Common.{refl}
 use Rattle.wasi_world.proofs.Walks.{asks_end, asks_then}
-use Rattle.wasi_records.proofs.Hosts.{host_passed}
+use Rattle.record_common.proofs.Hosts.{host_passed}
 use Rattle.host_udp.proofs.datagram_calls.make_streams.Goals as goal
 
 pub returns-in_err-start_streams-clause-asked : goal.returns-in_err-start_streams-clause-asked

@@ -2,7 +2,7 @@ use Rattle.std.proofs.Common.{refl}
 use Rattle.wasi_world.proofs.Walks.{asks_at, asks_end, asks_then}
 use Rattle.host_store.specs.declared.machine.Machine.{Machine}
 use Rattle.host_udp.specs.DatagramCalls.{mark_streams_of}
-use Rattle.wasi_records.proofs.Hosts.{host_fault}
+use Rattle.record_common.proofs.Hosts.{host_fault}
 use Rattle.host_udp.proofs.datagram_calls.mark_streams.Goals as goal
 
 pub returns-in_err-incoming-clause-asked : goal.returns-in_err-incoming-clause-asked

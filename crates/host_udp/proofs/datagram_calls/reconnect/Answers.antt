@@ -4,7 +4,7 @@ use Rattle.wasi_world.proofs.Walks.{asks_end}
 use Rattle.host_store.specs.Standing.{allowed_answer}
 use Rattle.host_store.specs.Store.{Records}
 use Rattle.host_udp.proofs.DatagramStores.{knows_open, knows_open-stood}
-use Rattle.wasi_records.proofs.Hosts.{host_refused}
+use Rattle.record_common.proofs.Hosts.{host_refused}
 use Rattle.wasi_records.proofs.UdpLookups.{open_found}
 use Rattle.host_store.specs.declared.store.Store.TheView.{view}
 use Rattle.host_udp.proofs.datagram_calls.reconnect.Goals as goal

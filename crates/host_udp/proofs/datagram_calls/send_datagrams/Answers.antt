@@ -6,7 +6,7 @@ use Rattle.wasi_records.specs.Records.{open_put}
 use Rattle.wasi_records.specs.Sides.{held_in}
 use Rattle.host_store.specs.Store.{Records}
 use Rattle.host_udp.proofs.DatagramStores.{asks_as, begins_now, begins_none, job_noted}
-use Rattle.wasi_records.proofs.Hosts.{host_none}
+use Rattle.record_common.proofs.Hosts.{host_none}
 use Rattle.host_store.proofs.KnownSides.{knows_none, knows_same}
 use Rattle.wasi_records.proofs.UdpLookups.{open_back, open_found, held_in-open}
 use Rattle.host_udp.proofs.datagram_calls.send_datagrams.Goals.{then-not-before, else-not-before}

@@ -4,12 +4,12 @@ use Rattle.wasi_world.specs.declared.outcome.TrapKind.TheVariants.{StreamsAlive}
 use Rattle.wasi_world.specs.Asks.{Give}
 use Rattle.wasi_world.proofs.Walks.{asks_at, asks_end, asks_given}
 use Rattle.host_udp.specs.DatagramCalls.{start_streams_by}
-use Rattle.wasi_records.specs.Datagrams.{begin_streams_asks}
-use Rattle.wasi_records.specs.Stops.{Trap}
+use Rattle.udp_records.specs.Datagrams.{begin_streams_asks}
+use Rattle.record_common.specs.Stops.{Trap}
 use Rattle.host_store.specs.Standing.{allowed_answer}
 use Rattle.host_store.specs.Store.{Records}
 use Rattle.host_udp.proofs.DatagramStores.{knows_open, knows_open-stood, knows_back, given_back}
-use Rattle.wasi_records.proofs.Hosts.{host_refused}
+use Rattle.record_common.proofs.Hosts.{host_refused}
 use Rattle.wasi_records.proofs.UdpLookups.{open_found}
 use Rattle.host_store.specs.declared.store.Store.TheView.{view}
 use Rattle.host_udp.proofs.datagram_calls.start_streams.Goals as goal

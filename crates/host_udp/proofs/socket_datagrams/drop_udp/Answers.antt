@@ -1,5 +1,5 @@
 use Rattle.std.proofs.Common.{refl}
-use Rattle.wasi_records.specs.Udp.{without_udp_socket}
+use Rattle.udp_records.specs.Udp.{without_udp_socket}
 use Rattle.wasi_records.proofs.UdpLookups.{open_found, held_in-open}
 use Rattle.host_store.proofs.KnownSides.{knows_same}
 use Rattle.host_udp.proofs.socket_datagrams.drop_udp.Goals as goal

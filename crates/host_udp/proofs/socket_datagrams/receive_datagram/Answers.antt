@@ -1,10 +1,10 @@
 use Rattle.std.proofs.Common.{None}
 use Rattle.wasi_world.proofs.Walks.{asks_then, reaches_on}
-use Rattle.wasi_records.specs.declared.datagrams.Incoming.{Incoming}
-use Rattle.wasi_records.specs.declared.datagrams.Receiving.TheVariants as receiving
-use Rattle.wasi_records.specs.Udp.{with_udp_inner}
-use Rattle.wasi_records.proofs.ReceiveCalms.{receive_begins_none, receive_makes_none}
-use Rattle.wasi_records.proofs.SideCounts.{none_then}
+use Rattle.udp_records.specs.declared.datagrams.Incoming.{Incoming}
+use Rattle.udp_records.specs.declared.datagrams.Receiving.TheVariants as receiving
+use Rattle.udp_records.specs.Udp.{with_udp_inner}
+use Rattle.udp_records.proofs.ReceiveCalms.{receive_begins_none, receive_makes_none}
+use Rattle.record_common.proofs.SideCounts.{none_then}
 use Rattle.wasi_records.proofs.UdpLookups.{open_found, held_in-open}
 use Rattle.host_store.specs.BaseStops.{ends_as}
 use Rattle.host_store.specs.Store.{Records}

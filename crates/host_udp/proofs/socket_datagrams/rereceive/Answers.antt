@@ -2,9 +2,9 @@ use Rattle.std.proofs.Common.{◌≡◌, None, refl}
 use Rattle.wasi_world.specs.Operation.{Done, Nothing, Refused}
 use Rattle.wasi_world.proofs.Walks.{asks_err, reaches_in}
 use Rattle.wasi_udp.specs.Receive.{datagram_of}
-use Rattle.wasi_records.specs.declared.datagrams.Incoming.{Incoming}
-use Rattle.wasi_records.specs.declared.datagrams.Receiving.TheVariants as receiving
-use Rattle.wasi_records.proofs.ReceiveCalms.{receive_makes_none}
+use Rattle.udp_records.specs.declared.datagrams.Incoming.{Incoming}
+use Rattle.udp_records.specs.declared.datagrams.Receiving.TheVariants as receiving
+use Rattle.udp_records.proofs.ReceiveCalms.{receive_makes_none}
 use Rattle.host_store.specs.declared.beside.BesideCall.TheVariants.{Connect, Receive}
 use Rattle.host_store.specs.Beside.{beside_with}
 use Rattle.host_udp.specs.SocketDatagrams.{received_answer, receive_polls}

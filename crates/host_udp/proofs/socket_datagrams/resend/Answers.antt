@@ -1,8 +1,8 @@
 use Rattle.std.proofs.Common.{◌≡◌, refl}
 use Rattle.wasi_world.specs.Operation.{Done, Nothing, Refused}
 use Rattle.wasi_world.proofs.Walks.{asks_err, reaches_in}
-use Rattle.wasi_records.specs.Binding.{bind_answer}
-use Rattle.wasi_records.proofs.DatagramSends.{send_makes_none}
+use Rattle.record_common.specs.Binding.{bind_answer}
+use Rattle.udp_records.proofs.DatagramSends.{send_makes_none}
 use Rattle.host_store.specs.declared.beside.BesideCall.TheVariants.{Connect, Send}
 use Rattle.host_store.specs.Beside.{beside_with}
 use Rattle.host_udp.specs.SocketDatagrams.{send_polls}

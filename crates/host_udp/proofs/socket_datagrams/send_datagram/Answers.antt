@@ -1,8 +1,8 @@
 use Rattle.wasi_world.proofs.Walks.{asks_then, reaches_on}
-use Rattle.wasi_records.specs.Udp.{with_udp_inner}
-use Rattle.wasi_records.proofs.DatagramCalms.{calm_send_begins}
-use Rattle.wasi_records.proofs.DatagramSends.{send_makes_none}
-use Rattle.wasi_records.proofs.SideCounts.{none_calm, none_then}
+use Rattle.udp_records.specs.Udp.{with_udp_inner}
+use Rattle.udp_records.proofs.DatagramCalms.{calm_send_begins}
+use Rattle.udp_records.proofs.DatagramSends.{send_makes_none}
+use Rattle.record_common.proofs.SideCounts.{none_calm, none_then}
 use Rattle.wasi_records.proofs.UdpLookups.{open_found, held_in-open}
 use Rattle.host_store.specs.BaseStops.{ends_as}
 use Rattle.host_store.specs.Store.{Records}

@@ -3,14 +3,14 @@ use Rattle.wasi_world.specs.declared.ids.OpId.{OpId}
 use Rattle.wasi_world.specs.declared.outcome.Answer.{Answer}
 use Rattle.wasi_world.specs.Asks.{Give}
 use Rattle.wasi_world.proofs.Walks.{asks_at, asks_end, asks_given, asks_gives}
-use Rattle.wasi_records.specs.Udp.{begin_udp_bind_asks}
+use Rattle.udp_records.specs.Udp.{begin_udp_bind_asks}
 use Rattle.host_store.specs.declared.kind.Interface.TheVariants.{P3}
 use Rattle.host_udp.specs.UdpBinds.{udp_bind_told}
 use Rattle.host_store.specs.Store.{Records}
 use Rattle.host_store.specs.Store.{with_open_udp}
 use Rattle.wasi_records.proofs.UdpLookups.{open_found, not_open, held_in-open}
 use Rattle.host_store.proofs.Bases.{base_passed}
-use Rattle.wasi_records.specs.declared.udp.OpenUdp.{OpenUdp}
+use Rattle.udp_records.specs.declared.udp.OpenUdp.{OpenUdp}
 use Rattle.host_udp.proofs.UdpBinds.{udp_bound_side}
 use Rattle.host_store.proofs.KnownSides.{knows_none, knows_stood}
 use Rattle.host_store.specs.declared.store.Store.TheView.{view}

@@ -7,7 +7,7 @@ use Rattle.host_store.specs.Store.{Records}
 use Rattle.host_store.specs.Store.{with_open_udp}
 use Rattle.wasi_records.proofs.UdpLookups.{open_found, not_open, held_in-open}
 use Rattle.host_store.proofs.Bases.{base_passed}
-use Rattle.wasi_records.specs.declared.udp.OpenUdp.{OpenUdp}
+use Rattle.udp_records.specs.declared.udp.OpenUdp.{OpenUdp}
 use Rattle.host_udp.proofs.UdpBinds.{udp_bound_side}
 use Rattle.host_store.proofs.KnownSides.{knows_none, knows_stood}
 use Rattle.host_store.specs.declared.store.Store.TheView.{view}

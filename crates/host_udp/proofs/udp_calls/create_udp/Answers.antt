@@ -3,7 +3,7 @@ use Rattle.wasi_world.specs.Asks.{Give}
 use Rattle.wasi_world.proofs.Walks.{asks_then}
 use Rattle.host_store.specs.declared.machine.Machine.{Machine}
 use Rattle.wasi_records.specs.declared.records.Record.{Record}
-use Rattle.wasi_records.specs.Stops.{Code}
+use Rattle.record_common.specs.Stops.{Code}
 use Rattle.host_store.specs.KnownSides.{KnowsSides}
 use Rattle.host_store.specs.Store.{Records}
 use Rattle.host_store.proofs.Bases.{ends_none, base_passed}

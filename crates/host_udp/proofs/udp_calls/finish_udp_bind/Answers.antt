@@ -1,6 +1,6 @@
 use Rattle.std.proofs.Common.{Bool, List, ap, sym, ◌∙◌, refl}
 use Rattle.wasi_records.specs.declared.records.Record.{Record}
-use Rattle.wasi_records.specs.declared.udp.UdpInProgress.TheVariants.{Nothing}
+use Rattle.udp_records.specs.declared.udp.UdpInProgress.TheVariants.{Nothing}
 use Rattle.wasi_records.specs.Sides.{held_in}
 use Rattle.host_store.specs.Store.{Records}
 use Rattle.host_udp.specs.UdpCalls.{finish_udp_bind_by}

@@ -1,9 +1,9 @@
 use Rattle.std.proofs.Common.{refl}
 use Rattle.wasi_world.proofs.Walks.{asks_end, asks_given}
-use Rattle.wasi_records.proofs.Hosts.{host_refused}
-use Rattle.wasi_records.proofs.SideCounts.{Any}
+use Rattle.record_common.proofs.Hosts.{host_refused}
+use Rattle.record_common.proofs.SideCounts.{Any}
 use Rattle.host_store.proofs.KnownSides.{knows_asked, knows_calm}
-use Rattle.wasi_records.proofs.UdpCalms.{calm_udp_get}
+use Rattle.udp_records.proofs.UdpCalms.{calm_udp_get}
 use Rattle.wasi_records.proofs.UdpLookups.{open_got, not_open}
 use Rattle.host_udp.proofs.udp_calls.get_udp_option.Goals as goal
 

@@ -1,7 +1,7 @@
 use Rattle.std.proofs.Common.{Some, ap, refl, sym, ◌∙◌}
 use Rattle.wasi_records.specs.Records.{udp2_at}
 use Rattle.host_store.specs.Store.{Records}
-use Rattle.wasi_records.specs.declared.udp.UdpRecord.TheVariants.{Closed}
+use Rattle.udp_records.specs.declared.udp.UdpRecord.TheVariants.{Closed}
 use Rattle.host_udp.proofs.UdpLeft.{left_same, left_closed}
 use Rattle.host_store.proofs.GivenBack.{udp_held}
 use Rattle.host_udp.proofs.udp_calls.leave_udp.Goals as goal

@@ -1,7 +1,7 @@
 use Rattle.std.proofs.Common.{◌≡◌, List, refl, ap, sym, ◌∙◌}
 use Rattle.wasi_world.specs.Asks.{Give}
 use Rattle.wasi_world.proofs.Walks.{asks_end, asks_exit, asks_given}
-use Rattle.wasi_records.proofs.ReceiveLists.{on_err}
+use Rattle.udp_records.proofs.ReceiveLists.{on_err}
 use Rattle.wasi_records.specs.declared.records.Record.{Record}
 use Rattle.host_store.specs.Store.{Records}
 use Rattle.host_store.specs.Store.{with_udp}

@@ -1,10 +1,10 @@
 use Rattle.std.proofs.Common.{refl}
 use Rattle.wasi_world.proofs.Walks.{asks_given, asks_end}
 use Rattle.socket_common.specs.Options.{option_of, number_of}
-use Rattle.wasi_records.proofs.Hosts.{host_refused}
-use Rattle.wasi_records.proofs.SideCounts.{Any}
+use Rattle.record_common.proofs.Hosts.{host_refused}
+use Rattle.record_common.proofs.SideCounts.{Any}
 use Rattle.host_store.proofs.KnownSides.{knows_asked, knows_calm}
-use Rattle.wasi_records.proofs.UdpCalms.{calm_udp_set}
+use Rattle.udp_records.proofs.UdpCalms.{calm_udp_set}
 use Rattle.wasi_records.proofs.UdpLookups.{open_found, not_open, open_back}
 use Rattle.host_udp.proofs.udp_calls.set_udp_option.Goals as goal
 

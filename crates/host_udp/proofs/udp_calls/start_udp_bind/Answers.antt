@@ -4,14 +4,14 @@ use Rattle.wasi_world.specs.declared.ids.OpId.{OpId}
 use Rattle.wasi_world.specs.Asks.{Give}
 use Rattle.wasi_world.proofs.Walks.{asks_at, asks_end, asks_given}
 use Rattle.wasi_records.specs.declared.records.Record.{Record}
-use Rattle.wasi_records.specs.Stops.{Code}
+use Rattle.record_common.specs.Stops.{Code}
 use Rattle.wasi_records.specs.Sides.{held_in}
 use Rattle.host_store.specs.Standing.{allowed_answer}
 use Rattle.host_store.specs.Store.{Records}
-use Rattle.wasi_records.specs.Udp.{begin_udp_bind_asks}
+use Rattle.udp_records.specs.Udp.{begin_udp_bind_asks}
 use Rattle.host_udp.specs.UdpCalls.{start_udp_bind_by, start_udp_bind_unless}
 use Rattle.host_store.specs.Store.{with_open_udp}
-use Rattle.wasi_records.proofs.Hosts.{host_refused}
+use Rattle.record_common.proofs.Hosts.{host_refused}
 use Rattle.host_store.proofs.KnownSides.{knows_none, knows_stood, knows_same}
 use Rattle.wasi_records.proofs.UdpLookups.{open_found, not_open, open_back, held_in-open}
 use Rattle.host_store.specs.declared.store.Store.TheView.{view}

@@ -5,9 +5,9 @@ use Rattle.wasi_world.specs.declared.outcome.Answer.{Answer}
 use Rattle.wasi_world.specs.Asks.{Give}
 use Rattle.wasi_world.proofs.Walks.{asks_at, asks_end, asks_given}
 use Rattle.wasi_records.specs.declared.records.Record.{Record}
-use Rattle.wasi_records.specs.Datagrams.{udp_connect_asks}
+use Rattle.udp_records.specs.Datagrams.{udp_connect_asks}
 use Rattle.wasi_records.specs.Sides.{held_in}
-use Rattle.wasi_records.specs.Stops.{Code}
+use Rattle.record_common.specs.Stops.{Code}
 use Rattle.host_store.specs.Store.{Records}
 use Rattle.host_store.specs.Store.{with_open_udp}
 use Rattle.wasi_records.proofs.UdpLookups.{open_found, open_back, not_open, held_in-open}

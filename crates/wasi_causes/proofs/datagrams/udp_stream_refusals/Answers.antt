@@ -2,9 +2,10 @@ use Rattle.wasi_causes.proofs.datagrams.udp_stream_refusals.Goals as goal
 use Rattle.wasi_causes.proofs.tables.Steps.{its_own}
 use Rattle.wasi_steps.specs.declared.reply.Reply.TheVariants as reply
 use Rattle.wasi_steps.specs.declared.guest_call.GuestCall.TheVariants as guest
+use Rattle.wasi_steps.specs.declared.guest_call.UdpCall.TheVariants as udp_call
 use Rattle.wasi_steps.specs.declared.step.Step.TheVariants as step
 
 pub returns : goal.returns
 returns c = record {
-  cause = λ contexts m line ctx handle remote entries word after w. (its_own contexts m line (step.Call ctx (guest.UdpStream handle remote)) entries (reply.Err word) after w (λ e. cc)).1.1;
+  cause = λ contexts m line ctx handle remote entries word after w. (its_own contexts m line (step.Call ctx (guest.Udp (udp_call.Stream handle remote))) entries (reply.Err word) after w (λ e. cc)).1.1;
 }

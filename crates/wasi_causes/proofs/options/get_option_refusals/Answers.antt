@@ -1,4 +1,5 @@
 use Rattle.wasi_steps.specs.declared.guest_call.GuestCall.TheVariants as guest
+use Rattle.wasi_steps.specs.declared.guest_call.TcpCall.TheVariants as tcp_call
 use Rattle.wasi_steps.specs.declared.step.Step.TheVariants as step
 use Rattle.wasi_steps.specs.declared.reply.Reply.TheVariants as reply
 use Rattle.std.proofs.Common.{◌≡◌, refl}
@@ -7,6 +8,6 @@ use Rattle.wasi_causes.proofs.options.get_option_refusals.Goals as goal
 
 pub returns : goal.returns
 returns c = record {
-  cause = λ contexts m line ctx handle option entries word after w. (its_own contexts m line (step.Call ctx (guest.TcpGet handle option)) entries (reply.Err word) after w (λ e. cc)).1.1;
-  stays = λ contexts m line ctx handle option. of_answer contexts m line (step.Call ctx (guest.TcpGet handle option)) (λ es r after. after ≡ m) refl (λ es r after row. row.0);
+  cause = λ contexts m line ctx handle option entries word after w. (its_own contexts m line (step.Call ctx (guest.Tcp (tcp_call.Get handle option))) entries (reply.Err word) after w (λ e. cc)).1.1;
+  stays = λ contexts m line ctx handle option. of_answer contexts m line (step.Call ctx (guest.Tcp (tcp_call.Get handle option))) (λ es r after. after ≡ m) refl (λ es r after row. row.0);
 }

@@ -4,8 +4,8 @@ use Rattle.wasi_world.specs.declared.outcome.WasiSocketsCtx.{WasiSocketsCtx}
 use Rattle.host_store.specs.declared.kind.Kind.TheVariants as kind
 use Rattle.host_store.specs.declared.machine.Machine.{Machine}
 use Rattle.host_store.specs.Kinds.{kind_at}
-use Rattle.wasi_records.specs.declared.socket.TcpRecord.{TcpRecord}
-use Rattle.wasi_records.specs.Holding.{is_held, without_socket}
+use Rattle.tcp_records.specs.declared.socket.TcpRecord.{TcpRecord}
+use Rattle.tcp_records.specs.Holding.{is_held, without_socket}
 use Rattle.wasi_records.specs.Records.{tcp2_at}
 use Rattle.wasi_walks.specs.Answered.{Answered}
 use Rattle.wasi_causes.specs.GivenUp.{LetsGoBy}
@@ -13,6 +13,7 @@ use Rattle.wasi_causes.proofs.Ending.{tcp3_gone, tcp3_ok}
 use Rattle.wasi_causes.proofs.p3.p3_drops_give_up_what_is_open.Goals as goal
 use Rattle.wasi_causes.proofs.tables.Steps.{its_own, while_free}
 use Rattle.wasi_steps.specs.declared.guest_call.GuestCall.TheVariants as guest
+use Rattle.wasi_steps.specs.declared.guest_call.PollableCall.TheVariants as pollable_call
 use Rattle.wasi_steps.specs.declared.reply.Field.{Field}
 use Rattle.wasi_steps.specs.declared.reply.Reply.TheVariants as reply
 use Rattle.wasi_steps.specs.declared.step.Step.TheVariants as step
@@ -20,16 +21,16 @@ use Rattle.wasi_steps.specs.declared.step.Step.TheVariants as step
 -- by whether something else holds the network socket
 by_held : (contexts : List WasiSocketsCtx) (m : Machine) (line ctx handle place : ℕ) (r : TcpRecord) (fields : List Field) (es : List Entry) (after : Machine) (held : Bool)
     → kind_at m.table handle ≡ Some (kind.Tcp3 place) → tcp2_at m.store.records place ≡ Some r → is_held (without_socket r) ≡ held
-    → Answered contexts m line (step.Call ctx (guest.Drop handle)) es (reply.Ok fields) after → LetsGoBy m line handle place (without_socket r) es after held
+    → Answered contexts m line (step.Call ctx (guest.Pollable (pollable_call.Drop handle))) es (reply.Ok fields) after → LetsGoBy m line handle place (without_socket r) es after held
 by_held contexts m line ctx handle place r fields es after held is at e w =
     subst (LetsGoBy m line handle place (without_socket r) es after) e
-    (tcp3_gone contexts m line ctx handle place r is at es fields after (its_own contexts m line (step.Call ctx (guest.Drop handle)) es (reply.Ok fields) after w (λ e. cc)))
+    (tcp3_gone contexts m line ctx handle place r is at es fields after (its_own contexts m line (step.Call ctx (guest.Pollable (pollable_call.Drop handle))) es (reply.Ok fields) after w (λ e. cc)))
 
 pub returns : goal.returns
 returns c = record {
   done = λ contexts m line ctx handle place entries reply after free is under w.
       tcp3_ok contexts m line ctx handle place is under entries reply after
-      (while_free contexts m line (step.Call ctx (guest.Drop handle)) free entries reply after w);
+      (while_free contexts m line (step.Call ctx (guest.Pollable (pollable_call.Drop handle))) free entries reply after w);
   given_up = λ contexts m line ctx handle place r fields entries after is at e w. (by_held contexts m line ctx handle place r fields entries after false is at e w).0;
   gone = λ contexts m line ctx handle place r fields entries after is at e w. (by_held contexts m line ctx handle place r fields entries after false is at e w).1;
   kept = λ contexts m line ctx handle place r fields entries after is at e w. by_held contexts m line ctx handle place r fields entries after true is at e w;

@@ -1,6 +1,7 @@
 use Rattle.wasi_causes.proofs.p3.p3_option_refusals.Goals as goal
 use Rattle.wasi_causes.proofs.tables.Steps.{its_own, of_answer}
 use Rattle.wasi_steps.specs.declared.guest_call.GuestCall.TheVariants as guest
+use Rattle.wasi_steps.specs.declared.guest_call.P3TcpCall.TheVariants as p3_tcp_call
 use Rattle.wasi_steps.specs.declared.reply.Reply.TheVariants as reply
 use Rattle.wasi_steps.specs.declared.step.Step.TheVariants as step
 use Rattle.wasi_causes.proofs.Words.{refl, ◌≡◌}
@@ -8,11 +9,11 @@ use Rattle.wasi_causes.proofs.Words.{refl, ◌≡◌}
 pub returns : goal.returns
 returns c = record {
   get = λ contexts m line ctx handle option entries word after w.
-      (its_own contexts m line (step.Call ctx (guest.P3TcpGet handle option)) entries (reply.Err word) after w
+      (its_own contexts m line (step.Call ctx (guest.P3Tcp (p3_tcp_call.Get handle option))) entries (reply.Err word) after w
       (λ e. cc)).1.1;
   get_stays = λ contexts m line ctx handle option. of_answer contexts m line
-      (step.Call ctx (guest.P3TcpGet handle option)) (λ es r after. after ≡ m) refl (λ es r after row. row.0);
+      (step.Call ctx (guest.P3Tcp (p3_tcp_call.Get handle option))) (λ es r after. after ≡ m) refl (λ es r after row. row.0);
   set = λ contexts m line ctx handle setting entries word after w.
-      (its_own contexts m line (step.Call ctx (guest.P3TcpSet handle setting)) entries (reply.Err word) after w
+      (its_own contexts m line (step.Call ctx (guest.P3Tcp (p3_tcp_call.Set handle setting))) entries (reply.Err word) after w
       (λ e. cc)).1.1;
 }

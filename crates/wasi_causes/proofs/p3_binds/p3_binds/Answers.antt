@@ -1,5 +1,6 @@
 use Rattle.wasi_causes.proofs.p3_binds.p3_binds.Goals as goal
 use Rattle.wasi_steps.specs.declared.guest_call.GuestCall.TheVariants as guest
+use Rattle.wasi_steps.specs.declared.guest_call.P3TcpCall.TheVariants as p3_tcp_call
 use Rattle.wasi_steps.specs.declared.step.Step.TheVariants as step
 use Rattle.wasi_steps.specs.declared.reply.Reply.TheVariants as reply
 use Rattle.wasi_causes.proofs.tables.Steps.{its_own}
@@ -7,12 +8,12 @@ use Rattle.wasi_causes.proofs.tables.Steps.{its_own}
 pub returns : goal.returns
 returns c = record {
   refused = λ contexts m line ctx handle a entries word after w.
-      (its_own contexts m line (step.Call ctx (guest.P3TcpBind handle a)) entries (reply.Err word) after w
+      (its_own contexts m line (step.Call ctx (guest.P3Tcp (p3_tcp_call.Bind handle a))) entries (reply.Err word) after w
       (λ e. cc)).1.1;
   done = λ contexts m line ctx handle a entries fields after w.
-      (its_own contexts m line (step.Call ctx (guest.P3TcpBind handle a)) entries (reply.Ok fields) after w
+      (its_own contexts m line (step.Call ctx (guest.P3Tcp (p3_tcp_call.Bind handle a))) entries (reply.Ok fields) after w
       (λ e. cc)).1.1;
   pending = λ contexts m line ctx handle a entries number after w.
-      (its_own contexts m line (step.Call ctx (guest.P3TcpBind handle a)) entries (reply.Pending number) after w
+      (its_own contexts m line (step.Call ctx (guest.P3Tcp (p3_tcp_call.Bind handle a))) entries (reply.Pending number) after w
       (λ e. cc)).1.1;
 }

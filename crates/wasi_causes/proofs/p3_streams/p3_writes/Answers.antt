@@ -1,5 +1,6 @@
 use Rattle.wasi_causes.proofs.p3_streams.p3_writes.Goals as goal
 use Rattle.wasi_steps.specs.declared.guest_call.GuestCall.TheVariants as guest
+use Rattle.wasi_steps.specs.declared.guest_call.P3TcpCall.TheVariants as p3_tcp_call
 use Rattle.wasi_steps.specs.declared.step.Step.TheVariants as step
 use Rattle.wasi_steps.specs.declared.reply.Reply.TheVariants as reply
 use Rattle.wasi_causes.proofs.streams.EndAnswers.{write_answers}
@@ -8,18 +9,18 @@ use Rattle.wasi_causes.proofs.tables.Steps.{its_own, while_free}
 pub returns : goal.returns
 returns c = record {
   gives = λ contexts m line ctx handle bytes entries fields after w.
-      (its_own contexts m line (step.Call ctx (guest.P3Write handle bytes)) entries (reply.Ok fields) after w
+      (its_own contexts m line (step.Call ctx (guest.P3Tcp (p3_tcp_call.Write handle bytes))) entries (reply.Ok fields) after w
       (λ e. cc)).1.1;
   cancelled = λ contexts m line ctx handle bytes entries after w.
-      (its_own contexts m line (step.Call ctx (guest.P3Write handle bytes)) entries reply.Cancelled after w
+      (its_own contexts m line (step.Call ctx (guest.P3Tcp (p3_tcp_call.Write handle bytes))) entries reply.Cancelled after w
       (λ e. cc)).1.1;
   dropped = λ contexts m line ctx handle bytes entries after w.
-      (its_own contexts m line (step.Call ctx (guest.P3Write handle bytes)) entries reply.Dropped after w
+      (its_own contexts m line (step.Call ctx (guest.P3Tcp (p3_tcp_call.Write handle bytes))) entries reply.Dropped after w
       (λ e. cc)).1.1;
   stays = λ contexts m line ctx handle bytes entries word after w.
-      (its_own contexts m line (step.Call ctx (guest.P3Write handle bytes)) entries (reply.Err word) after w
+      (its_own contexts m line (step.Call ctx (guest.P3Tcp (p3_tcp_call.Write handle bytes))) entries (reply.Err word) after w
       (λ e. cc)).1.0;
   which = λ contexts m line ctx handle bytes end entries reply after free names w.
       write_answers contexts m line ctx handle bytes end names entries reply after
-      (while_free contexts m line (step.Call ctx (guest.P3Write handle bytes)) free entries reply after w);
+      (while_free contexts m line (step.Call ctx (guest.P3Tcp (p3_tcp_call.Write handle bytes))) free entries reply after w);
 }

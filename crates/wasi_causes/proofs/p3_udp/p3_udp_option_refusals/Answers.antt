@@ -1,5 +1,6 @@
 use Rattle.wasi_causes.proofs.p3_udp.p3_udp_option_refusals.Goals as goal
 use Rattle.wasi_steps.specs.declared.guest_call.GuestCall.TheVariants as guest
+use Rattle.wasi_steps.specs.declared.guest_call.P3UdpCall.TheVariants as p3_udp_call
 use Rattle.wasi_steps.specs.declared.step.Step.TheVariants as step
 use Rattle.wasi_steps.specs.declared.reply.Reply.TheVariants as reply
 use Rattle.wasi_causes.proofs.tables.Steps.{its_own, of_answer}
@@ -8,13 +9,13 @@ use Rattle.wasi_causes.proofs.Words.{refl, ◌≡◌}
 pub returns : goal.returns
 returns c = record {
   get = λ contexts m line ctx handle option entries word after w.
-      (its_own contexts m line (step.Call ctx (guest.P3UdpGet handle option)) entries (reply.Err word) after w
+      (its_own contexts m line (step.Call ctx (guest.P3Udp (p3_udp_call.Get handle option))) entries (reply.Err word) after w
       (λ e. cc)).1.1;
   get_stays = λ contexts m line ctx handle option. of_answer contexts m line
-      (step.Call ctx (guest.P3UdpGet handle option)) (λ es r after. after ≡ m) refl (λ es r after row. row.0);
+      (step.Call ctx (guest.P3Udp (p3_udp_call.Get handle option))) (λ es r after. after ≡ m) refl (λ es r after row. row.0);
   set = λ contexts m line ctx handle setting entries word after w.
-      (its_own contexts m line (step.Call ctx (guest.P3UdpSet handle setting)) entries (reply.Err word) after w
+      (its_own contexts m line (step.Call ctx (guest.P3Udp (p3_udp_call.Set handle setting))) entries (reply.Err word) after w
       (λ e. cc)).1.1;
   set_stays = λ contexts m line ctx handle setting. of_answer contexts m line
-      (step.Call ctx (guest.P3UdpSet handle setting)) (λ es r after. after ≡ m) refl (λ es r after row. row.0);
+      (step.Call ctx (guest.P3Udp (p3_udp_call.Set handle setting))) (λ es r after. after ≡ m) refl (λ es r after row. row.0);
 }

@@ -1,4 +1,5 @@
 use Rattle.wasi_steps.specs.declared.guest_call.GuestCall.TheVariants as guest
+use Rattle.wasi_steps.specs.declared.guest_call.StreamCall.TheVariants as stream_call
 use Rattle.wasi_steps.specs.declared.step.Step.TheVariants as step
 use Rattle.wasi_steps.specs.declared.reply.Reply.TheVariants as reply
 use Rattle.wasi_causes.proofs.tables.Steps.{its_own, while_free}
@@ -6,7 +7,7 @@ use Rattle.wasi_causes.proofs.stream_calls.checks_tell_the_kept_error.Goals as g
 
 pub returns : goal.returns
 returns c = record {
-  closed = λ contexts m line ctx output entries after w. (its_own contexts m line (step.Call ctx (guest.CheckWrite output)) entries (reply.Closed) after w (λ e. cc)).1.1;
-  failed = λ contexts m line ctx output entries word handle after w. (its_own contexts m line (step.Call ctx (guest.CheckWrite output)) entries (reply.Failed word handle) after w (λ e. cc)).1.1;
-  plain = λ contexts m line ctx output entries reply after free w. (while_free contexts m line (step.Call ctx (guest.CheckWrite output)) free entries reply after w).0;
+  closed = λ contexts m line ctx output entries after w. (its_own contexts m line (step.Call ctx (guest.Stream (stream_call.CheckWrite output))) entries (reply.Closed) after w (λ e. cc)).1.1;
+  failed = λ contexts m line ctx output entries word handle after w. (its_own contexts m line (step.Call ctx (guest.Stream (stream_call.CheckWrite output))) entries (reply.Failed word handle) after w (λ e. cc)).1.1;
+  plain = λ contexts m line ctx output entries reply after free w. (while_free contexts m line (step.Call ctx (guest.Stream (stream_call.CheckWrite output))) free entries reply after w).0;
 }

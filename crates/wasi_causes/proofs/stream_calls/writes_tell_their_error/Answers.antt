@@ -1,4 +1,5 @@
 use Rattle.wasi_steps.specs.declared.guest_call.GuestCall.TheVariants as guest
+use Rattle.wasi_steps.specs.declared.guest_call.StreamCall.TheVariants as stream_call
 use Rattle.wasi_steps.specs.declared.step.Step.TheVariants as step
 use Rattle.wasi_steps.specs.declared.reply.Reply.TheVariants as reply
 use Rattle.wasi_causes.proofs.tables.Steps.{its_own, while_free}
@@ -6,8 +7,8 @@ use Rattle.wasi_causes.proofs.stream_calls.writes_tell_their_error.Goals as goal
 
 pub returns : goal.returns
 returns c = record {
-  closed = λ contexts m line ctx output bytes entries after w. (its_own contexts m line (step.Call ctx (guest.Write output bytes)) entries (reply.Closed) after w (λ e. cc)).1.1;
-  failed = λ contexts m line ctx output bytes entries word handle after w. (its_own contexts m line (step.Call ctx (guest.Write output bytes)) entries (reply.Failed word handle) after w (λ e. cc)).1.1;
-  plain = λ contexts m line ctx output bytes entries reply after free w. (while_free contexts m line (step.Call ctx (guest.Write output bytes)) free entries reply after w).0.2;
-  taken = λ contexts m line ctx output bytes fields entries after w. (its_own contexts m line (step.Call ctx (guest.Write output bytes)) entries (reply.Ok fields) after w (λ e. cc)).1.1;
+  closed = λ contexts m line ctx output bytes entries after w. (its_own contexts m line (step.Call ctx (guest.Stream (stream_call.Write output bytes))) entries (reply.Closed) after w (λ e. cc)).1.1;
+  failed = λ contexts m line ctx output bytes entries word handle after w. (its_own contexts m line (step.Call ctx (guest.Stream (stream_call.Write output bytes))) entries (reply.Failed word handle) after w (λ e. cc)).1.1;
+  plain = λ contexts m line ctx output bytes entries reply after free w. (while_free contexts m line (step.Call ctx (guest.Stream (stream_call.Write output bytes))) free entries reply after w).0.2;
+  taken = λ contexts m line ctx output bytes fields entries after w. (its_own contexts m line (step.Call ctx (guest.Stream (stream_call.Write output bytes))) entries (reply.Ok fields) after w (λ e. cc)).1.1;
 }

@@ -1,4 +1,5 @@
 use Rattle.wasi_steps.specs.declared.guest_call.GuestCall.TheVariants as guest
+use Rattle.wasi_steps.specs.declared.guest_call.UdpCall.TheVariants as udp_call
 use Rattle.wasi_steps.specs.declared.step.Step.TheVariants as step
 use Rattle.wasi_steps.specs.declared.reply.Reply.TheVariants as reply
 use Rattle.wasi_causes.proofs.tables.Steps.{its_own}
@@ -6,6 +7,6 @@ use Rattle.wasi_causes.proofs.udp.udp_family_is_told.Goals as goal
 
 pub returns : goal.returns
 returns c = record {
-  told = λ contexts m line ctx handle fields entries after w. (its_own contexts m line (step.Call ctx (guest.UdpAddressFamily handle)) entries (reply.Ok fields) after w (λ e. cc)).1.1;
-  never = λ contexts m line ctx handle entries word after w. (its_own contexts m line (step.Call ctx (guest.UdpAddressFamily handle)) entries (reply.Err word) after w (λ e. cc)).1.0;
+  told = λ contexts m line ctx handle fields entries after w. (its_own contexts m line (step.Call ctx (guest.Udp (udp_call.AddressFamily handle))) entries (reply.Ok fields) after w (λ e. cc)).1.1;
+  never = λ contexts m line ctx handle entries word after w. (its_own contexts m line (step.Call ctx (guest.Udp (udp_call.AddressFamily handle))) entries (reply.Err word) after w (λ e. cc)).1.0;
 }

@@ -1,4 +1,5 @@
 use Rattle.wasi_steps.specs.declared.guest_call.GuestCall.TheVariants as guest
+use Rattle.wasi_steps.specs.declared.guest_call.UdpCall.TheVariants as udp_call
 use Rattle.wasi_steps.specs.declared.step.Step.TheVariants as step
 use Rattle.wasi_steps.specs.declared.reply.Reply.TheVariants as reply
 use Rattle.wasi_causes.proofs.tables.Steps.{its_own}
@@ -6,7 +7,7 @@ use Rattle.wasi_causes.proofs.udp.udp_local_address_refusals.Goals as goal
 
 pub returns : goal.returns
 returns c = record {
-  cause = λ contexts m line ctx handle entries word after w. (its_own contexts m line (step.Call ctx (guest.UdpLocalAddress handle)) entries (reply.Err word) after w (λ e. cc)).1.1.0;
-  stays = λ contexts m line ctx handle entries word after w. (its_own contexts m line (step.Call ctx (guest.UdpLocalAddress handle)) entries (reply.Err word) after w (λ e. cc)).1.1.1;
-  told = λ contexts m line ctx handle fields entries after w. (its_own contexts m line (step.Call ctx (guest.UdpLocalAddress handle)) entries (reply.Ok fields) after w (λ e. cc)).1.1;
+  cause = λ contexts m line ctx handle entries word after w. (its_own contexts m line (step.Call ctx (guest.Udp (udp_call.LocalAddress handle))) entries (reply.Err word) after w (λ e. cc)).1.1.0;
+  stays = λ contexts m line ctx handle entries word after w. (its_own contexts m line (step.Call ctx (guest.Udp (udp_call.LocalAddress handle))) entries (reply.Err word) after w (λ e. cc)).1.1.1;
+  told = λ contexts m line ctx handle fields entries after w. (its_own contexts m line (step.Call ctx (guest.Udp (udp_call.LocalAddress handle))) entries (reply.Ok fields) after w (λ e. cc)).1.1;
 }

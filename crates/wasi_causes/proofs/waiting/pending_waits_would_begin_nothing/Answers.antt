@@ -1,6 +1,6 @@
 use Rattle.wasi_causes.proofs.Words.{inl, nothing_stands, refl, StandingCall}
 use Rattle.host_store.specs.declared.store.BlockingCall.TheVariants as blocking
-use Rattle.wasi_records.specs.Names.{first_ids}
+use Rattle.record_common.specs.Names.{first_ids}
 use Rattle.wasi_steps.specs.declared.step.Step.TheVariants as step
 use Rattle.wasi_causes.proofs.pollables.Quiet.{accepts_fit, block_first, list_first, waits_begin_none}
 use Rattle.wasi_causes.proofs.tables.Steps.{own_free, unheld}

@@ -1,7 +1,7 @@
 use Rattle.std.proofs.Common.{Bool, ap, refl, sym}
 use Rattle.wasi_world.specs.Asks.{Give}
 use Rattle.wasi_world.proofs.Walks.{asks_end, asks_exit, asks_gives}
-use Rattle.wasi_records.proofs.ReceiveLists.{on_err}
+use Rattle.udp_records.proofs.ReceiveLists.{on_err}
 use Rattle.host_store.specs.Machine.{with_store}
 use Rattle.host_store.specs.Store.{Records}
 use Rattle.host_store.specs.Views.{state_of}

@@ -1,6 +1,6 @@
 use Rattle.std.proofs.Common.{refl}
 use Rattle.wasi_world.proofs.Walks.{asks_end}
-use Rattle.wasi_records.proofs.Hosts.{fault_exit}
+use Rattle.record_common.proofs.Hosts.{fault_exit}
 use Rattle.wasi_host.proofs.dropping.release_kind.Goals as goal
 
 pub returns-in_err-tcp_release-in-Tcp2-clause-asked : goal.returns-in_err-tcp_release-in-Tcp2-clause-asked

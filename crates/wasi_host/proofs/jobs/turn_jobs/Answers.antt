@@ -5,7 +5,7 @@ use Rattle.wasi_jobs.specs.JobList.{Work, below, from_on}
 use Rattle.wasi_jobs.proofs.Jobs.{all_from, none_below}
 use Rattle.host_store.specs.Jobs.{is_going, jobs_with}
 use Rattle.host_store.proofs.JobLists.{asks_over, fewer_ahead, kept_going, kept_over, turn_next, turn_stops}
-use Rattle.wasi_records.proofs.SideCounts.{none_then}
+use Rattle.record_common.proofs.SideCounts.{none_then}
 use Rattle.wasi_host.proofs.jobs.turn_jobs.Goals.{then-not-goes_on, else-not-goes_on}
 use Rattle.wasi_host.proofs.jobs.turn_jobs.Goals as goal
 

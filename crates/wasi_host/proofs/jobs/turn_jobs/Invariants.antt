@@ -2,7 +2,8 @@ use Rattle.std.proofs.Common.{◌≡◌, [], false, length}
 use Rattle.wasi_world.specs.Asks.{Reaches}
 use Rattle.wasi_jobs.specs.JobList.{below, from_on}
 use Rattle.host_store.specs.Jobs.{turn_jobs}
-use Rattle.wasi_records.specs.Sides.{MakesNone, held_in}
+use Rattle.record_common.specs.Sides.{MakesNone}
+use Rattle.wasi_records.specs.Sides.{held_in}
 use Rattle.wasi_host.proofs.jobs.turn_jobs.Given as goal
 
 -- the jobs below the number are polled, and those that are left of them are kept

@@ -1,8 +1,8 @@
 use Rattle.std.proofs.Common.{refl, ap, sym, ◌∙◌}
 use Rattle.wasi_world.proofs.Walks.{asks_given, asks_exit, asks_end}
-use Rattle.wasi_records.specs.NameLookup.{looks_on}
+use Rattle.lookup_records.specs.NameLookup.{looks_on}
 use Rattle.wasi_records.proofs.NameLookups.{lookup_found, lookup_there, held_in-lookup}
-use Rattle.wasi_records.proofs.SideCounts.{none_first}
+use Rattle.record_common.proofs.SideCounts.{none_first}
 use Rattle.wasi_host.proofs.jobs.turn_lookup.Goals as goal
 
 pub returns-in_default-clause-asked : goal.returns-in_default-clause-asked

@@ -1,7 +1,7 @@
 use Rattle.std.proofs.Common.{refl, ap, sym, ◌∙◌}
 use Rattle.wasi_world.proofs.Walks.{asks_given, asks_exit, asks_end}
 use Rattle.host_store.specs.Jobs.{receives_on}
-use Rattle.wasi_records.proofs.SideCounts.{none_first}
+use Rattle.record_common.proofs.SideCounts.{none_first}
 use Rattle.wasi_records.proofs.UdpLookups.{open_found, open_put_there, not_open, held_in-open}
 use Rattle.wasi_host.proofs.jobs.turn_receive.Goals as goal
 

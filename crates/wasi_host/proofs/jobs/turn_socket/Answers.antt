@@ -1,9 +1,10 @@
 use Rattle.std.proofs.Common.{refl, ap, sym, ◌∙◌}
 use Rattle.wasi_world.proofs.Walks.{asks_given, asks_exit, asks_end}
 use Rattle.wasi_tcp.specs.Socket.{side_of}
-use Rattle.wasi_records.specs.Halves.{has_job}
+use Rattle.tcp_records.specs.Halves.{has_job}
 use Rattle.wasi_records.proofs.Lookups.{found_at, none_at, set_there}
-use Rattle.wasi_records.proofs.SideCounts.{held_in-set, none_first}
+use Rattle.wasi_records.proofs.SideCounts.{held_in-set}
+use Rattle.record_common.proofs.SideCounts.{none_first}
 use Rattle.wasi_host.proofs.jobs.turn_socket.Goals as goal
 
 pub returns-in_default-clause-asked : goal.returns-in_default-clause-asked

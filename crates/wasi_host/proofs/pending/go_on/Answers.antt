@@ -1,6 +1,6 @@
 use Rattle.std.proofs.Common.{refl}
 use Rattle.wasi_world.proofs.Walks.{asks_end}
-use Rattle.wasi_records.proofs.Hosts.{host_exit, host_passed}
+use Rattle.record_common.proofs.Hosts.{host_exit, host_passed}
 use Rattle.host_store.specs.declared.kind.Interface.TheVariants.{P3}
 use Rattle.host_store.specs.BaseStops.{ends_as}
 use Rattle.wasi_host.specs.Pending.{handle_outcome, outcome_of}

@@ -2,9 +2,9 @@ use Rattle.std.proofs.Common.{◌≡◌, ◌∙◌, ℕ, false, List, Option, No
 use Rattle.std.specs.Prelude.{OnErr}
 use Rattle.wasi_streams.specs.declared.fault.HostError.TheVariants.{Code, Trap, Memory}
 use Rattle.wasi_world.proofs.Walks.{asks_end}
-use Rattle.wasi_records.specs.Stops.{SocketError, host_outcome}
-use Rattle.wasi_records.proofs.Hosts.{host_exit, host_passed}
-use Rattle.wasi_records.proofs.ReceiveLists.{on_err}
+use Rattle.record_common.specs.Stops.{SocketError, host_outcome}
+use Rattle.record_common.proofs.Hosts.{host_exit, host_passed}
+use Rattle.udp_records.proofs.ReceiveLists.{on_err}
 use Rattle.host_streams.proofs.Pipes.{on_err as on_err_by}
 use Rattle.host_store.specs.declared.beside.Beside.{Beside}
 use Rattle.host_store.specs.Beside.{beside_in}

@@ -1,7 +1,7 @@
 use Rattle.std.proofs.Common.{refl}
 use Rattle.wasi_world.specs.declared.outcome.Answer.{Answer}
 use Rattle.wasi_world.proofs.Walks.{asks_end}
-use Rattle.wasi_records.proofs.Hosts.{host_none, host_passed}
+use Rattle.record_common.proofs.Hosts.{host_none, host_passed}
 use Rattle.host_store.specs.declared.kind.Interface.TheVariants.{P3}
 use Rattle.wasi_host.specs.declared.pending.Outcome.{Outcome}
 use Rattle.host_store.specs.BaseStops.{ends_as}

@@ -4,7 +4,7 @@ use Rattle.wasi_host.specs.Pending.{nothing_given}
 use Rattle.host_store.specs.Views.{state_of}
 use Rattle.wasi_world.proofs.Walks.{asks_end}
 use Rattle.wasi_host.proofs.Outcomes.{call_outcome_of}
-use Rattle.wasi_records.proofs.Hosts.{host_fault}
+use Rattle.record_common.proofs.Hosts.{host_fault}
 use Rattle.wasi_host.proofs.pending.unblock.Goals as goal
 
 pub returns-in-Read-clause-asked : goal.returns-in-Read-clause-asked

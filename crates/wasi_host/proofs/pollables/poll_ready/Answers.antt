@@ -1,7 +1,7 @@
 use Rattle.std.proofs.Common.{ap}
 use Rattle.wasi_tcp.specs.Socket.{side_of}
-use Rattle.wasi_records.proofs.SideCounts.{balances_calm, holds-same}
-use Rattle.wasi_records.proofs.Looks.{calm_ready_reader, calm_ready_writer}
+use Rattle.tcp_records.proofs.SideCounts.{balances_calm, holds-same}
+use Rattle.tcp_records.proofs.Looks.{calm_ready_reader, calm_ready_writer}
 use Rattle.wasi_host.proofs.pollables.poll_ready.Goals as goal
 
 pub returns-in-Input-clause-sides : goal.returns-in-Input-clause-sides

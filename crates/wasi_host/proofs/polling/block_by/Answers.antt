@@ -1,6 +1,6 @@
 use Rattle.std.proofs.Common.{refl}
 use Rattle.wasi_world.proofs.Walks.{asks_end}
-use Rattle.wasi_records.proofs.Hosts.{fault_passed}
+use Rattle.record_common.proofs.Hosts.{fault_passed}
 use Rattle.wasi_host.proofs.polling.block_by.Goals as goal
 
 pub returns-in_err-ready-clause-asked : goal.returns-in_err-ready-clause-asked

@@ -1,5 +1,5 @@
 use Rattle.std.proofs.Common.{sym, ◌∙◌, arith}
-use Rattle.wasi_records.proofs.Hosts.{fault_wants}
+use Rattle.record_common.proofs.Hosts.{fault_wants}
 use Rattle.wasi_host.proofs.PollLists.{look_skips, look_goes, look_stops, none_of, some_of, view_then}
 use Rattle.wasi_host.proofs.polling.look_each.Goals.{then-is_none+in_ok-ready+in_ok-push, else-is_none}
 use Rattle.wasi_host.proofs.polling.look_each.Goals as goal

@@ -3,7 +3,7 @@ use Rattle.wasi_world.specs.Asks.{Give}
 use Rattle.wasi_world.proofs.Walks.{asks_end, reaches_all, asks_err}
 use Rattle.wasi_host.specs.Polling.{poll_by, polled_each}
 use Rattle.host_store.specs.Views.{state_of}
-use Rattle.wasi_records.proofs.Hosts.{fault_on, fault_passed}
+use Rattle.record_common.proofs.Hosts.{fault_on, fault_passed}
 use Rattle.host_streams.proofs.Blocks.{never}
 use Rattle.wasi_host.proofs.PollLists.{none_ready, some_ready}
 use Rattle.wasi_host.proofs.polling.poll_by.Goals as goal

@@ -1,5 +1,5 @@
 use Rattle.std.proofs.Common.{refl}
-use Rattle.wasi_records.proofs.Hosts.{host_none}
+use Rattle.record_common.proofs.Hosts.{host_none}
 use Rattle.wasi_p2.proofs.ip_name_lookup.resolve_addresses.Goals as goal
 
 pub returns-in_err-host-clause-asked : goal.returns-in_err-host-clause-asked

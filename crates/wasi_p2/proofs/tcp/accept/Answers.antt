@@ -1,6 +1,6 @@
 use Rattle.std.proofs.Common.{refl}
 use Rattle.wasi_world.proofs.Walks.{asks_then}
-use Rattle.wasi_records.proofs.Hosts.{host_passed}
+use Rattle.record_common.proofs.Hosts.{host_passed}
 use Rattle.wasi_p2.proofs.tcp.accept.Goals as goal
 
 pub returns-in_err-accepted-clause-asked : goal.returns-in_err-accepted-clause-asked

@@ -4,8 +4,8 @@ use Rattle.wasi_world.specs.declared.ids.Ids.{Ids}
 use Rattle.wasi_world.specs.Seen.{Seen}
 use Rattle.wasi_world.proofs.Walks.{asks_gives}
 use Rattle.wasi_records.specs.Records.{open_at}
-use Rattle.wasi_records.specs.Stops.{SocketError, host_outcome}
-use Rattle.wasi_records.proofs.ReceiveLists.{err_then, on_err}
+use Rattle.record_common.specs.Stops.{SocketError, host_outcome}
+use Rattle.udp_records.proofs.ReceiveLists.{err_then, on_err}
 use Rattle.host_udp.specs.DatagramCalls.{StoreLoses}
 use Rattle.host_store.specs.Machine.{with_store}
 use Rattle.host_store.specs.Views.{state_of}

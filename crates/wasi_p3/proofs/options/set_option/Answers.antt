@@ -3,10 +3,11 @@ use Rattle.socket_common.specs.Options.{option_of, number_of}
 use Rattle.wasi_world.specs.Asks.{outcome}
 use Rattle.wasi_world.proofs.Walks.{asks_gives}
 use Rattle.wasi_tcp.specs.Options.{set_option_asks}
-use Rattle.wasi_records.specs.Names.{own_of}
-use Rattle.wasi_records.specs.Sockets.{inner_answered, with_inner}
-use Rattle.wasi_records.proofs.OptionSides.{calm_set}
-use Rattle.wasi_records.proofs.SideCounts.{Any, held_in-set}
+use Rattle.record_common.specs.Names.{own_of}
+use Rattle.tcp_records.specs.Sockets.{inner_answered, with_inner}
+use Rattle.tcp_records.proofs.OptionSides.{calm_set}
+use Rattle.record_common.proofs.SideCounts.{Any}
+use Rattle.wasi_records.proofs.SideCounts.{held_in-set}
 use Rattle.host_store.specs.Views.{state_of}
 use Rattle.host_store.proofs.KnownSides.{knows_asked}
 use Rattle.wasi_p3.specs.Lines.{inner_call}

@@ -1,9 +1,11 @@
 use Rattle.std.proofs.Common.{refl, sym}
 use Rattle.wasi_world.specs.Asks.{outcome}
 use Rattle.wasi_world.proofs.Walks.{asks_at}
-use Rattle.wasi_records.specs.Names.{own_of}
-use Rattle.wasi_records.specs.Sockets.{tell_local_asks}
-use Rattle.wasi_records.proofs.SideCounts.{Any, held_in-set, calm_tell_local}
+use Rattle.record_common.specs.Names.{own_of}
+use Rattle.tcp_records.specs.Sockets.{tell_local_asks}
+use Rattle.record_common.proofs.SideCounts.{Any}
+use Rattle.wasi_records.proofs.SideCounts.{held_in-set}
+use Rattle.tcp_records.proofs.SideCounts.{calm_tell_local}
 use Rattle.host_store.specs.Views.{state_of}
 use Rattle.host_store.proofs.KnownSides.{knows_asked}
 use Rattle.wasi_p3.proofs.Called.{tcp_called, tcp_none}

@@ -1,10 +1,10 @@
 use Rattle.std.proofs.Common.{refl, sym}
 use Rattle.wasi_world.specs.Asks.{outcome}
 use Rattle.wasi_world.proofs.Walks.{asks_at}
-use Rattle.wasi_records.specs.Names.{own_of}
-use Rattle.wasi_records.specs.Udp.{udp_local_asks}
-use Rattle.wasi_records.proofs.SideCounts.{Any}
-use Rattle.wasi_records.proofs.UdpCalms.{calm_udp_local}
+use Rattle.record_common.specs.Names.{own_of}
+use Rattle.udp_records.specs.Udp.{udp_local_asks}
+use Rattle.record_common.proofs.SideCounts.{Any}
+use Rattle.udp_records.proofs.UdpCalms.{calm_udp_local}
 use Rattle.wasi_records.proofs.UdpLookups.{held_in-open}
 use Rattle.host_store.specs.Views.{state_of}
 use Rattle.host_store.proofs.KnownSides.{knows_asked}

@@ -3,9 +3,9 @@ use Rattle.socket_common.specs.Options.{option_of, number_of}
 use Rattle.wasi_world.specs.Asks.{outcome}
 use Rattle.wasi_world.proofs.Walks.{asks_at, asks_gives}
 use Rattle.wasi_udp.specs.Options.{set_option_asks}
-use Rattle.wasi_records.specs.Names.{own_of}
-use Rattle.wasi_records.proofs.SideCounts.{Any}
-use Rattle.wasi_records.proofs.UdpCalms.{calm_udp_set}
+use Rattle.record_common.specs.Names.{own_of}
+use Rattle.record_common.proofs.SideCounts.{Any}
+use Rattle.udp_records.proofs.UdpCalms.{calm_udp_set}
 use Rattle.wasi_records.proofs.UdpLookups.{held_in-open}
 use Rattle.host_store.specs.Views.{state_of}
 use Rattle.host_store.proofs.KnownSides.{knows_asked}

@@ -1,0 +1,4 @@
+pub mod Hosts
+pub mod SideCounts
+pub mod OptionSides
+pub mod ConnectCounts

@@ -1,0 +1,4 @@
+pub mod Stops
+pub mod Names
+pub mod Binding
+pub mod Sides

@@ -1,0 +1,12 @@
+pub mod SideCounts
+pub mod Binds
+pub mod OptionSides
+pub mod ConnectCounts
+pub mod AcceptCounts
+pub mod ListenCounts
+pub mod AcceptSides
+pub mod ListenStarts
+pub mod StreamCounts
+pub mod Looks
+pub mod Releases
+pub mod EndCalms

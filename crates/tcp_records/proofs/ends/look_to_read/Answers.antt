@@ -1,0 +1,9 @@
+use Rattle.std.proofs.Common.{refl}
+use Rattle.wasi_world.proofs.Walks.{asks_end, asks_exit}
+use Rattle.tcp_records.proofs.ends.look_to_read.Goals as goal
+
+pub returns-in_err-answer-in-Open-clause-asked : goal.returns-in_err-answer-in-Open-clause-asked
+returns-in_err-answer-in-Open-clause-asked g c = rw c.in-Open.is (asks_exit _ _ c.from_residual.ensures.1 c.in_err-answer-in-Open.ensures.asked.err)
+
+pub returns-in_ok-answer-in-Open-clause-asked : goal.returns-in_ok-answer-in-Open-clause-asked
+returns-in_ok-answer-in-Open-clause-asked g c = rw c.in-Open.is (asks_end _ c.in_ok-answer-in-Open.ensures.asked.ok refl)

@@ -1,0 +1,13 @@
+pub mod InProgress
+pub mod Sockets
+pub mod Halves
+pub mod Binding
+pub mod Listening
+pub mod Shutdowns
+pub mod Slots
+pub mod Ends
+pub mod Looks
+pub mod Releasing
+pub mod Holding
+pub mod Sides
+pub mod Used

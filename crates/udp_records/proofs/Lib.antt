@@ -1,0 +1,11 @@
+pub mod UdpCalms
+pub mod DatagramCalms
+pub mod UdpConnects
+pub mod DatagramSends
+pub mod DatagramLists
+pub mod DatagramPermits
+pub mod UdpBinds
+pub mod UdpPolls
+pub mod ReceiveCalms
+pub mod ReceiveLists
+pub mod Receives

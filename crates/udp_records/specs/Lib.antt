@@ -1,0 +1,4 @@
+pub mod Rows
+pub mod Udp
+pub mod Datagrams
+pub mod Receiving

@@ -1,7 +1,0 @@
-use Rattle.wasi_world.proofs.Walks.{asks_at}
-use Rattle.wasi_records.specs.Looks.{ready_writer}
-use Rattle.wasi_records.proofs.Looks.{look_over}
-use Rattle.wasi_records.proofs.socket.TcpRecord.output_ready.Goals as goal
-
-pub returns-in-Some-clause-asked : goal.returns-in-Some-clause-asked
-returns-in-Some-clause-asked g c = asks_at (ready_writer c.args.op c.args.self.now) c.in-Some.is (rw c.is_ready.ensures (look_over c.args.op c.args.self.now c.in-Some.streams c.poll_ready.result c.poll_ready.ensures.asked))
