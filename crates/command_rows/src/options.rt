@@ -4,10 +4,11 @@
 ghost use Rattle.std.specs.Prelude.{◌≡◌, false};
 ghost use Rattle.world_scripted.specs.Scripted.{seen_by};
 
-use crate::case::{Case, Stream};
 use crate::guest::{Guest, line};
 use host_store::{NamedId, WasiCtxNamedView, WasiSocketsCtxView, WasiSocketsView};
-use std::alloc::Global;
+use row_cases::{Case, Stream};
+use std::alloc::{AllocError, Global};
+use std::fmt::Write;
 use wasi_addr::SocketAddressFamily;
 use wasi_p2::{SocketError, convert_error_code, tcp, udp};
 use wasi_replay::fields;
@@ -82,33 +83,46 @@ impl Calls {
     }
 }
 
+/// Adds the value of the option that a line names, if it names one.
+fn push_option(
+    text: &mut String,
+    calls: &mut Calls,
+    step: u32,
+    line: &str,
+) -> Result<(), AllocError> {
+    let mut fields = Fields::of(line.as_bytes());
+    if let (Some(kind), Some(option)) = (fields.word(), fields::option(&mut fields)) {
+        let value = calls.get(step, kind, option);
+        write!(text, "{line} {value:?}\n")?;
+    }
+    Ok(())
+}
+
 /// `options`: the value of each option that a line of the input names behind `tcp` or `udp`, and the
 /// length of the log.
-pub fn options(alloc: Global, case: &Case) -> anyhow::Result<String> {
-    let (world, _) = ScriptedWorld::parse(alloc, case.text(Stream::Scenario))?;
+pub fn options(text: &mut String, alloc: Global, case: &Case) -> Result<(), AllocError> {
+    let Ok((world, _)) = ScriptedWorld::parse(alloc, case.text(Stream::Scenario)) else {
+        return text.push_str("no scenario\n");
+    };
     let guest = Guest::new(alloc);
     let mut calls = Calls { guest, world };
-    calls.make_tcp()?;
-    calls.make_udp(2)?;
-    let mut text = String::new(alloc);
+    if calls.make_tcp().is_err() || calls.make_udp(2).is_err() {
+        return text.push_str("no sockets\n");
+    }
     let mut step = 2u32;
     for line in case.input().lines() {
         step = step.saturating_add(1);
-        let mut fields = Fields::of(line.as_bytes());
-        if let (Some(kind), Some(option)) = (fields.word(), fields::option(&mut fields)) {
-            let value = calls.get(step, kind, option);
-            text.push_str(format!(in alloc; "{line} {value:?}\n")?.as_str())?;
-        }
+        push_option(text, &mut calls, step, line)?;
     }
-    let entries = calls.world.entries().len();
-    text.push_str(format!(in alloc; "log {entries}\n")?.as_str())?;
-    Ok(text)
+    write!(text, "log {}\n", calls.world.entries().len())
 }
 
 /// `views NUMBER`: what a call in the view of the context with this number, 7 or 9, returns: its
 /// handle, or the code that a guest is told.
-pub fn views(alloc: Global, case: &Case) -> anyhow::Result<String> {
-    let (mut world, _) = ScriptedWorld::parse(alloc, case.text(Stream::Scenario))?;
+pub fn views(text: &mut String, alloc: Global, case: &Case) -> Result<(), AllocError> {
+    let Ok((mut world, _)) = ScriptedWorld::parse(alloc, case.text(Stream::Scenario)) else {
+        return text.push_str("no scenario\n");
+    };
     let mut guest = Guest::new(alloc);
     let made = if case.word(1) == "9" {
         make_tcp(&mut WasiCtxNamedView(&mut guest).at(NamedId(9)), &mut world)
@@ -116,7 +130,7 @@ pub fn views(alloc: Global, case: &Case) -> anyhow::Result<String> {
         make_tcp(&mut WasiCtxNamedView(&mut guest).at(NamedId(7)), &mut world)
     };
     match made {
-        Ok(handle) => Ok(format!(in alloc; "{handle}\n")?),
-        Err(error) => Ok(format!(in alloc; "{:?}\n", convert_error_code(error))?),
+        Ok(handle) => write!(text, "{handle}\n"),
+        Err(error) => write!(text, "{:?}\n", convert_error_code(error)),
     }
 }

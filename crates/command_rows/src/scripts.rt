@@ -4,9 +4,10 @@
 //! streams counted are the faults of the source and of the sink, the pieces that the sink refused,
 //! and how many bytes were left.
 
-use crate::case::{Case, Stream};
 use crate::tries;
+use row_cases::{Case, Stream};
 use std::alloc::{AllocError, Global};
+use std::fmt::Write;
 use std::sync::Wait;
 use std::thread::Threads;
 use wasi_commands::{Done, run_main};
@@ -14,8 +15,8 @@ use wasi_spawn::FakeSpawner;
 use world_io::{MemorySink, MemorySource};
 
 /// Adds what was written, with `\c` behind it where no newline ends it.
-pub fn push_written(text: &mut String, bytes: &[u8]) -> anyhow::Result<()> {
-    let written = str::from_utf8(bytes)?;
+pub fn push_written(text: &mut String, bytes: &[u8]) -> Result<(), AllocError> {
+    let written = str::from_utf8(bytes).unwrap_or("no text");
     text.push_str(written)?;
     if !written.is_empty() && !written.ends_with('\n') {
         text.push_str("\\c\n")?;
@@ -23,11 +24,11 @@ pub fn push_written(text: &mut String, bytes: &[u8]) -> anyhow::Result<()> {
     Ok(())
 }
 
-/// A status, and the line where there is one.
-pub fn end_text(alloc: Global, status: u8, line: u32) -> Result<String, AllocError> {
+/// Adds a status, and the line where there is one.
+pub fn push_end(text: &mut String, status: u8, line: u32) -> Result<(), AllocError> {
     match line {
-        0 => format!(in alloc; "status {status}"),
-        _ => format!(in alloc; "status {status} line {line}"),
+        0 => write!(text, "status {status}"),
+        _ => write!(text, "status {status} line {line}"),
     }
 }
 
@@ -53,51 +54,54 @@ pub fn run_case<R: Threads + Wait + Copy + Send + 'static>(
     rt: &R,
     alloc: Global,
     case: &Case,
-) -> anyhow::Result<Done<MemorySource, MemorySink>> {
+) -> Result<Done<MemorySource, MemorySink>, AllocError> {
+    let mut scenario = case.source(alloc, Stream::Scenario)?;
+    let mut writers = FakeSpawner::new(case.fails(alloc, Stream::Writer)?);
+    let mut readers = FakeSpawner::new(case.fails(alloc, Stream::Reader)?);
+    let source = case.source(alloc, Stream::Input)?;
+    let sink = case.sink(alloc, Stream::Output)?;
     Ok(run_main(
         *rt,
         alloc,
-        case.words.as_slice(),
-        &mut case.source(alloc, Stream::Scenario)?,
-        case.source(alloc, Stream::Input)?,
-        case.sink(alloc, Stream::Output)?,
-        &mut FakeSpawner::new(case.fails(alloc, Stream::Writer)?),
-        &mut FakeSpawner::new(case.fails(alloc, Stream::Reader)?),
+        case.words_from(0),
+        &mut scenario,
+        source,
+        sink,
+        &mut writers,
+        &mut readers,
     ))
 }
 
-/// What came of a case.
-fn done_text(
-    alloc: Global,
+/// Adds what came of a case.
+fn push_done(
+    text: &mut String,
     case: &Case,
     done: &Done<MemorySource, MemorySink>,
-) -> anyhow::Result<String> {
-    let mut text = String::new(alloc);
-    push_written(&mut text, last_lines(done.sink.bytes(), case.last))?;
-    let end = end_text(alloc, done.status, done.line)?;
-    let log = done.log.len();
-    if !case.counts {
-        text.push_str(format!(in alloc; "{end} log {log}\n")?.as_str())?;
-        return Ok(text);
+) -> Result<(), AllocError> {
+    push_written(text, last_lines(done.sink.bytes(), case.last))?;
+    push_end(text, done.status, done.line)?;
+    write!(text, " log {}", done.log.len())?;
+    if case.counts {
+        let (faults, wrong) = (done.source.faults(), done.sink.faults());
+        let (refused, left) = (done.sink.refused(), done.source.left().len());
+        write!(
+            text,
+            " faults {faults} {wrong} refused {refused} left {left}"
+        )?;
     }
-    let (faults, wrong) = (done.source.faults(), done.sink.faults());
-    let (refused, left) = (done.sink.refused(), done.source.left().len());
-    let counts = format!(in alloc;
-        "{end} log {log} faults {faults} {wrong} refused {refused} left {left}\n"
-    )?;
-    text.push_str(counts.as_str())?;
-    Ok(text)
+    text.push_str("\n")
 }
 
-/// What came of a case.
+/// Adds what came of a case.
 pub fn run<R: Threads + Wait + Copy + Send + 'static>(
     rt: &R,
+    text: &mut String,
     alloc: Global,
     case: &mut Case,
-) -> anyhow::Result<String> {
+) -> Result<(), AllocError> {
     if let Some(tries) = case.tries {
-        return tries::report(rt, alloc, case, tries);
+        return tries::report(rt, text, alloc, case, tries);
     }
     let done = run_case(rt, alloc, case)?;
-    done_text(alloc, case, &done)
+    push_done(text, case, &done)
 }

@@ -9,8 +9,8 @@
 //! bytes a read gives and a write takes at most; where it has several numbers, the case is run for
 //! each, and what came of it is printed once where it is the same. `takes N` says it for writes
 //! alone. `room N` is how many bytes there is room for. `print last N` has only so many lines of what
-//! was written printed, and `print counts` also what the streams counted. `try WHAT N M` is in
-//! [`crate::tries`].
+//! was written printed, and `print counts` also what the streams counted. `try WHAT N M` has the
+//! case run as it is, and then with a fault at each number from N to M.
 
 use std::alloc::{AllocError, Global};
 use world_io::{MemorySink, MemorySource};
@@ -219,6 +219,11 @@ impl Case {
             Some(word) => word.as_str(),
             None => "",
         }
+    }
+
+    /// The words from this one on, counted from 0.
+    pub fn words_from(&self, index: usize) -> &[String] {
+        &self.words.as_slice()[index.min(self.words.len())..]
     }
 
     /// The text that a stream reads.

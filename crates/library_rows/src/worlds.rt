@@ -4,8 +4,9 @@ ghost use Rattle.std.specs.Prelude.{◌≡◌, false};
 ghost use Rattle.wasi_world.specs.Fits.{IsPlain};
 ghost use Rattle.world_scripted.specs.Scripted.{seen_by};
 
-use crate::case::{Case, Stream};
+use row_cases::{Case, Stream};
 use std::alloc::{AllocError, Global};
+use std::fmt::Write;
 use wasi_addr::{IpSocketAddress, Ipv4SocketAddress, SocketAddrUse};
 use wasi_world::{Call, NameText, OpId, Told, World};
 use world_scripted::{ScenarioError, ScriptedWorld};
@@ -16,11 +17,11 @@ use world_text::fields::Fields;
 const SIDE: OpId = OpId { step: 1, part: 0 };
 
 /// `scenario`: the first bad line of the input as a scenario.
-pub fn scenario(alloc: Global, case: &Case) -> anyhow::Result<String> {
+pub fn scenario(text: &mut String, alloc: Global, case: &Case) -> Result<(), AllocError> {
     match ScriptedWorld::parse(alloc, case.text(Stream::Input)) {
-        Ok(_) => Ok("a scenario\n".to_string(alloc)?),
-        Err(ScenarioError::BadScenario(line)) => Ok(format!(in alloc; "bad line {line}\n")?),
-        Err(ScenarioError::Memory(e)) => Err(e.into()),
+        Ok(_) => text.push_str("a scenario\n"),
+        Err(ScenarioError::BadScenario(line)) => write!(text, "bad line {line}\n"),
+        Err(ScenarioError::Memory(e)) => Err(e),
     }
 }
 
@@ -39,7 +40,7 @@ impl Open {
     }
 
     /// Makes a check, or arms the world, or for any other word makes a lookup.
-    fn step(&mut self, alloc: Global, line: &str) -> Result<String, AllocError> {
+    fn step(&mut self, text: &mut String, alloc: Global, line: &str) -> Result<(), AllocError> {
         let mut fields = Fields::of(line.as_bytes());
         let told = match fields.word() {
             Some("check") => {
@@ -56,25 +57,26 @@ impl Open {
                 if let (Some(nth), Some(code)) = (fields.u32(), fields.code()) {
                     self.world.arm(nth, code);
                 }
-                return "armed\n".to_string(alloc);
+                return text.push_str("armed\n");
             }
             _ => {
                 let host = NameText::from_vec(Vec::new(alloc));
                 self.call(Call::Lookup { host })?
             }
         };
-        format!(in alloc; "{}\n", ToldText(&told))
+        write!(text, "{}\n", ToldText(&told))
     }
 }
 
 /// `world`: what a world by the scenario answers to each line of the input, `check`, `lookup` or
 /// `arm N CODE`; the codes and the entries; and how many network sockets were closed after its end.
-pub fn world(alloc: Global, case: &Case) -> anyhow::Result<String> {
-    let (world, _) = ScriptedWorld::parse(alloc, case.text(Stream::Scenario))?;
+pub fn world(text: &mut String, alloc: Global, case: &Case) -> Result<(), AllocError> {
+    let Ok((world, _)) = ScriptedWorld::parse(alloc, case.text(Stream::Scenario)) else {
+        return text.push_str("no scenario\n");
+    };
     let mut open = Open { world };
-    let mut text = String::new(alloc);
     for line in case.input().lines() {
-        text.push_str(open.step(alloc, line)?.as_str())?;
+        open.step(text, alloc, line)?;
     }
     let Open { mut world } = open;
     let (faults, was_ended) = (world.faults(), world.ended());
@@ -83,9 +85,6 @@ pub fn world(alloc: Global, case: &Case) -> anyhow::Result<String> {
     world.close_after_end(SIDE);
     let (ended, closed) = (world.ended(), world.closed_after_end());
     let (len, all) = (world.entries().len(), world.into_entries().len());
-    let end = format!(in alloc;
-        "codes {faults} entries {len} {all} ended {was_ended} {ended} closed {closed}\n"
-    )?;
-    text.push_str(end.as_str())?;
-    Ok(text)
+    write!(text, "codes {faults} entries {len} {all} ")?;
+    write!(text, "ended {was_ended} {ended} closed {closed}\n")
 }

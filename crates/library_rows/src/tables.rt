@@ -1,24 +1,25 @@
 //! Cases of the table of handles, by its own calls.
 
-use crate::case::Case;
-use std::alloc::Global;
+use row_cases::Case;
+use std::alloc::{AllocError, Global};
+use std::fmt::Write;
 use wasi_table::{Table, TableError};
 use world_text::fields::Fields;
 
-/// The children of a handle: their number, whether there are none, each, and whether it is said to
-/// be one.
-fn children(alloc: Global, table: &Table<u32>, handle: u32) -> anyhow::Result<String> {
+/// Adds the children of a handle: their number, whether there are none, each, and whether it is said
+/// to be one.
+fn push_children(text: &mut String, table: &Table<u32>, handle: u32) -> Result<(), AllocError> {
     let children = match table.children(handle) {
         Ok(children) => children,
-        Err(error) => return Ok(format!(in alloc; "{error:?}")?),
+        Err(error) => return write!(text, "{error:?}"),
     };
     let (len, none) = (children.len(), children.is_empty());
-    let mut text = format!(in alloc; "{len} {none}")?;
+    write!(text, "{len} {none}")?;
     for child in children.iter() {
         let is_one = children.contains(*child);
-        text.push_str(format!(in alloc; " {child} {is_one}")?.as_str())?;
+        write!(text, " {child} {is_one}")?;
     }
-    Ok(text)
+    Ok(())
 }
 
 /// Makes values with the numbers of their handles until the table is full or another handle comes.
@@ -51,25 +52,33 @@ fn call(table: &mut Table<u32>, word: &str, one: u32, other: u32) -> Result<u32,
     }
 }
 
+/// Adds what comes of a line.
+fn push_line(text: &mut String, table: &mut Table<u32>, line: &str) -> Result<(), AllocError> {
+    let mut fields = Fields::of(line.as_bytes());
+    let word = fields.word().unwrap_or("");
+    let (one, other) = (fields.u32().unwrap_or(0), fields.u32().unwrap_or(0));
+    match word {
+        "counts" => {
+            let (next, full, live) = (table.next(), table.is_full(), table.slots().len());
+            write!(text, "next {next} full {full} live {live}")
+        }
+        "children" => push_children(text, table, one),
+        _ => {
+            let came = call(table, word, one, other);
+            write!(text, "{came:?}")
+        }
+    }
+}
+
 /// `table`: what a table gives to each line of the input: `push VALUE`, `push-child VALUE PARENT`,
 /// `get HANDLE`, `rewrite HANDLE VALUE`, `delete HANDLE`, `children HANDLE`, `fill`; or `counts`: the
 /// next handle, whether there is none, and how many are live.
-pub fn table(alloc: Global, case: &Case) -> anyhow::Result<String> {
+pub fn table(text: &mut String, alloc: Global, case: &Case) -> Result<(), AllocError> {
     let mut table = Table::new(alloc);
-    let mut text = String::new(alloc);
     for line in case.input().lines() {
-        let mut fields = Fields::of(line.as_bytes());
-        let word = fields.word().unwrap_or("");
-        let (one, other) = (fields.u32().unwrap_or(0), fields.u32().unwrap_or(0));
-        let came = match word {
-            "counts" => {
-                let (next, full, live) = (table.next(), table.is_full(), table.slots().len());
-                format!(in alloc; "next {next} full {full} live {live}")?
-            }
-            "children" => children(alloc, &table, one)?,
-            _ => format!(in alloc; "{:?}", call(&mut table, word, one, other))?,
-        };
-        text.push_str(format!(in alloc; "{line}: {came}\n")?.as_str())?;
+        write!(text, "{line}: ")?;
+        push_line(text, &mut table, line)?;
+        text.push_str("\n")?;
     }
-    Ok(text)
+    Ok(())
 }

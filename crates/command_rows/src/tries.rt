@@ -6,9 +6,10 @@
 //! as it is; and then the first number at which something else came of it than at the one before:
 //! how it ended, how many bytes stood there as without the fault, and what else.
 
-use crate::case::{Case, Stream, Tried, Tries};
-use crate::scripts::{end_text, push_written, run_case};
-use std::alloc::Global;
+use crate::scripts::{push_end, push_written, run_case};
+use row_cases::{Case, Stream, Tried, Tries};
+use std::alloc::{AllocError, Global};
+use std::fmt::Write;
 use std::sync::Wait;
 use std::thread::Threads;
 use wasi_addr::ErrorCode;
@@ -30,21 +31,38 @@ fn common(one: &[u8], other: &[u8]) -> usize {
 }
 
 /// Runs the script over a network of which a call is answered by a code.
-fn over_network(alloc: Global, case: &Case, nth: u32) -> anyhow::Result<Came> {
+fn over_network(alloc: Global, case: &Case, nth: u32) -> Result<Came, AllocError> {
     let (scenario, script) = (case.text(Stream::Scenario), case.text(Stream::Input));
     let code = ErrorCode::ConnectionReset;
+    let mut end = String::new(alloc);
     let Ok(run) = run_with_fault(alloc, scenario, u32::MAX, script, nth, code) else {
-        anyhow::bail!("a scenario that is none");
+        end.push_str("a scenario that is none")?;
+        let wrote = Vec::new(alloc);
+        return Ok(Came { end, wrote });
     };
-    let end = if run.is_whole() {
+    end.push_str(if run.is_whole() {
         "whole"
     } else {
         "broken off"
-    };
+    })?;
     Ok(Came {
-        end: end.to_string(alloc)?,
+        end,
         wrote: run.replies,
     })
+}
+
+/// Runs the case with what stands in it, and takes back the calls that fail.
+fn over_streams<R: Threads + Wait + Copy + Send + 'static>(
+    rt: &R,
+    alloc: Global,
+    case: &mut Case,
+) -> Result<Came, AllocError> {
+    let done = run_case(rt, alloc, case)?;
+    case.fails.clear();
+    let mut end = String::new(alloc);
+    push_end(&mut end, done.status, done.line)?;
+    let wrote = done.sink.bytes().to_vec(alloc)?;
+    Ok(Came { end, wrote })
 }
 
 /// Runs the case so; as it is where the number is none.
@@ -54,43 +72,43 @@ fn attempt<R: Threads + Wait + Copy + Send + 'static>(
     case: &mut Case,
     what: Tried,
     number: Option<u32>,
-) -> anyhow::Result<Came> {
+) -> Result<Came, AllocError> {
     match (what, number) {
         (Tried::Network, _) => return over_network(alloc, case, number.unwrap_or(0)),
         (Tried::Front, Some(number)) => case.front = number as usize,
         (Tried::Fails(stream), Some(number)) => case.fails.push((stream, number))?,
         _ => {}
     }
-    let done = run_case(rt, alloc, case)?;
-    case.fails.clear();
-    Ok(Came {
-        end: end_text(alloc, done.status, done.line)?,
-        wrote: done.sink.bytes().to_vec(alloc)?,
-    })
+    over_streams(rt, alloc, case)
 }
 
-/// What came of a case at each number.
+/// Makes the text of how a try ended otherwise than the case as it is.
+fn push_came(now: &mut String, plain: &Came, came: &Came) -> Result<(), AllocError> {
+    let same = common(plain.wrote.as_slice(), came.wrote.as_slice());
+    write!(now, "{}, {same} bytes\n", came.end)?;
+    push_written(now, came.wrote.get(same..).unwrap_or(&[]))
+}
+
+/// Adds what came of a case as it is, and at each number.
 pub fn report<R: Threads + Wait + Copy + Send + 'static>(
     rt: &R,
+    text: &mut String,
     alloc: Global,
     case: &mut Case,
     tries: Tries,
-) -> anyhow::Result<String> {
+) -> Result<(), AllocError> {
     let plain = attempt(rt, alloc, case, tries.what, None)?;
-    let mut text = String::new(alloc);
-    push_written(&mut text, plain.wrote.as_slice())?;
-    text.push_str(plain.end.as_str())?;
-    text.push_str("\n")?;
+    push_written(text, plain.wrote.as_slice())?;
+    write!(text, "{}\n", plain.end)?;
     let mut before = String::new(alloc);
     for number in tries.first..=tries.last {
         let came = attempt(rt, alloc, case, tries.what, Some(number))?;
-        let same = common(plain.wrote.as_slice(), came.wrote.as_slice());
-        let mut now = format!(in alloc; "{}, {same} bytes\n", came.end)?;
-        push_written(&mut now, came.wrote.get(same..).unwrap_or(&[]))?;
+        let mut now = String::new(alloc);
+        push_came(&mut now, &plain, &came)?;
         if now != before {
-            text.push_str(format!(in alloc; "at {number}: {now}")?.as_str())?;
+            write!(text, "at {number}: {now}")?;
             before = now;
         }
     }
-    Ok(text)
+    Ok(())
 }

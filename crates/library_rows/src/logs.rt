@@ -1,7 +1,8 @@
 //! Cases of logs: the first bad line, and a log of which a byte is another.
 
-use crate::case::{Case, Stream, number};
+use row_cases::{Case, Stream, number};
 use std::alloc::{AllocError, Global};
+use std::fmt::Write;
 use wasi_replay::{LogError, log_text, parse_log};
 
 /// What a text is as a log.
@@ -66,12 +67,16 @@ fn changed(alloc: Global, log: &[u8], times: usize) -> Result<[u32; 3], AllocErr
 }
 
 /// `log`: what the input is as a log. `log changed N`: what it is where a byte is another, N times.
-pub fn log(alloc: Global, case: &Case) -> anyhow::Result<String> {
-    let text = case.text(Stream::Input);
+pub fn log(text: &mut String, alloc: Global, case: &Case) -> Result<(), AllocError> {
+    let log = case.text(Stream::Input);
     if case.word(1) != "changed" {
-        return Ok(format!(in alloc; "{:?}\n", read_log(alloc, text)?)?);
+        let read = read_log(alloc, log)?;
+        return write!(text, "{read:?}\n");
     }
-    let [refused, others, wrong] = changed(alloc, text, number(case.word(2)))?;
+    let [refused, others, wrong] = changed(alloc, log, number(case.word(2)))?;
     let both = refused > 0 && others > 0;
-    Ok(format!(in alloc; "refused at their line and other logs: {both}, neither: {wrong}\n")?)
+    write!(
+        text,
+        "refused at their line and other logs: {both}, neither: {wrong}\n"
+    )
 }

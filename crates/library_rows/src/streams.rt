@@ -1,20 +1,22 @@
 //! Cases of sources and sinks over memory. An answer is its number, or `failed`.
 
-use crate::case::{Case, Stream, number};
+use row_cases::{Case, Stream, number};
 use std::alloc::{AllocError, Global};
+use std::fmt::Write;
 use std::io::{Stdin, Stdout};
 use world_io::{Failed, MemorySink, MemorySource, Sink, Source, StdSink, StdSource};
 
 /// Adds an answer and a space.
-pub fn push_answer(
-    text: &mut String,
-    alloc: Global,
-    answer: Result<usize, Failed>,
-) -> Result<(), AllocError> {
+pub fn push_answer(text: &mut String, answer: Result<usize, Failed>) -> Result<(), AllocError> {
     match answer {
-        Ok(count) => text.push_str(format!(in alloc; "{count} ")?.as_str()),
+        Ok(count) => write!(text, "{count} "),
         Err(Failed) => text.push_str("failed "),
     }
+}
+
+/// The text that these bytes are.
+pub fn text_of(bytes: &[u8]) -> &str {
+    str::from_utf8(bytes).unwrap_or("no text")
 }
 
 /// What a flush answered.
@@ -27,46 +29,42 @@ pub fn flush_text(answer: Result<(), Failed>) -> &'static str {
 
 /// `source READS SIZE`: the answers to so many reads of the input into buffers of at most 8 bytes,
 /// the bytes that were given, and what the source says then.
-pub fn source(alloc: Global, case: &Case) -> anyhow::Result<String> {
+pub fn source(text: &mut String, alloc: Global, case: &Case) -> Result<(), AllocError> {
     let mut source = case.source(alloc, Stream::Input)?;
-    let mut text = String::new(alloc);
     let mut given = String::new(alloc);
     let mut buf = [0; 8];
     let size = number(case.word(2)).min(8);
     for _ in 0..number(case.word(1)) {
         let told = source.read(&mut buf[..size]);
-        push_answer(&mut text, alloc, told)?;
-        given.push_str(str::from_utf8(&buf[..told.unwrap_or(0)])?)?;
+        push_answer(text, told)?;
+        given.push_str(text_of(&buf[..told.unwrap_or(0)]))?;
     }
     let (left, ended, faults) = (source.left().len(), source.has_ended(), source.faults());
-    let end = format!(in alloc; "gave {given} left {left} ended {ended} faults {faults}\n")?;
-    text.push_str(end.as_str())?;
-    Ok(text)
+    write!(
+        text,
+        "gave {given} left {left} ended {ended} faults {faults}\n"
+    )
 }
 
 /// `sink WRITES`: the answers to so many writes of the input, and after each of what it didn't take;
 /// and what the sink says then.
-pub fn sink(alloc: Global, case: &Case) -> anyhow::Result<String> {
+pub fn sink(text: &mut String, alloc: Global, case: &Case) -> Result<(), AllocError> {
     let mut sink = case.sink(alloc, Stream::Output)?;
-    let mut text = String::new(alloc);
     let mut rest = case.text(Stream::Input);
     for _ in 0..number(case.word(1)) {
         let told = sink.write(rest);
-        push_answer(&mut text, alloc, told)?;
+        push_answer(text, told)?;
         rest = &rest[told.unwrap_or(0)..];
     }
-    let (has, refused) = (str::from_utf8(sink.bytes())?, sink.refused());
-    let end = format!(in alloc; "has {has} refused {refused} faults {}\n", sink.faults())?;
-    text.push_str(end.as_str())?;
-    Ok(text)
+    let (has, refused, faults) = (text_of(sink.bytes()), sink.refused(), sink.faults());
+    write!(text, "has {has} refused {refused} faults {faults}\n")
 }
 
 /// `flushes`: the answers to three writes and to a flush behind each, and whether it was flushed then.
-pub fn flushes(alloc: Global, case: &Case) -> anyhow::Result<String> {
+pub fn flushes(text: &mut String, alloc: Global, case: &Case) -> Result<(), AllocError> {
     let mut sink = case.sink(alloc, Stream::Output)?;
-    let mut text = String::new(alloc);
     for _ in 0..3 {
-        push_answer(&mut text, alloc, sink.write(b"hi"))?;
+        push_answer(text, sink.write(b"hi"))?;
         text.push_str(flush_text(sink.flush()))?;
         text.push_str(if sink.is_flushed() {
             "all "
@@ -74,8 +72,7 @@ pub fn flushes(alloc: Global, case: &Case) -> anyhow::Result<String> {
             "not all "
         })?;
     }
-    text.push_str(format!(in alloc; "faults {}\n", sink.faults())?.as_str())?;
-    Ok(text)
+    write!(text, "faults {}\n", sink.faults())
 }
 
 fn assert_send<T: Send>() {}
