@@ -9,5 +9,5 @@ mod report;
 
 pub use command_line::command_words;
 pub use files::{is_longer, why_unread};
-pub use lines::{Front, LineSource, line_of};
+pub use lines::{Front, LineSource, front_in, line_of};
 pub use report::{end, end_at_line, end_of_run, end_too_long, end_unread, print};

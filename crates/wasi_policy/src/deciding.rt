@@ -5,7 +5,7 @@
 //! So the next look is behind that port, and once no port is left, behind the first of those last
 //! addresses.
 
-ghost use Rattle.std.specs.Prelude.{◌≡◌, ◌≤◌, ◌<◌, ◌-◌, ◌×◌, ℕ, All, Some, None, IfSome, true, false};
+ghost use Rattle.std.specs.Prelude.{◌≡◌, ◌≤◌, ◌<◌, ◌-◌, ℕ, All, Some, None, IfSome, true, false};
 ghost use Rattle.std.specs.List.{slice_get};
 ghost use Rattle.wasi_policy.specs.declared.rule.Rule.{Rule};
 ghost use Rattle.wasi_policy.specs.Decision.{is_about};
