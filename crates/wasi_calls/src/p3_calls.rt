@@ -6,6 +6,7 @@ ghost use Rattle.host_store.specs.KnownSides.{KnowsSides};
 ghost use Rattle.host_store.specs.Views.{SameView, state_of};
 ghost use Rattle.wasi_machine.specs.Machine.{first_ids, call_asks};
 ghost use Rattle.wasi_steps.specs.declared.guest_call.GuestCall.TheVariants as guest;
+ghost use Rattle.wasi_steps.specs.declared.guest_call.P3NameCall.TheVariants as names3;
 
 use crate::settings::{set_p3, udp_opt, udp_setting};
 use host_store::WasiSocketsCtxView;
@@ -15,7 +16,7 @@ use wasi_machine::replies::{
 };
 use wasi_p3::{ListenStreamProducer, ReceiveStreamProducer, SendStreamConsumer};
 use wasi_steps::{P3NameCall, P3TcpCall, P3UdpCall, Reply};
-use wasi_world::{Ids, World};
+use wasi_world::{Ids, NameText, World};
 
 /// Makes a call of a TCP socket of 0.3 or of an end of its streams.
 pub(crate) fn p3_tcp_call<W: World>(
@@ -194,9 +195,28 @@ pub(crate) fn p3_name_call<W: World>(
     ensures view { SameView view.old view.new }
 {
     match call {
-        P3NameCall::Resolve { name } => {
-            let answer = wasi_p3::ip_name_lookup::resolve_addresses(alloc, view, world, ids, name);
-            lookup_reply(alloc, ids.line, answer)
-        }
+        P3NameCall::Resolve { name } => p3_resolve(alloc, view, world, ids, name),
     }
+}
+
+/// Looks up the addresses of a host name.
+fn p3_resolve<W: World>(
+    alloc: Global,
+    view: &mut WasiSocketsCtxView<'_>,
+    world: &mut W,
+    ids: &mut Ids,
+    name: NameText,
+) -> Result<Reply, AllocError>
+    requires open { (W.seen world.old).ended ≡ false }
+    requires first { ids.old ≡ first_ids ids.old.line }
+    requires free { is_some view.old.store.now.standing ≡ false }
+    ensures asked { AsksFor (call_asks view.old.ctx.now (state_of view.old) ids.old.line
+        (guest.P3Names (names3.Resolve name))) (W.seen world.old) (W.seen world.new)
+        (λ reply. (reply, state_of view.new)) result }
+    ensures sides { KnowsSides (W.seen world.old) view.old.store.now
+        → KnowsSides (W.seen world.new) view.new.store.now }
+    ensures view { SameView view.old view.new }
+{
+    let answer = wasi_p3::ip_name_lookup::resolve_addresses(alloc, view, world, ids, name);
+    lookup_reply(alloc, ids.line, answer)
 }
