@@ -4,4 +4,3 @@ pub mod Record
 pub mod Replay
 pub mod Draw
 pub mod Ends
-pub mod Writing

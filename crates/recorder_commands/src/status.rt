@@ -20,8 +20,6 @@ pub enum RecorderStatus {
     LogFault,
     /// The run isn't the recorded one.
     Differs,
-    /// The log was cut, and the run asked more than it has.
-    LogEnds,
 }
 
 impl RecorderStatus {
@@ -34,7 +32,6 @@ impl RecorderStatus {
             RecorderStatus::BadLog => 13,
             RecorderStatus::LogFault => 14,
             RecorderStatus::Differs => 15,
-            RecorderStatus::LogEnds => 25,
         }
     }
 }

@@ -1,3 +1,2 @@
-mod Fronts
 pub mod Comparing
 pub mod Outcomes

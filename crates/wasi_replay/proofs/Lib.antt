@@ -1,6 +1,4 @@
 pub mod ContextLines
-pub mod CutLines
-pub mod CutTexts
 pub mod ArgumentLaws
 pub mod CallLaws
 pub mod Ends
