@@ -167,7 +167,7 @@ early. Its lines are
                                 3 0 bind 2 0 4 127 0 0 1 80 = done
     end                         the last line
 A line of a transcript, which kaxtubor show prints, has the same form behind its indent. A log of at most
-16777216 bytes can be replayed and drawn.
+4294967294 bytes can be replayed and drawn.
 
 The program ends with 0, or prints its status on standard error, with what is wrong, and ends with it:
     1  the words aren't in order            7  memory ran out

@@ -30,7 +30,7 @@ WritesLog text old new (Err unwritten.Memory) = new ≡ old
 
 -- a log that is read has at most so many bytes
 abbrev pub most_log : ℕ
-most_log = 16777216
+most_log = 4294967294
 
 -- The log was read whole, and is these contexts and entries, on which a script can be run.
 pub record LogRead (before after : Reading) (contexts : List WasiSocketsCtx) (entries : List Entry) : Type 0 where

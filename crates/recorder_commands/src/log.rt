@@ -8,12 +8,9 @@ use crate::status::RecorderStatus;
 use std::alloc::Global;
 use wasi_program::Status;
 use wasi_program::reading::{Unread, read_within};
-use wasi_replay::{LogError, log_text, parse_log};
+use wasi_replay::{LogError, MOST_BYTES, log_text, parse_log};
 use wasi_world::{Entry, WasiSocketsCtx};
 use world_io::{Sink, Source, write_all};
-
-/// A log that is read has at most so many bytes.
-const MOST_LOG: usize = 16_777_216;
 
 /// The path of the file that has the log.
 pub fn log_path() -> &'static str
@@ -59,12 +56,12 @@ pub enum FoundLog {
     Stopped(RecorderStatus, u32),
 }
 
-/// Reads a log to its end, or to one byte past the 16,777,216 that it may have, and its grammar.
+/// Reads a log to its end, or to one byte past the 4,294,967,294 that it may have, and its grammar.
 /// Takes memory for its text and its entries.
 pub fn read_log<L: Source>(alloc: Global, log_in: &mut L) -> FoundLog
     ensures { IsLogFoundSo (L.reading log_in.old) (L.reading log_in.new) result }
 {
-    let text = match read_within(alloc, log_in, MOST_LOG) {
+    let text = match read_within(alloc, log_in, MOST_BYTES) {
         Ok(text) => text,
         Err(Unread::Fault) => return FoundLog::Stopped(RecorderStatus::LogFault, 0),
         Err(Unread::Memory(_)) => {

@@ -7,22 +7,21 @@ use crate::log::log_path;
 use std::process::ExitCode;
 use std::rt::Files;
 use wasi_console::{end_at_line, end_too_long, is_longer, line_of};
+use wasi_replay::MOST_BYTES;
 use world_io::FileSource;
 
 /// What a line of a log may be.
 const LOG_LINES: &str =
-    "`context yes yes yes 100`, an entry such as `3 0 bind 2 0 4 127 0 0 1 80 = done`, or the last line `end`, ended by a newline, in a file of at most 16777216 bytes";
-
-/// How many bytes a log has at most that is read.
-const MOST_LOG: u64 = 16_777_216;
+    "`context yes yes yes 100`, an entry such as `3 0 bind 2 0 4 127 0 0 1 80 = done`, or the last line `end`, ended by a newline, in a file of at most 4294967294 bytes";
 
 /// Prints that the log has this bad line. Returns the status as the program's.
 pub fn end_at_log_line<R: Eprint + Files>(rt: &R, number: u8, line: u32) -> ExitCode
     ensures { exit_status result ≡ number }
 {
     let path = log_path();
-    if is_longer(rt, path, MOST_LOG) {
-        return end_too_long(rt, number, path, line, MOST_LOG);
+    let most = MOST_BYTES as u64;
+    if is_longer(rt, path, most) {
+        return end_too_long(rt, number, path, line, most);
     }
     let front = line_of(FileSource::open(rt, path), u64::from(line));
     end_at_line(rt, number, path, line, front, LOG_LINES)

@@ -1,4 +1,6 @@
 pub mod ContextLines
+pub mod CutLines
+pub mod CutTexts
 pub mod ArgumentLaws
 pub mod CallLaws
 pub mod Ends

@@ -218,11 +218,11 @@ all_lines contexts log is =
     let second = entries_read first.0 contexts [] log (codes "end" ∷ []) is.some is.entries in
     first.1 ∙ (second.1 ∙ end_read second.0 contexts log is.some)
 
-contexts_visible : (contexts : List WasiSocketsCtx) (more : List (List ℕ)) → AllByRecursion HasLimit contexts → AllByRecursion IsVisible more → AllByRecursion IsVisible (map context_line contexts ++ more)
+pub contexts_visible : (contexts : List WasiSocketsCtx) (more : List (List ℕ)) → AllByRecursion HasLimit contexts → AllByRecursion IsVisible more → AllByRecursion IsVisible (map context_line contexts ++ more)
 contexts_visible [] more limits h = h
 contexts_visible (context ∷ contexts) more limits h = (line_visible context.name (line.Context context) (refl, limits.0), contexts_visible contexts more limits.1 h)
 
-entries_visible : (log : List Entry) (more : List (List ℕ)) → AllByRecursion IsEntry log → AllByRecursion IsVisible more → AllByRecursion IsVisible (map entry_line log ++ more)
+pub entries_visible : (log : List Entry) (more : List (List ℕ)) → AllByRecursion IsEntry log → AllByRecursion IsVisible more → AllByRecursion IsVisible (map entry_line log ++ more)
 entries_visible [] more fits h = h
 entries_visible (e ∷ log) more fits h = (line_visible 0 (line.Entry e) fits.0, entries_visible log more fits.1 h)
 

@@ -122,7 +122,7 @@ entry_text_is e =
     ∙ (spaced (decimal e.op.step) (decimal e.op.part) (line_with (call_fields e.call)) (line_with (told_fields e.answer)) (codes " ") (codes " = ") (codes "\n")
     ∙ ap (λ r. (decimal e.op.step ++ 32 ∷ (decimal e.op.part ++ 32 ∷ r)) ++ 10 ∷ []) (sym last)))
 
-entries_text_is : (log : List Entry) → entries_text log ≡ text_of_lines (map entry_line log)
+pub entries_text_is : (log : List Entry) → entries_text log ≡ text_of_lines (map entry_line log)
 entries_text_is [] = refl
 entries_text_is (e ∷ log) = ap (λ t. t ++ entries_text log) (entry_text_is e) ∙ ap (λ t. (entry_line e ++ 10 ∷ []) ++ t) (entries_text_is log)
 
@@ -139,7 +139,7 @@ context_by name limit false true false = refl
 context_by name limit false false true = refl
 context_by name limit false false false = refl
 
-contexts_text_is : (contexts : List WasiSocketsCtx) → contexts_text contexts ≡ text_of_lines (map context_line contexts)
+pub contexts_text_is : (contexts : List WasiSocketsCtx) → contexts_text contexts ≡ text_of_lines (map context_line contexts)
 contexts_text_is [] = refl
 contexts_text_is (context ∷ contexts) =
     ap (λ t. t ++ contexts_text contexts) (context_by context.name context.write_limit context.tcp context.udp context.ip_name_lookup)

@@ -22,14 +22,14 @@ lines_within (line ∷ lines) = omega (arith, lines_within lines, length-append 
 
 module _ (text : List ℕ) (contexts : List WasiSocketsCtx) (log : List Entry) (read : log_of text ≡ Ok (contexts, log)) where
   pub read_fits : list_all fits_entry log ≡ true
-  read_fits = all_fit log (read_is 16777216 text contexts log read).2.entries
+  read_fits = all_fit log (read_is 4294967294 text contexts log read).2.entries
 
   pub read_numbered : AreNumbered contexts
-  read_numbered = (read_is 16777216 text contexts log read).2.numbered
+  read_numbered = (read_is 4294967294 text contexts log read).2.numbered
 
-  count : length contexts + length log ≤ 16777216
+  count : length contexts + length log ≤ 4294967294
   count =
-      let is = read_is 16777216 text contexts log read in
+      let is = read_is 4294967294 text contexts log read in
       omega (arith, ap length is.0, is.1, lines_within (log_lines contexts log), length-append (map context_line contexts) (map entry_line log ++ codes "end" ∷ []), length-append (map entry_line log) (codes "end" ∷ []), length-map contexts context_line, length-map log entry_line)
 
   pub few_contexts : length contexts < 4294967296

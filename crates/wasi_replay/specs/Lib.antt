@@ -1,5 +1,6 @@
 pub mod Arguments
 pub mod Calls
+pub mod Cut
 pub mod Log
 pub mod Parsed
 pub mod Pieces

@@ -150,10 +150,10 @@ log_within most text =
     let lines = lines_of (take most text) in
     if_whole (is_whole most text) (length lines) (with_lines 1 start lines)
 
--- The contexts and the entries of a text, or the number of its first line that is wrong. It has at most 16,777,216 bytes, and
+-- The contexts and the entries of a text, or the number of its first line that is wrong. It has at most 4,294,967,294 bytes, and
 -- each line has its newline.
 abbrev pub log_of : List ℕ → Result (List WasiSocketsCtx × List Entry) ℕ
-log_of text = log_within 16777216 text
+log_of text = log_within 4294967294 text
 
 -- == the text
 abbrev pub log_lines : List WasiSocketsCtx → List Entry → List (List ℕ)

@@ -3,6 +3,7 @@
 #![tactic(auto)]
 
 pub mod call;
+pub mod cut;
 pub mod entry;
 pub mod fields;
 pub mod laws;
@@ -14,9 +15,10 @@ pub mod same;
 pub mod text;
 pub mod told;
 
+pub use cut::parse_cut_log;
 pub use entry::fits;
-pub use laws::logs_are_read_exactly;
-pub use parse::{LogError, parse_log};
+pub use laws::{cut_logs_are_read, logs_are_read_exactly};
+pub use parse::{LogError, MOST_BYTES, parse_log};
 pub use recording_world::RecordingWorld;
 pub use replay_world::{Recorded, ReplayWorld};
-pub use text::{contexts_text, log_text};
+pub use text::{contexts_text, entries_text, log_text};

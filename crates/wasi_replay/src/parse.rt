@@ -14,14 +14,14 @@ use thiserror::Error;
 use wasi_world::{Entry, WasiSocketsCtx};
 use world_text::lines::newline_at;
 
-/// How many bytes a log has at most.
-const MOST_BYTES: usize = 16_777_216;
+/// How many bytes a log has at most: its lines have numbers of 32 bits.
+pub const MOST_BYTES: usize = 4_294_967_294;
 
 /// Why a log wasn't read.
 #[derive(Clone, Copy, Debug, PartialEq, Eq, Error)]
 pub enum LogError {
     /// The first line that isn't in the grammar, counted from 1: also a line that the text ends
-    /// inside or before, one behind `end`, and the line that holds byte 16,777,217.
+    /// inside or before, one behind `end`, and the line that holds byte 4,294,967,295.
     #[error("line {0} of the log is not in its grammar")]
     BadLog(u32),
     #[error("memory ran out")]

@@ -66,6 +66,15 @@ fn push_entries(text: &mut String, log: &[Entry]) -> Result<(), AllocError>
     Ok(())
 }
 
+/// The lines of some of a log's entries, one after another. Takes memory for them.
+pub fn entries_text(alloc: Global, log: &[Entry]) -> Result<Vec<u8>, AllocError>
+    ensures { IfOk result (λ text. text.items ≡ entries_text log.now) }
+{
+    let mut text = String::new(alloc);
+    push_entries(&mut text, log)?;
+    Ok(text.into_bytes())
+}
+
 /// Writes the pieces of a log's text, one after another.
 fn write_log(
     alloc: Global,
@@ -86,7 +95,7 @@ fn write_log(
 ///
 /// [`crate::parse_log`] gives the contexts and the entries back where there is a context, each has
 /// its place as its name, each entry's answer fits its call ([`crate::fits`]), and the text has no
-/// more than 16,777,216 bytes.
+/// more than 4,294,967,294 bytes.
 pub fn log_text(
     alloc: Global,
     contexts: &[WasiSocketsCtx],
