@@ -1,5 +1,5 @@
 -- What a session did, with one step more.
-use Rattle.std.proofs.Common.{◌≡◌, ◌≢◌, ◌<◌, if◌then◌else◌, ◌∙◌, refl, sym, ap, ℕ, ◌+◌, ◌==◌, Bool, true, false, List, [], ◌∷◌, ◌++◌, length, Option, Some, None, IfSome, Result, Ok, Err, append-nil, length-append, arith}
+use Rattle.std.proofs.Common.{◌≡◌, ◌≢◌, ◌<◌, nat_le, if◌then◌else◌, ◌∙◌, refl, sym, ap, ℕ, ◌+◌, ◌==◌, Bool, true, false, List, [], ◌∷◌, ◌++◌, length, Option, Some, None, IfSome, Result, Ok, Err, append-nil, length-append, arith}
 use Rattle.wasi_world.specs.declared.call.Entry.{Entry}
 use Rattle.wasi_world.specs.declared.outcome.WasiSocketsCtx.{WasiSocketsCtx}
 use Rattle.wasi_world.specs.Seen.{Seen}
@@ -12,6 +12,7 @@ use Rattle.wasi_machine.specs.Machine.{machine_asks, run, HasRun}
 use Rattle.wasi_steps.specs.declared.step.Step.{Step}
 use Rattle.wasi_steps.specs.declared.reply.Reply.{Reply}
 use Rattle.wasi_steps.specs.Reply.{is_trap}
+use Rattle.wasi_steps.specs.Steps.{context_of}
 use Rattle.wasi_walks.specs.Licence.{IsLicensed}
 use Rattle.wasi_walks.proofs.licence.Runs.{runs_licensed}
 use Rattle.wasi_records.specs.Closing.{IsFresh, HasClosedAll, HasClosedEach}
@@ -25,8 +26,8 @@ use Rattle.wasi_calls.proofs.Stretches.{one_ran}
 use Rattle.wasi_session.specs.State.{State}
 use Rattle.std.specs.Prelude.{IsErrAnd}
 use Rattle.wasi_session.specs.declared.error.StepError.{StepError}
-use Rattle.wasi_session.specs.declared.error.StepError.TheVariants.{Over, TooMany, Memory}
-use Rattle.wasi_session.specs.Did.{Did, DidNext, Going}
+use Rattle.wasi_session.specs.declared.error.StepError.TheVariants.{Over, TooMany, NoContext, Memory}
+use Rattle.wasi_session.specs.Did.{Did, DidNext, Going, in_contexts, may_step}
 
 -- what was asked is in the log after what was there
 logged : {A : Type 0} {asks rest : Asks A} {old new : Seen} (front : List Entry) (h : Reaches asks rest old new) → old.log ≡ Some front → new.log ≡ Some (front ++ h.entries)
@@ -156,6 +157,34 @@ module _ (over : Bool) (lines : ℕ) (rest : Result (Unit {0}) StepError) (done 
 pub at_memory : {s : State} (step : Step) (steps : List Step) {replies : List Reply} {start : Seen} (r : Result Reply StepError) → IsErrAnd r (λ e. e ≡ Memory) → Did s (steps ++ step ∷ []) replies start → DidNext r step steps replies start s
 at_memory step steps (Ok reply) h d = absurd h
 at_memory step steps (Err e) h d = rw h d
+
+-- a step is never refused for lack of memory
+abbrev placed_so : Bool → ℕ → Result (Unit {0}) StepError
+placed_so out n = if out then Err (NoContext n) else Ok tt
+
+placed : (out : Bool) (n : ℕ) → placed_so out n ≡ Err Memory → ⊥
+placed true n e = absurd (cc)
+placed false n e = absurd (cc)
+
+in_place : (contexts : List WasiSocketsCtx) (context : Option ℕ) → in_contexts contexts context ≡ Err Memory → ⊥
+in_place contexts None e = absurd (cc)
+in_place contexts (Some context) e = placed (nat_le (length contexts) context) context e
+
+in_turn : (over full : Bool) (rest : Result (Unit {0}) StepError) → (rest ≡ Err Memory → ⊥) → (if over then Err Over else if full then Err TooMany else rest) ≡ Err Memory → ⊥
+in_turn true full rest h e = absurd (cc)
+in_turn false true rest h e = absurd (cc)
+in_turn false false rest h e = h e
+
+not_memory : (s : State) (step : Step) → may_step s step ≡ Err Memory → ⊥
+not_memory s step e = in_turn s.over (s.lines == 4294967295) (in_contexts s.contexts (context_of step)) (in_place s.contexts (context_of step)) e
+
+-- the exit of a step that is refused
+pub at_refusal : {s : State} (step : Step) (steps : List Step) {replies : List Reply} {start : Seen} (r : Result Reply StepError) (e : StepError) → may_step s step ≡ Err e → IsErrAnd r (λ x. x ≡ e) → Did s steps replies start → DidNext r step steps replies start s
+at_refusal step steps (Ok reply) e may h d = absurd h
+at_refusal step steps (Err Over) e may h d = d
+at_refusal step steps (Err TooMany) e may h d = d
+at_refusal step steps (Err (NoContext n)) e may h d = d
+at_refusal {s} step steps (Err Memory) e may h d = absurd (not_memory s step (rw (← h) at may))
 
 -- == at the end
 -- the records hold what was made and not closed

@@ -1,5 +1,5 @@
 use Rattle.std.proofs.Common.{sym, ◌∙◌}
-use Rattle.wasi_session.proofs.Steps.{isnt_over, at_memory, did_step, did_part}
+use Rattle.wasi_session.proofs.Steps.{isnt_over, at_memory, at_refusal, did_step, did_part}
 use Rattle.wasi_session.proofs.session.Session.step.Goals as goal
 
 pub step-requires-clause-numbers : goal.step-requires-clause-numbers
@@ -17,3 +17,7 @@ returns-clause-did g c = rw (← c.self.view_is, ← c.as_slice-contexts.ensures
     (λ steps replies start d.
     did_step d (isnt_over c.self.inside.over c.self.inside.progress.lines _ c.in_ok-may_step.field-0 (rw (← c.self.view_is) at (sym c.may_step.ensures.may ∙ c.in_ok-may_step.was))) c.args.step c.in_ok-reply.reply c.step.new.self.machine (g.W.World.seen c.step.new.world)
     (record { asked = c.in_ok-reply.ensures.asked.ok; sides = c.in_ok-reply.ensures.sides }))
+
+pub returns-in_err-may_step-clause-did : goal.returns-in_err-may_step-clause-did
+returns-in_err-may_step-clause-did g c = λ steps replies start d.
+    at_refusal c.args.step steps c.from_residual.result _ (sym c.may_step.ensures.may ∙ c.in_err-may_step.was) c.from_residual.ensures.1 d
