@@ -8,6 +8,7 @@ use Rattle.wasi_steps.specs.declared.reply.CodeWord.TheVariants.{WouldBlock}
 use Rattle.wasi_steps.specs.declared.reply.Reply.{Reply}
 use Rattle.wasi_steps.specs.declared.reply.Reply.TheVariants.{Ok, Err}
 use Rattle.wasi_relay.specs.declared.pair.DirEnd.TheVariants.{Broken}
+use Rattle.wasi_relay.specs.declared.pair.Flow.{Flow}
 use Rattle.wasi_relay.specs.declared.pair.Peer.{Peer}
 use Rattle.wasi_relay.specs.declared.pair.Stage.{Stage}
 use Rattle.wasi_relay.specs.declared.pair.Stage.TheVariants.{Connecting, Connected, Over}

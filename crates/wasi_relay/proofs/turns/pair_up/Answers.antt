@@ -19,8 +19,8 @@ returns-in_err-begin_connect-in-Ok g c =
     (created c.args.order c.args.listener c.args.client (course_of c.args.at.now) _ c.in-Ok.fields c.handle_at-target.result c.in-Ok.is (c.handle_at-target.ensures ∙ ap (λ f. handle_at f 0) c.as_slice.ensures)
     (went_quits_given _ _ c.from_residual-in_err-begin_connect-in-Ok.result c.from_residual-in_err-begin_connect-in-Ok.ensures.0 c.in_err-begin_connect-in-Ok.ensures)))
 
-pub returns-in_default : goal.returns-in_default
-returns-in_default g c =
+pub returns : goal.returns
+returns g c =
     rw (← c.family_of-family.ensures)
     (went_then (after_create c.args.order c.args.listener c.args.client (course_of c.args.at.now)) c.in_ok-reply.ensures
     (uncreated c.args.order c.args.listener c.args.client (course_of c.args.at.now) _ c.in_default.not-Ok (rw c.reserve.ensures.items at c.leave_unpaired.ensures)))
