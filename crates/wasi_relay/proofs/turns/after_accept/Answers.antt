@@ -13,4 +13,4 @@ returns-in-Ok g c =
     c.pair_up.ensures
 
 pub returns-in_default : goal.returns-in_default
-returns-in_default g c = rw c.taken_after.ensures (not_arrived c.args.order c.args.listener (course_of c.args.at.now) _ c.in_default.not-Ok)
+returns-in_default g c = rw c.taken_after-at.ensures (not_arrived c.args.order c.args.listener (course_of c.args.at.now) _ c.in_default.not-Ok)
