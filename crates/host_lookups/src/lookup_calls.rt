@@ -1,11 +1,11 @@
 //! Lookups of host names, by the numbers of their records.
 
 ghost use Rattle.std.specs.Prelude.{◌≡◌, IfOk, OnErr, OnOk, false, length, Ok};
-ghost use Rattle.wasi_world.specs.Asks.{AsksFor};
 ghost use Rattle.wasi_world.specs.Seen.{Seen};
 ghost use Rattle.wasi_records.specs.NameLookup.{is_looking};
 ghost use Rattle.wasi_records.specs.Records.{lookup_at, lookup_pushed};
 ghost use Rattle.wasi_records.specs.Stops.{host_outcome};
+ghost use Rattle.host_store.specs.HostAsks.{HostAsks};
 ghost use Rattle.host_store.specs.Jobs.{jobs_with};
 ghost use Rattle.host_store.specs.KnownSides.{KnowsSides};
 ghost use Rattle.host_lookups.specs.NameLookupCalls.{resolve_host, resolved, lookup_handle, next_at, drop_lookup_at, lookup_ready};
@@ -61,11 +61,9 @@ pub fn resolve<W: World>(
     host: HostName,
 ) -> Result<Handle, SocketError>
     requires { (W.seen world.old).ended ≡ false }
-    ensures asked { AsksFor (resolve_host (record { table = table.old; store = store.old }) own
-        network host) (W.seen world.old) (W.seen world.new)
+    ensures asked { HostAsks (resolve_host (record { table = table.old; store = store.old }) own
+        network host) (W.seen world.old) (W.seen world.new) store.old store.new
         (λ made. (made, record { table = table.new; store = store.new })) (host_outcome result) }
-    ensures sides { KnowsSides (W.seen world.old) store.old
-        → KnowsSides (W.seen world.new) store.new }
 {
     match host {
         HostName::Address(address) => {
@@ -89,11 +87,9 @@ fn keep_lookup<W: World>(
     lookup: Lookup,
 ) -> Result<Handle, SocketError>
     requires { (W.seen world.old).ended ≡ false }
-    ensures asked { AsksFor (resolved (record { table = table.old; store = store.old }) own
-        network lookup) (W.seen world.old) (W.seen world.new)
+    ensures asked { HostAsks (resolved (record { table = table.old; store = store.old }) own network
+        lookup) (W.seen world.old) (W.seen world.new) store.old store.new
         (λ made. (made, record { table = table.new; store = store.new })) (host_outcome result) }
-    ensures sides { KnowsSides (W.seen world.old) store.old
-        → KnowsSides (W.seen world.new) store.new }
 {
     match lookup {
         Lookup::Failed => Err(SocketError::Code(unresolvable())),
@@ -111,11 +107,9 @@ fn make_lookup<W: World>(
     lookup: Lookup,
 ) -> Result<Handle, SocketError>
     requires { (W.seen world.old).ended ≡ false }
-    ensures asked { AsksFor (lookup_handle (record { table = table.old; store = store.old }) own
-        network lookup) (W.seen world.old) (W.seen world.new)
+    ensures asked { HostAsks (lookup_handle (record { table = table.old; store = store.old }) own
+        network lookup) (W.seen world.old) (W.seen world.new) store.old store.new
         (λ made. (made, record { table = table.new; store = store.new })) (host_outcome result) }
-    ensures sides { KnowsSides (W.seen world.old) store.old
-        → KnowsSides (W.seen world.new) store.new }
 {
     let place = add_lookup(&mut store.records, &mut store.jobs, lookup)?;
     let kind = Kind::Lookup(place);

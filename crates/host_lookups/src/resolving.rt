@@ -2,10 +2,9 @@
 
 ghost use Rattle.std.specs.Prelude.{◌≡◌, List, [], ◌∷◌, ◌++◌, OnErr, false, map};
 ghost use Rattle.wasi_addr.specs.Address.{canonical};
-ghost use Rattle.wasi_world.specs.Asks.{AsksFor};
 ghost use Rattle.host_store.specs.BaseStops.{ends_as};
-ghost use Rattle.host_store.specs.KnownSides.{KnowsSides};
 ghost use Rattle.host_lookups.specs.Resolves.{names_outcome, begun_lookup, polled_lookup, resolve_of, reresolve_of};
+ghost use Rattle.host_store.specs.HostAsks.{HostAsks};
 ghost use Rattle.host_store.specs.declared.beside.Beside.{Beside};
 
 use host_store::{Beside, BesideCall, BesideList, LookupError, Store};
@@ -69,10 +68,8 @@ pub fn resolve_host<W: World>(
     host: NameText,
 ) -> Result<Answer<IpList>, LookupError>
     requires { (W.seen world.old).ended ≡ false }
-    ensures asked { AsksFor (resolve_of ids.line host store.old) (W.seen world.old)
-        (W.seen world.new) (λ answer. (answer, store.new)) (ends_as result) }
-    ensures sides { KnowsSides (W.seen world.old) store.old
-        → KnowsSides (W.seen world.new) store.new }
+    ensures asked { HostAsks (resolve_of ids.line host store.old) (W.seen world.old)
+        (W.seen world.new) store.old store.new (λ answer. (answer, store.new)) (ends_as result) }
 {
     let asked = host.try_clone()?;
     // The call comes before the ask, so that a lookup that is pending has its call whatever
@@ -95,12 +92,10 @@ pub fn reresolve_host<W: World>(
     host: NameText,
 ) -> Result<Answer<IpList>, LookupError>
     requires { (W.seen world.old).ended ≡ false }
-    ensures asked { AsksFor (reresolve_of line host store.old) (W.seen world.old)
-        (W.seen world.new) (λ answer. (answer, store.new)) (ends_as result) }
+    ensures asked { HostAsks (reresolve_of line host store.old) (W.seen world.old)
+        (W.seen world.new) store.old store.new (λ answer. (answer, store.new)) (ends_as result) }
     ensures exclusive { store.new.standing ≡ store.old.standing }
     ensures stays { OnErr (ends_as result) (store.new.beside ≡ store.old.beside) }
-    ensures sides { KnowsSides (W.seen world.old) store.old
-        → KnowsSides (W.seen world.new) store.new }
 {
     let own = OpId {
         step: line,

@@ -3,6 +3,7 @@ pub mod Beside
 pub mod Block
 pub mod CallStops
 pub mod GivingBack
+pub mod HostAsks
 pub mod Jobs
 pub mod Kinds
 pub mod KnownSides

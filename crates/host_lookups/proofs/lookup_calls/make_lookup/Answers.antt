@@ -11,28 +11,28 @@ use Rattle.host_store.specs.declared.store.Store.TheView.{view}
 use Rattle.host_lookups.proofs.lookup_calls.make_lookup.Goals as goal
 
 pub returns-in_err-place-clause-asked : goal.returns-in_err-place-clause-asked
-returns-in_err-place-clause-asked g c = host_none c.from_residual.result c.from_residual.ensures.1 refl
+returns-in_err-place-clause-asked g c = record { asks = host_none c.from_residual.result c.from_residual.ensures.1 refl; sides = search rules }
 
 pub returns-in-Ok-clause-asked : goal.returns-in-Ok-clause-asked
-returns-in-Ok-clause-asked g c =
-    let m : Machine = record { table = c.args.table.now; store = view c.store.inside } in
-    rw (← c.store.view_is) (lookup_made m c.args.own c.args.network c.args.lookup c.in_ok-place.ensures.place c.in_ok-place.ensures.records c.in_ok-place.ensures.jobs c.in-Ok.ensures.asked)
-
-pub returns-in-Ok-clause-sides : goal.returns-in-Ok-clause-sides
-returns-in-Ok-clause-sides g c = λ k.
-    let store : Records = view c.store.inside in
-    knows_same (with_lookup store c.args.lookup) _ (ap held_in c.in_ok-place.ensures.records)
-    (c.in-Ok.ensures.sides (with_lookup store c.args.lookup) (knows_same store (with_lookup store c.args.lookup) (held_in-lookup_more store.records c.args.lookup) (rw (← c.store.view_is) at k)))
+returns-in-Ok-clause-asked g c = record {
+  asks =
+      let m : Machine = record { table = c.args.table.now; store = view c.store.inside } in
+      rw (← c.store.view_is) (lookup_made m c.args.own c.args.network c.args.lookup c.in_ok-place.ensures.place c.in_ok-place.ensures.records c.in_ok-place.ensures.jobs c.in-Ok.ensures.asked);
+  sides = λ k.
+      let store : Records = view c.store.inside in
+      knows_same (with_lookup store c.args.lookup) _ (ap held_in c.in_ok-place.ensures.records)
+      (c.in-Ok.ensures.sides (with_lookup store c.args.lookup) (knows_same store (with_lookup store c.args.lookup) (held_in-lookup_more store.records c.args.lookup) (rw (← c.store.view_is) at k)));
+}
 
 pub returns-in-Err-clause-asked : goal.returns-in-Err-clause-asked
-returns-in-Err-clause-asked g c =
-    let m : Machine = record { table = c.args.table.now; store = view c.store.inside } in
-    rw (← c.store.view_is, c.from.ensures, c.give_back.ensures.state)
-    (lookup_lost m c.args.own c.args.network c.args.lookup c.in-Err.fault c.in_ok-place.ensures.place c.in_ok-place.ensures.records c.in_ok-place.ensures.jobs c.in-Err.ensures.asked)
-
-pub returns-in-Err-clause-sides : goal.returns-in-Err-clause-sides
-returns-in-Err-clause-sides g c = λ k.
-    let store : Records = view c.store.inside in
-    c.give_back.ensures.sides _ (rw (c.in_ok-place.ensures.records, c.in_ok-place.ensures.place) (lookup_held c.store.inside.records.items c.args.lookup))
-    (knows_same (with_lookup store c.args.lookup) _ (ap held_in c.in_ok-place.ensures.records)
-    (c.in-Err.ensures.sides (with_lookup store c.args.lookup) (knows_same store (with_lookup store c.args.lookup) (held_in-lookup_more store.records c.args.lookup) (rw (← c.store.view_is) at k))))
+returns-in-Err-clause-asked g c = record {
+  asks =
+      let m : Machine = record { table = c.args.table.now; store = view c.store.inside } in
+      rw (← c.store.view_is, c.from.ensures, c.give_back.ensures.state)
+      (lookup_lost m c.args.own c.args.network c.args.lookup c.in-Err.fault c.in_ok-place.ensures.place c.in_ok-place.ensures.records c.in_ok-place.ensures.jobs c.in-Err.ensures.asked);
+  sides = λ k.
+      let store : Records = view c.store.inside in
+      c.give_back.ensures.sides _ (rw (c.in_ok-place.ensures.records, c.in_ok-place.ensures.place) (lookup_held c.store.inside.records.items c.args.lookup))
+      (knows_same (with_lookup store c.args.lookup) _ (ap held_in c.in_ok-place.ensures.records)
+      (c.in-Err.ensures.sides (with_lookup store c.args.lookup) (knows_same store (with_lookup store c.args.lookup) (held_in-lookup_more store.records c.args.lookup) (rw (← c.store.view_is) at k))));
+}

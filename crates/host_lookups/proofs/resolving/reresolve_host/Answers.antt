@@ -9,13 +9,13 @@ use Rattle.host_store.specs.declared.store.Store.TheView.{view}
 use Rattle.host_lookups.proofs.resolving.reresolve_host.Goals as goal
 
 pub returns-clause-asked : goal.returns-clause-asked
-returns-clause-asked g c =
-    let store : Records = view c.store.inside in
-    rw (← c.store.view_is, c.resolved.ensures, c.keep_polled.ensures)
-    (polled_asked store c.args.line c.args.host c.lookup-told.result c.lookup-told.ensures.asked)
-
-pub returns-clause-sides : goal.returns-clause-sides
-returns-clause-sides g c = λ k. knows_none _ _ (none_calm (calm_lookup (own_of c.args.line) c.args.host) _ c.lookup-told.ensures.asked) refl (rw (← c.store.view_is) at k)
+returns-clause-asked g c = record {
+  asks =
+      let store : Records = view c.store.inside in
+      rw (← c.store.view_is, c.resolved.ensures, c.keep_polled.ensures)
+      (polled_asked store c.args.line c.args.host c.lookup-told.result c.lookup-told.ensures.asked);
+  sides = λ k. knows_none _ _ (none_calm (calm_lookup (own_of c.args.line) c.args.host) _ c.lookup-told.ensures.asked) refl (rw (← c.store.view_is) at k);
+}
 
 pub returns-clause-stays : goal.returns-clause-stays
 returns-clause-stays g c = rw (← c.store.view_is, c.resolved.ensures, c.keep_polled.ensures) (lookup_stays _ c.args.line c.lookup-told.result)

@@ -15,17 +15,17 @@ use Rattle.host_store.specs.declared.store.Store.TheView.{view}
 use Rattle.host_lookups.proofs.resolving.resolve_host.Goals as goal
 
 pub returns-in_err-asked-clause-asked : goal.returns-in_err-asked-clause-asked
-returns-in_err-asked-clause-asked g c = ends_none c.from_residual.result c.from_residual.ensures.1 refl
+returns-in_err-asked-clause-asked g c = record { asks = ends_none c.from_residual.result c.from_residual.ensures.1 refl; sides = search rules }
 
 pub returns-in_err-push-clause-asked : goal.returns-in_err-push-clause-asked
-returns-in_err-push-clause-asked g c = ends_none c.from_residual-in_err-push.result c.from_residual-in_err-push.ensures.1 refl
+returns-in_err-push-clause-asked g c = record { asks = ends_none c.from_residual-in_err-push.result c.from_residual-in_err-push.ensures.1 refl; sides = search rules }
 
 pub returns-clause-asked : goal.returns-clause-asked
-returns-clause-asked g c =
-    let store : Records = view c.store.inside in
-    let call = beside_as c.args.ids.line (Resolve c.args.host) in
-    rw (← c.store.view_is, c.resolved.ensures, c.keep_begun.ensures store.beside call c.in_ok-push.ensures.ok)
-    (begun_asked store c.args.ids.line c.args.host call c.lookup-told.result (asks_at (λ (op : OpId). ask_lookup op c.args.host) (sym c.own.ensures) (rw c.in_ok-asked.ensures at c.lookup-told.ensures.asked)))
-
-pub returns-clause-sides : goal.returns-clause-sides
-returns-clause-sides g c = λ k. knows_none _ _ (none_calm (calm_lookup c.own.result c.in_ok-asked.asked) _ c.lookup-told.ensures.asked) refl (rw (← c.store.view_is) at k)
+returns-clause-asked g c = record {
+  asks =
+      let store : Records = view c.store.inside in
+      let call = beside_as c.args.ids.line (Resolve c.args.host) in
+      rw (← c.store.view_is, c.resolved.ensures, c.keep_begun.ensures store.beside call c.in_ok-push.ensures.ok)
+      (begun_asked store c.args.ids.line c.args.host call c.lookup-told.result (asks_at (λ (op : OpId). ask_lookup op c.args.host) (sym c.own.ensures) (rw c.in_ok-asked.ensures at c.lookup-told.ensures.asked)));
+  sides = λ k. knows_none _ _ (none_calm (calm_lookup c.own.result c.in_ok-asked.asked) _ c.lookup-told.ensures.asked) refl (rw (← c.store.view_is) at k);
+}

@@ -27,12 +27,12 @@ returns-in_err-host-in-Resolve-clause-asked g c = host_none c.from_residual-in_e
 pub returns-in_err-answer-in-Resolve-clause-asked : goal.returns-in_err-answer-in-Resolve-clause-asked
 returns-in_err-answer-in-Resolve-clause-asked g c =
     rw (← c.find_beside.ensures, c.in-Some.is, c.in-Resolve.is, ← c.in_ok-host-in-Resolve.ensures)
-    (host_passed {T = Answer Outcome} _ _ c.from_residual-in_err-answer-in-Resolve.result c.from_residual-in_err-answer-in-Resolve.ensures.1 (rw (← c.in_err-answer-in-Resolve.ensures) at (resolved_goes (state_of c.args.view.now) (ends_as c.reresolve_host.result) c.reresolve_host.ensures.asked)) (λ stop. refl))
+    (host_passed {T = Answer Outcome} _ _ c.from_residual-in_err-answer-in-Resolve.result c.from_residual-in_err-answer-in-Resolve.ensures.1 (rw (← c.in_err-answer-in-Resolve.ensures) at (resolved_goes (state_of c.args.view.now) (ends_as c.reresolve_host.result) c.reresolve_host.ensures.asked.asks)) (λ stop. refl))
 
 pub returns-in_ok-answer-in-Resolve-clause-asked : goal.returns-in_ok-answer-in-Resolve-clause-asked
 returns-in_ok-answer-in-Resolve-clause-asked g c =
     rw (← c.find_beside.ensures, c.in-Some.is, c.in-Resolve.is, ← c.in_ok-host-in-Resolve.ensures)
-    (asks_end _ (rw (← c.in_ok-answer-in-Resolve.ensures) at (resolved_goes (state_of c.args.view.now) (ends_as c.reresolve_host.result) c.reresolve_host.ensures.asked)).ok refl)
+    (asks_end _ (rw (← c.in_ok-answer-in-Resolve.ensures) at (resolved_goes (state_of c.args.view.now) (ends_as c.reresolve_host.result) c.reresolve_host.ensures.asked.asks)).ok refl)
 
 pub returns-in_err-answer-in-Send-clause-asked : goal.returns-in_err-answer-in-Send-clause-asked
 returns-in_err-answer-in-Send-clause-asked g c =

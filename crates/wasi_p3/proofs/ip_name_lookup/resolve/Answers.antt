@@ -11,4 +11,4 @@ returns-in_err-addresses-in-Ok-Address-clause-asked g c = ends_none c.from_resid
 pub returns-in-Ok-Domain-clause-asked : goal.returns-in-Ok-Domain-clause-asked
 returns-in-Ok-Domain-clause-asked g c =
     rw (c.in-Ok-Domain.is, c.in-Ok-Domain.field-0-is)
-    (stored (state_of c.args.view.now) (ends_as c.resolve_host.result) c.resolve_host.ensures.asked)
+    (stored (state_of c.args.view.now) (ends_as c.resolve_host.result) c.resolve_host.ensures.asked.asks)
