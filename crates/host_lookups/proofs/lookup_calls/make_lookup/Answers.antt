@@ -10,11 +10,11 @@ use Rattle.host_store.proofs.KnownSides.{knows_same}
 use Rattle.host_store.specs.declared.store.Store.TheView.{view}
 use Rattle.host_lookups.proofs.lookup_calls.make_lookup.Goals as goal
 
-pub returns-in_err-place-clause-asked : goal.returns-in_err-place-clause-asked
-returns-in_err-place-clause-asked g c = record { asks = host_none c.from_residual.result c.from_residual.ensures.1 refl; sides = search rules }
+pub returns-in_err-place : goal.returns-in_err-place
+returns-in_err-place g c = record { asks = host_none c.from_residual.result c.from_residual.ensures.1 refl; sides = search rules }
 
-pub returns-in-Ok-clause-asked : goal.returns-in-Ok-clause-asked
-returns-in-Ok-clause-asked g c = record {
+pub returns-in-Ok : goal.returns-in-Ok
+returns-in-Ok g c = record {
   asks =
       let m : Machine = record { table = c.args.table.now; store = view c.store.inside } in
       rw (← c.store.view_is) (lookup_made m c.args.own c.args.network c.args.lookup c.in_ok-place.ensures.place c.in_ok-place.ensures.records c.in_ok-place.ensures.jobs c.in-Ok.ensures.asked);
@@ -24,8 +24,8 @@ returns-in-Ok-clause-asked g c = record {
       (c.in-Ok.ensures.sides (with_lookup store c.args.lookup) (knows_same store (with_lookup store c.args.lookup) (held_in-lookup_more store.records c.args.lookup) (rw (← c.store.view_is) at k)));
 }
 
-pub returns-in-Err-clause-asked : goal.returns-in-Err-clause-asked
-returns-in-Err-clause-asked g c = record {
+pub returns-in-Err : goal.returns-in-Err
+returns-in-Err g c = record {
   asks =
       let m : Machine = record { table = c.args.table.now; store = view c.store.inside } in
       rw (← c.store.view_is, c.from.ensures, c.give_back.ensures.state)

@@ -14,14 +14,14 @@ use Rattle.host_lookups.proofs.Resolves.{begun_asked}
 use Rattle.host_store.specs.declared.store.Store.TheView.{view}
 use Rattle.host_lookups.proofs.resolving.resolve_host.Goals as goal
 
-pub returns-in_err-asked-clause-asked : goal.returns-in_err-asked-clause-asked
-returns-in_err-asked-clause-asked g c = record { asks = ends_none c.from_residual.result c.from_residual.ensures.1 refl; sides = search rules }
+pub returns-in_err-asked : goal.returns-in_err-asked
+returns-in_err-asked g c = record { asks = ends_none c.from_residual.result c.from_residual.ensures.1 refl; sides = search rules }
 
-pub returns-in_err-push-clause-asked : goal.returns-in_err-push-clause-asked
-returns-in_err-push-clause-asked g c = record { asks = ends_none c.from_residual-in_err-push.result c.from_residual-in_err-push.ensures.1 refl; sides = search rules }
+pub returns-in_err-push : goal.returns-in_err-push
+returns-in_err-push g c = record { asks = ends_none c.from_residual-in_err-push.result c.from_residual-in_err-push.ensures.1 refl; sides = search rules }
 
-pub returns-clause-asked : goal.returns-clause-asked
-returns-clause-asked g c = record {
+pub returns : goal.returns
+returns g c = record {
   asks =
       let store : Records = view c.store.inside in
       let call = beside_as c.args.ids.line (Resolve c.args.host) in
