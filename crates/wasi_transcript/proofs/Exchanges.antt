@@ -6,7 +6,7 @@ use Rattle.std.proofs.Math.Seq.{drop-append_seam}
 use Rattle.std.proofs.lemmas.List.{take_rest}
 use Rattle.wasi_world.specs.declared.call.Entry.{Entry}
 use Rattle.wasi_world.specs.declared.outcome.WasiSocketsCtx.{WasiSocketsCtx}
-use Rattle.wasi_world.specs.Asks.{Give, Reaches}
+use Rattle.wasi_world.specs.Asks.{Give, Reaches, Started}
 use Rattle.wasi_world.specs.Seen.{Seen}
 use Rattle.host_store.specs.declared.machine.Machine.{Machine}
 use Rattle.wasi_steps.specs.declared.reply.Reply.{Reply}
@@ -45,6 +45,15 @@ starved {next = next} {s = s} {reply = reply} spelled h = record {
   logged = record { log = h.passed.log; plan = h.passed.plan };
   closings = h.passed.closings;
   first = inr (s, spelled, (Give (reply, next), h.left));
+}
+
+-- memory ran out within the step, of whose calls these were made
+pub starved_within : {contexts : List WasiSocketsCtx} {m : Machine} {number : ℕ} {line : List ℕ} {s : Step} {old new : Seen} → step_of (length contexts) line ≡ Some s → Started (machine_asks contexts m number s) old new → Starved contexts m number line old new
+starved_within {s = s} spelled h = record {
+  calls = h.reached.entries;
+  logged = record { log = h.reached.passed.log; plan = h.reached.passed.plan };
+  closings = h.reached.passed.closings;
+  first = inr (s, spelled, (h.rest, h.reached.left));
 }
 
 pub starved_exit : {contexts : List WasiSocketsCtx} (s_old s_new : Progress) {line : List ℕ} {old new : Seen} {e : AllocError} (r : Result LineEnd AllocError) → IsErrAnd r (λ x. x ≡ e) → Starved contexts s_old.machine (s_old.lines + 1) line old new → LineDone contexts s_old s_new line old new r
