@@ -36,13 +36,13 @@ nothing : (rule : Rule) → None ≡ Some rule → ⊥
 nothing rule e = cc
 
 pub first_line : (rules : List Rule) (line k : ℕ) (rule : Rule) (address : IpSocketAddress) (asked : SocketAddrUse) → slice_get rules k ≡ Some rule → matches rule address asked ≡ true → IsFirst line k (decided_from line rules address asked).rule
-first_line [] line k rule address asked is yes = absurd (nothing rule is)
-first_line (r ∷ rules) line k rule address asked is yes = by_match (matches r address asked) refl (λ j there. first_line rules (line + 1) j rule address asked there yes) where
+first_line [] line k rule address asked is matched = absurd (nothing rule is)
+first_line (r ∷ rules) line k rule address asked is matched = by_match (matches r address asked) refl (λ j there. first_line rules (line + 1) j rule address asked there matched) where
   by_match : (b : Bool) → matches r address asked ≡ b → ((j : ℕ) → slice_get rules j ≡ Some rule → IsFirst (line + 1) j (decided_from (line + 1) rules address asked).rule) → IsFirst line k (decided_from line (r ∷ rules) address asked).rule
   by_match true e rest = rw e (record { low = omega arith; high = omega arith })
   by_match false e rest = rw e (by_place k is) where
     by_place : (j : ℕ) → slice_get (r ∷ rules) j ≡ Some rule → IsFirst line j (decided_from (line + 1) rules address asked).rule
-    by_place zero there = absurd (false≢true (sym e ∙ (ap (λ x. matches x address asked) (same_rule r rule there) ∙ yes)))
+    by_place zero there = absurd (false≢true (sym e ∙ (ap (λ x. matches x address asked) (same_rule r rule there) ∙ matched)))
     by_place (suc j) there =
         let more = rest j there in
         record { low = omega (arith, more.low); high = omega (arith, more.high) }
@@ -111,8 +111,8 @@ module _ (rules : List Rule) (asked : SocketAddrUse) (f : SocketAddressFamily) (
 
   pub look_taken : 0 < e.line → (later : ℕ) → e.line < later → DecidesNone rules later asked f number (last_of (range_of e.rule.net f) number) port e.rule.high
   look_taken some later behind n p other there low high least greatest decided = by_line is_named.there where
-    yes : matches e.rule other asked ≡ true
-    yes = from_parts e.rule asked f n p other there (record {
+    matched : matches e.rule other asked ≡ true
+    matched = from_parts e.rule asked f n p other there (record {
       about = parts.about;
       low = port_more e.rule.low port p parts.low least;
       high = port_below p e.rule.high greatest;
@@ -122,12 +122,12 @@ module _ (rules : List Rule) (asked : SocketAddrUse) (f : SocketAddressFamily) (
     by_line : (e.line ≡ 0) ⊎ ((1 ≤ e.line) × (slice_get rules (e.line - 1) ≡ Some e.rule)) → ⊥
     by_line (inl none) = omega (arith, none, some)
     by_line (inr (begins, stands)) =
-        let first = first_line rules 1 (e.line - 1) e.rule other asked stands yes in
+        let first = first_line rules 1 (e.line - 1) e.rule other asked stands matched in
         omega (arith, begins, first.high, behind, decided)
 
   pub look_first : e.line ≡ (decision rules address asked).rule → (line : ℕ) (rule : Rule) → 0 < line → slice_get rules (line - 1) ≡ Some rule → matches_there rule asked f number port ≡ true → (0 < e.line) × (e.line ≤ line)
-  look_first same line rule begins stands yes =
-      let first = first_line rules 1 (line - 1) rule address asked stands (matches_at rule asked f number port address at ∙ yes) in
+  look_first same line rule begins stands matched =
+      let first = first_line rules 1 (line - 1) rule address asked stands (matches_at rule asked f number port address at ∙ matched) in
       (omega (arith, first.low, same), omega (arith, first.high, same, begins))
 
 -- == the ports of a rule, one look after another
