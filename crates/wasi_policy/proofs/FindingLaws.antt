@@ -1,12 +1,12 @@
 -- Lists of lines, and of pairs of lines that conflict.
-use Rattle.std.specs.Prelude.{min, take}
-use Rattle.std.proofs.Common.{◌≡◌, ℕ, zero, suc, ◌+◌, ◌≤◌, ◌<◌, ◌⊎◌, inl, inr, Bool, true, false, List, [], ◌∷◌, ◌++◌, length, arith, ap, sym, ◌∙◌, refl, subst}
-use Rattle.std.specs.List.{All, Contains}
-use Rattle.std.proofs.lemmas.Bool.{cases_lt}
+use Rattle.std.specs.Prelude.{min, take, ◌-◌}
+use Rattle.std.proofs.Common.{◌≡◌, ℕ, zero, suc, ◌+◌, ◌≤◌, ◌<◌, ◌⊎◌, inl, inr, Bool, true, false, List, [], ◌∷◌, ◌++◌, Some, length, arith, ap, sym, ◌∙◌, refl, subst}
+use Rattle.std.specs.List.{slice_get, All, Contains}
+use Rattle.std.proofs.lemmas.Bool.{false≢true, cases_lt}
 use Rattle.std.proofs.lemmas.List.{length-append, length-take, take_all, take-append-le}
 use Rattle.std.proofs.lemmas.List.Elements.{All-nil, All-head, All-tail, All-push, All-weaker, Contains-append_left, Contains-push}
 use Rattle.wasi_policy.specs.declared.rule.Rule.{Rule}
-use Rattle.wasi_policy.specs.Findings.{Conflict, IsPairBefore, AreInOrder, AreBefore, AreConflicts}
+use Rattle.wasi_policy.specs.Findings.{Decides, IsShadowed, Overlap, IsUnmatched, Conflict, IsPairBefore, AreInOrder, AreBefore, AreConflicts}
 use Rattle.wasi_policy.specs.Overlaps.{Lists, Tally, Notes, NotesLine, Counted, Counts}
 
 -- == lists of lines
@@ -32,6 +32,18 @@ lines_more P Q before old new lists there line begins h = by_place (cases_lt bef
       let last : before + 1 ≡ line = omega (arith, e, h) in
       subst (λ l. Contains new l ⊎ Q l) last lists.there
   by_place (inr e) = kept (there line begins e)
+
+some_rule : (a b : Rule) → Some a ≡ Some b → a ≡ b
+some_rule a b e = cc
+
+pub unmatched_is : (rules : List Rule) (line : ℕ) (rule : Rule) (found : Bool) → slice_get rules (line - 1) ≡ Some rule → (Overlap rule rule → found ≡ true) → found ≡ false → IsUnmatched rules line
+unmatched_is rules line rule found is complete none m =
+    let same : m.rule ≡ rule = some_rule m.rule rule (sym m.rule_is ∙ is) in
+    false≢true (sym none ∙ complete (subst (λ r. Overlap r r) same m.some))
+
+pub shadowed_is : (rules : List Rule) (line : ℕ) (found : Bool) → (Decides rules line → found ≡ true) → found ≡ false → IsShadowed rules line
+shadowed_is rules line found complete none address asked fits decided =
+    false≢true (sym none ∙ complete (record { address = address; asked = asked; fits = fits; decided = decided }))
 
 -- == counts
 pub tally_push : (most : ℕ) (first : List (ℕ × ℕ)) (count : ℕ) (all : List (ℕ × ℕ)) (pair : ℕ × ℕ) → length first < most → Tally most first count all → Tally most (first ++ pair ∷ []) (min (count + 1) 18446744073709551615) (all ++ pair ∷ [])
@@ -223,7 +235,7 @@ pub counted_as : (most : ℕ) (first : List (ℕ × ℕ)) (count : ℕ) (P R : L
 counted_as most first count P R more one = record { all = one.all; tally = one.tally; holds = more one.all one.holds }
 
 pub counted_none : (rules : List Rule) (most : ℕ) → Counted most [] 0 (AreUpTo rules 0)
-counted_none rules most = record { all = []; tally = record { first_is = empty most; count_is = refl }; holds = are_none rules } where
-  empty : (n : ℕ) → [] ≡ take n []
+counted_none rules most = record { all = []; tally = record { first_is = empty most; count_is = omega arith }; holds = are_none rules } where
+  empty : (n : ℕ) → ◌≡◌ {A = List (ℕ × ℕ)} [] (take n [])
   empty zero = refl
   empty (suc n) = refl

@@ -9,4 +9,5 @@ pub mod Gathering
 pub mod PointLaws
 pub mod OverlapLaws
 pub mod DecidingLaws
+pub mod CoveringLaws
 pub mod FindingLaws

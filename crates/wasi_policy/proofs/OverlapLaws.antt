@@ -186,6 +186,14 @@ overlap_found one other f o is =
     (parts_of one o.asked f (ip_number (canonical (ip_of o.address))) (port_of o.address) o.address at o.one_matches)
     (parts_of other o.asked f (ip_number (canonical (ip_of o.address))) (port_of o.address) o.address at o.other_matches)
 
+-- no use is one of both
+pub no_use : (one other : Rule) → is_about other.usage (common_use one.usage other.usage) ≡ false → Overlap one other → ⊥
+no_use one other none o =
+    let at : IsAt (family_of (canonical (ip_of o.address))) (ip_number (canonical (ip_of o.address))) (port_of o.address) o.address = record { fits = o.fits; family_is = refl; number_is = refl; port_is = refl } in
+    let here = parts_of one o.asked (family_of (canonical (ip_of o.address))) (ip_number (canonical (ip_of o.address))) (port_of o.address) o.address at o.one_matches in
+    let there = parts_of other o.asked (family_of (canonical (ip_of o.address))) (ip_number (canonical (ip_of o.address))) (port_of o.address) o.address at o.other_matches in
+    false≢true (sym none ∙ (use_about one.usage other.usage o.asked here.about there.about).1)
+
 -- no port is one of both
 pub no_port : (one other : Rule) → nat_le (max one.low other.low) (min one.high other.high) ≡ false → Overlap one other → ⊥
 no_port one other none o =

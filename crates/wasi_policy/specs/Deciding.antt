@@ -1,7 +1,8 @@
 -- What a look at a rule says of the addresses behind it.
-use Rattle.std.specs.Prelude.{◌≡◌, ℕ, ◌+◌, ◌≤◌, ◌<◌, ◌^◌, ◌&&◌, nat_le, nat_lt, Bool, true, if◌then◌else◌, List, Option, Some, None}
+use Rattle.std.specs.Prelude.{◌≡◌, ℕ, ◌+◌, ◌≤◌, ◌<◌, ◌^◌, ◌&&◌, nat_le, nat_lt, Bool, true, false, if◌then◌else◌, List, Option, Some, None}
 use Rattle.wasi_addr.specs.declared.address.IpSocketAddress.{IpSocketAddress}
 use Rattle.wasi_addr.specs.declared.address.SocketAddressFamily.{SocketAddressFamily}
+use Rattle.wasi_addr.specs.declared.address.SocketAddressFamily.TheVariants as family
 use Rattle.wasi_addr.specs.declared.address.SocketAddrUse.{SocketAddrUse}
 use Rattle.wasi_policy.specs.declared.rule.Rule.{Rule}
 use Rattle.wasi_policy.specs.Decision.{decision, is_about}
@@ -18,6 +19,25 @@ last_of (Some (low, high)) other = high
 abbrev pub matches_there : Rule → SocketAddrUse → SocketAddressFamily → ℕ → ℕ → Bool
 matches_there rule asked family number port =
     is_about rule.usage asked && nat_le rule.low port && nat_le port rule.high && in_range (range_of rule.net family) number
+
+-- a rule of the first use is about all that one of the second is
+abbrev pub holds_use : Option SocketAddrUse → Option SocketAddrUse → Bool
+holds_use None None = true
+holds_use (Some asked) None = false
+holds_use one (Some asked) = is_about one asked
+
+-- the first range has all numbers of the second
+abbrev pub holds_range : Option (ℕ × ℕ) → Option (ℕ × ℕ) → Bool
+holds_range one None = true
+holds_range None (Some other) = false
+holds_range (Some (low, high)) (Some (least, greatest)) = nat_le low least && nat_le greatest high
+
+-- the first rule matches all that the second does
+abbrev pub covers : Rule → Rule → Bool
+covers one other =
+    nat_le one.low other.low && nat_le other.high one.high && holds_use one.usage other.usage
+    && holds_range (range_of one.net family.Ipv4) (range_of other.net family.Ipv4)
+    && holds_range (range_of one.net family.Ipv6) (range_of other.net family.Ipv6)
 
 -- the rule of a line decides none of the addresses from one number to another, at none of the ports from one to another
 abbrev pub DecidesNone : List Rule → ℕ → SocketAddrUse → SocketAddressFamily → ℕ → ℕ → ℕ → ℕ → Type 0

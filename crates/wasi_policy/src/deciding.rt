@@ -3,9 +3,10 @@
 //! What a rule matches is looked at from its first address on, at its ports. The rule that decides a
 //! look, if it stands before, takes all from there on to its own last port and its own last address.
 //! So the next look is behind that port, and once no port is left, behind the first of those last
-//! addresses.
+//! addresses. Before that its first address and port are looked at alone, and whether one rule before
+//! it matches all that it does.
 
-ghost use Rattle.std.specs.Prelude.{◌≡◌, ◌≤◌, ◌<◌, ◌-◌, ℕ, All, Some, None, IfSome, true, false};
+ghost use Rattle.std.specs.Prelude.{◌≡◌, ◌≤◌, ◌<◌, ◌-◌, ℕ, All, Some, None, IfSome, true, false, length};
 ghost use Rattle.std.specs.List.{slice_get};
 ghost use Rattle.wasi_policy.specs.declared.rule.Rule.{Rule};
 ghost use Rattle.wasi_policy.specs.Decision.{is_about};
@@ -15,6 +16,7 @@ ghost use Rattle.wasi_policy.specs.Findings.{Decides};
 ghost use Rattle.wasi_policy.specs.Deciding.{last_of, matches_there, DecidesNone};
 ghost use Rattle.wasi_policy.specs.Deciding.{NeverIn, NeverOf, canonical_behind};
 
+use crate::covering::is_covered;
 use crate::decide::is_about;
 use crate::overlap::canonical_from;
 use crate::points::address_at;
@@ -181,13 +183,39 @@ fn decides_any(policy: &Policy, line: u32, rule: &Rule, uses: &[SocketAddrUse]) 
     false
 }
 
-/// Whether the rule of a line decides some use of some address. Takes no memory. It looks at the
-/// rules before it that match the same, until it finds something that is left.
+/// Whether the rule of a line decides at the first address of a family that it matches, at its first
+/// port.
+fn decides_first(policy: &Policy, line: u32, rule: &Rule, family: SocketAddressFamily) -> bool
+    ensures { result ≡ true → Decides policy.now line }
+{
+    let Some((low, _)) = range_of(rule.net, family) else {
+        return false;
+    };
+    let Some(number) = canonical_from(family, low) else {
+        return false;
+    };
+    let usage = rule.usage.unwrap_or(SocketAddrUse::TcpBind);
+    look(policy, usage, family, number, rule.low).line == line
+}
+
+/// Whether the rule of a line decides some use of some address. Takes no memory. Mostly its first
+/// address and port are left to it, or one rule before it matches all that it does; otherwise it looks
+/// at what the rules before it decide of that, until it finds something that is left.
 pub fn decides(policy: &Policy, line: u32, rule: &Rule) -> bool
     requires begins { 0 < line }
+    requires within { line ≤ length policy.now }
     requires rule { slice_get policy.now (line - 1) ≡ Some rule.now }
     ensures sound { result ≡ true → Decides policy.now line }
     ensures complete { Decides policy.now line → result ≡ true }
 {
+    if decides_first(policy, line, rule, SocketAddressFamily::Ipv4) {
+        return true;
+    }
+    if decides_first(policy, line, rule, SocketAddressFamily::Ipv6) {
+        return true;
+    }
+    if is_covered(policy.rules(), line, rule) {
+        return false;
+    }
     decides_any(policy, line, rule, &USES)
 }

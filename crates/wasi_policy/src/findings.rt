@@ -1,8 +1,9 @@
 //! What is odd about rules: those that match nothing, those that decide nothing, and those that say
 //! otherwise than one before them.
 
-ghost use Rattle.std.specs.Prelude.{◌≡◌, ◌+◌, ◌<◌, ◌≤◌, ◌⊎◌, ◌^◌, ℕ};
-ghost use Rattle.std.specs.Prelude.{All, Contains, IfOk, OnOk, length};
+ghost use Rattle.std.specs.Prelude.{◌≡◌, ◌+◌, ◌-◌, ◌<◌, ◌≤◌, ◌⊎◌, ◌^◌, ℕ};
+ghost use Rattle.std.specs.Prelude.{All, Contains, IfOk, OnOk, Some, length};
+ghost use Rattle.std.specs.List.{slice_get};
 ghost use Rattle.wasi_policy.specs.Findings.{Decides, IsShadowed, Matches, IsUnmatched, AreConflicts};
 ghost use Rattle.wasi_policy.specs.Overlaps.{Lists, Counted, Counts, Notes, NotesLine};
 
@@ -21,6 +22,15 @@ pub struct Conflicts {
     pub count: u64,
 }
 
+/// The rule of a line.
+fn rule_of(rules: &[Rule], line: u32) -> &Rule
+    requires begins { 0 < line }
+    requires within { line ≤ length rules.now }
+    ensures { slice_get rules.now (line - 1) ≡ Some result.now }
+{
+    &rules[line as usize - 1]
+}
+
 /// Adds a line, if its rule matches nothing.
 fn note_unmatched(lines: &mut Vec<u32>, policy: &Policy, line: u32) -> Result<(), AllocError>
     requires begins { 0 < line }
@@ -28,8 +38,8 @@ fn note_unmatched(lines: &mut Vec<u32>, policy: &Policy, line: u32) -> Result<()
     ensures { OnOk result (Lists (λ k. (0 < k) × (k ≤ length policy.now)
         × IsUnmatched policy.now k) (Matches policy.now) line lines.old.items lines.new.items) }
 {
-    let rule = policy.rules()[line as usize - 1];
-    if overlap(&rule, &rule) {
+    let rule = rule_of(policy.rules(), line);
+    if overlap(rule, rule) {
         return Ok(());
     }
     lines.push(line)?;
@@ -45,8 +55,8 @@ fn note_shadowed(lines: &mut Vec<u32>, policy: &Policy, line: u32) -> Result<(),
         (λ k. Decides policy.now k ⊎ IsUnmatched policy.now k) line lines.old.items
         lines.new.items) }
 {
-    let rule = policy.rules()[line as usize - 1];
-    if !overlap(&rule, &rule) || decides(policy, line, &rule) {
+    let rule = rule_of(policy.rules(), line);
+    if !overlap(rule, rule) || decides(policy, line, rule) {
         return Ok(());
     }
     lines.push(line)?;
@@ -68,15 +78,14 @@ fn note(
     ensures { OnOk result (Counts most conflicts.old.first.items conflicts.old.count
         conflicts.new.first.items conflicts.new.count (Notes rules.now line later)) }
 {
-    let one = rules[line as usize - 1];
-    let other = rules[later as usize - 1];
-    if !disagree(&one, &other) {
+    if !disagree(rule_of(rules, line), rule_of(rules, later)) {
         return Ok(());
     }
-    if conflicts.first.len() < most {
-        conflicts.first.push((line, later))?;
-    }
     conflicts.count = conflicts.count.saturating_add(1);
+    if conflicts.first.len() >= most {
+        return Ok(());
+    }
+    conflicts.first.push((line, later))?;
     Ok(())
 }
 

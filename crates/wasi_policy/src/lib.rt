@@ -3,6 +3,7 @@
 #![tactic(auto)]
 
 pub mod cells;
+pub mod covering;
 pub mod decide;
 pub mod deciding;
 pub mod denied;

@@ -2,12 +2,12 @@
 
 ghost use Rattle.std.specs.Prelude.{◌≡◌, ◌&&◌, ◌≢◌, true, nat_le, max, min};
 ghost use Rattle.wasi_addr.specs.Address.{canonical, ip_of};
-ghost use Rattle.wasi_policy.specs.Decision.{matches, allows};
+ghost use Rattle.wasi_policy.specs.Decision.{matches, allows, is_about};
 ghost use Rattle.wasi_policy.specs.Reach.{family_of, range_of};
 ghost use Rattle.wasi_policy.specs.Findings.{Overlap};
 ghost use Rattle.wasi_policy.specs.Overlaps.{canonical_from, at_most, first_common, common_use};
 
-use crate::decide::{allows, matches};
+use crate::decide::{allows, is_about, matches};
 use crate::points::{AFTER_MAPPED, address_at, is_canonical};
 use crate::reach::range_of;
 use crate::rule::{Net, Rule};
@@ -43,13 +43,6 @@ fn first_common(one: Net, other: Net, family: SocketAddressFamily) -> Option<u12
     at_most(high.min(greatest), canonical_from(family, low.max(least)))
 }
 
-/// Whether a port is one of both rules.
-fn share_port(one: &Rule, other: &Rule) -> bool
-    ensures { result ≡ nat_le (max one.now.low other.now.low) (min one.now.high other.now.high) }
-{
-    one.low.max(other.low) <= one.high.min(other.high)
-}
-
 /// A use that both are about, if there is one.
 fn common_use(one: Option<SocketAddrUse>, other: Option<SocketAddrUse>) -> SocketAddrUse
     ensures { result ≡ common_use one other }
@@ -59,6 +52,20 @@ fn common_use(one: Option<SocketAddrUse>, other: Option<SocketAddrUse>) -> Socke
         (None, Some(usage)) => usage,
         (None, None) => SocketAddrUse::TcpBind,
     }
+}
+
+/// Whether both rules are about a use.
+fn share_use(one: &Rule, other: &Rule) -> bool
+    ensures { result ≡ is_about other.now.usage (common_use one.now.usage other.now.usage) }
+{
+    is_about(other.usage, common_use(one.usage, other.usage))
+}
+
+/// Whether a port is one of both rules.
+fn share_port(one: &Rule, other: &Rule) -> bool
+    ensures { result ≡ nat_le (max one.now.low other.now.low) (min one.now.high other.now.high) }
+{
+    one.low.max(other.low) <= one.high.min(other.high)
 }
 
 /// Whether both rules match this use of this address.
@@ -99,7 +106,10 @@ pub fn disagree(one: &Rule, other: &Rule) -> bool
     ensures complete { allows one.now.action ≢ allows other.now.action
         → Overlap one.now other.now → result ≡ true }
 {
-    if allows(one.action) == allows(other.action) || !share_port(one, other) {
+    if allows(one.action) == allows(other.action) {
+        return false;
+    }
+    if !share_port(one, other) || !share_use(one, other) {
         return false;
     }
     overlap(one, other)
