@@ -2,7 +2,7 @@
 use Rattle.std.specs.Prelude.{nat_le, ◌&&◌, ◌-◌, ◌==◌}
 use Rattle.std.proofs.Common.{◌≡◌, ℕ, ◌+◌, ◌≤◌, ◌<◌, Bool, true, false, List, Option, Some, None, arith, ap, sym, ◌∙◌, refl}
 use Rattle.std.specs.List.{slice_get}
-use Rattle.std.proofs.lemmas.Bool.{false≢true, and_parts}
+use Rattle.std.proofs.lemmas.Bool.{false≢true}
 use Rattle.std.proofs.lemmas.Bool.Decides.{nat_tests}
 use Rattle.wasi_addr.specs.declared.address.IpSocketAddress.{IpSocketAddress}
 use Rattle.wasi_addr.specs.declared.address.SocketAddressFamily.{SocketAddressFamily}
@@ -39,13 +39,17 @@ record IsCovered (one other : Rule) : Type 0 where
   about : holds_use one.usage other.usage ≡ true
   within : (f : SocketAddressFamily) → holds_range (range_of one.net f) (range_of other.net f) ≡ true
 
+five : (a b c d e : Bool) → (a && b && c && d && e) ≡ true → (a ≡ true) × (b ≡ true) × (c ≡ true) × (d ≡ true) × (e ≡ true)
+five true true true true e h = (refl, refl, refl, refl, h)
+five true true true false e h = absurd (false≢true h)
+five true true false d e h = absurd (false≢true h)
+five true false c d e h = absurd (false≢true h)
+five false b c d e h = absurd (false≢true h)
+
 covered_parts : (one other : Rule) → covers one other ≡ true → IsCovered one other
 covered_parts one other h =
-    let low = and_parts (nat_le one.low other.low) _ h in
-    let high = and_parts (nat_le other.high one.high) _ low.1 in
-    let about = and_parts (holds_use one.usage other.usage) _ high.1 in
-    let nets = and_parts (holds_range (range_of one.net family.Ipv4) (range_of other.net family.Ipv4)) _ about.1 in
-    record { low = low.0; high = high.0; about = about.0; within = by_family nets.0 nets.1 }
+    let parts = five (nat_le one.low other.low) (nat_le other.high one.high) (holds_use one.usage other.usage) (holds_range (range_of one.net family.Ipv4) (range_of other.net family.Ipv4)) (holds_range (range_of one.net family.Ipv6) (range_of other.net family.Ipv6)) h in
+    record { low = parts.0; high = parts.1; about = parts.2; within = by_family parts.3 parts.4 }
   where
     by_family : holds_range (range_of one.net family.Ipv4) (range_of other.net family.Ipv4) ≡ true → holds_range (range_of one.net family.Ipv6) (range_of other.net family.Ipv6) ≡ true → (f : SocketAddressFamily) → holds_range (range_of one.net f) (range_of other.net f) ≡ true
     by_family ipv4 ipv6 family.Ipv4 = ipv4

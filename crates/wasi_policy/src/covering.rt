@@ -6,7 +6,7 @@ ghost use Rattle.wasi_policy.specs.Reach.{range_of};
 ghost use Rattle.wasi_policy.specs.Findings.{Decides};
 ghost use Rattle.wasi_policy.specs.Deciding.{holds_use, holds_range, covers};
 
-use crate::decide::is_about;
+use crate::decide::{is_about, rule_of};
 use crate::reach::range_of;
 use crate::rule::{Net, Rule};
 use wasi_addr::{SocketAddrUse, SocketAddressFamily};
@@ -52,8 +52,8 @@ pub fn is_covered(rules: &[Rule], line: u32, rule: &Rule) -> bool
     requires rule { slice_get rules.now (line - 1) ≡ Some rule.now }
     ensures { result ≡ true → Decides rules.now line → ⊥ }
 {
-    for before in 0..line - 1 {
-        if covers(&rules[before as usize], rule) {
+    for earlier in 1..line {
+        if covers(rule_of(rules, earlier), rule) {
             return true;
         }
     }

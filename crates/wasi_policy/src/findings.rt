@@ -1,12 +1,12 @@
 //! What is odd about rules: those that match nothing, those that decide nothing, and those that say
 //! otherwise than one before them.
 
-ghost use Rattle.std.specs.Prelude.{◌≡◌, ◌+◌, ◌-◌, ◌<◌, ◌≤◌, ◌⊎◌, ◌^◌, ℕ};
-ghost use Rattle.std.specs.Prelude.{All, Contains, IfOk, OnOk, Some, length};
-ghost use Rattle.std.specs.List.{slice_get};
+ghost use Rattle.std.specs.Prelude.{◌≡◌, ◌+◌, ◌<◌, ◌≤◌, ◌⊎◌, ◌^◌, ℕ};
+ghost use Rattle.std.specs.Prelude.{All, Contains, IfOk, OnOk, length};
 ghost use Rattle.wasi_policy.specs.Findings.{Decides, IsShadowed, Matches, IsUnmatched, AreConflicts};
 ghost use Rattle.wasi_policy.specs.Overlaps.{Lists, Counted, Counts, Notes, NotesLine};
 
+use crate::decide::rule_of;
 use crate::deciding::decides;
 use crate::overlap::{disagree, overlap};
 use crate::policy::Policy;
@@ -20,15 +20,6 @@ pub struct Conflicts {
     pub first: Vec<(u32, u32)>,
     /// How many there are; `u64::MAX` where there are more than that.
     pub count: u64,
-}
-
-/// The rule of a line.
-fn rule_of(rules: &[Rule], line: u32) -> &Rule
-    requires begins { 0 < line }
-    requires within { line ≤ length rules.now }
-    ensures { slice_get rules.now (line - 1) ≡ Some result.now }
-{
-    &rules[line as usize - 1]
 }
 
 /// Adds a line, if its rule matches nothing.
