@@ -1,16 +1,15 @@
 -- A rule that matches all that a later one does leaves nothing to it.
 use Rattle.std.specs.Prelude.{nat_le, ◌&&◌, ◌-◌, ◌==◌}
-use Rattle.std.proofs.Common.{◌≡◌, ℕ, ◌+◌, ◌≤◌, ◌<◌, Bool, true, false, List, Option, Some, None, arith, ap, sym, ◌∙◌, refl}
+use Rattle.std.proofs.Common.{◌≡◌, ℕ, ◌<◌, Bool, true, false, List, Option, Some, None, arith, refl}
 use Rattle.std.specs.List.{slice_get}
 use Rattle.std.proofs.lemmas.Bool.{false≢true}
 use Rattle.std.proofs.lemmas.Bool.Decides.{nat_tests}
-use Rattle.wasi_addr.specs.declared.address.IpSocketAddress.{IpSocketAddress}
 use Rattle.wasi_addr.specs.declared.address.SocketAddressFamily.{SocketAddressFamily}
 use Rattle.wasi_addr.specs.declared.address.SocketAddressFamily.TheVariants as family
 use Rattle.wasi_addr.specs.declared.address.SocketAddrUse.{SocketAddrUse}
 use Rattle.wasi_addr.specs.Address.{canonical, ip_of, port_of}
 use Rattle.wasi_policy.specs.declared.rule.Rule.{Rule}
-use Rattle.wasi_policy.specs.Decision.{is_about, matches, use_place, decision}
+use Rattle.wasi_policy.specs.Decision.{is_about, use_place}
 use Rattle.wasi_policy.specs.Reach.{family_of, ip_number, range_of}
 use Rattle.wasi_policy.specs.Points.{in_range, IsAt}
 use Rattle.wasi_policy.specs.Findings.{Decides}

@@ -1,5 +1,5 @@
 -- What a look says of the addresses behind it.
-use Rattle.std.specs.Prelude.{nat_le, nat_lt, min, ◌&&◌, ◌-◌, ◌^◌, if◌then◌else◌}
+use Rattle.std.specs.Prelude.{nat_le, nat_lt, min, ◌&&◌, ◌-◌, ◌^◌}
 use Rattle.std.proofs.Common.{◌≡◌, ℕ, zero, suc, ◌+◌, ◌≤◌, ◌<◌, ◌⊎◌, inl, inr, Bool, true, false, List, [], ◌∷◌, Option, Some, None, length, get_or, arith, ap, sym, ◌∙◌, refl, subst}
 use Rattle.std.specs.List.{slice_get, Contains}
 use Rattle.std.proofs.lemmas.Bool.{false≢true, cases_lt}
@@ -20,9 +20,9 @@ use Rattle.wasi_policy.specs.Reach.{family_of, ip_number, range_of}
 use Rattle.wasi_policy.specs.Points.{is_canonical, in_range, IsAt}
 use Rattle.wasi_policy.specs.Overlaps.{after_mapped, canonical_from}
 use Rattle.wasi_policy.specs.Findings.{Decides}
-use Rattle.wasi_policy.specs.Deciding.{last_of, matches_there, DecidesNone, canonical_behind, IsBefore, NeverBefore, NeverIn, NeverOf}
+use Rattle.wasi_policy.specs.Deciding.{last_of, matches_there, DecidesNone, canonical_behind, NeverBefore, NeverIn, NeverOf}
 use Rattle.wasi_policy.proofs.PointLaws.{has_number, matches_at}
-use Rattle.wasi_policy.proofs.OverlapLaws.{FoundFrom, from_there, from_canonical, IsMatched, parts_of, from_parts}
+use Rattle.wasi_policy.proofs.OverlapLaws.{from_there, IsMatched, parts_of, from_parts}
 
 -- == the line that decides isn't behind one that matches
 pub record IsFirst (line k found : ℕ) : Type 0 where

@@ -1,6 +1,6 @@
 -- Two rules overlap where both match the first address that both may match.
-use Rattle.std.specs.Prelude.{nat_le, nat_lt, max, min, ◌&&◌, ◌||◌, ◌==◌, if◌then◌else◌}
-use Rattle.std.proofs.Common.{◌≡◌, ℕ, zero, suc, ◌+◌, ◌-◌, ◌≤◌, ◌<◌, Bool, true, false, List, [], ◌∷◌, Option, Some, None, length, get_or, arith, ap, sym, ◌∙◌, refl, subst}
+use Rattle.std.specs.Prelude.{nat_le, nat_lt, max, min, ◌&&◌, ◌==◌}
+use Rattle.std.proofs.Common.{◌≡◌, ℕ, ◌≤◌, Bool, true, false, Option, Some, None, arith, ap, sym, ◌∙◌, refl, subst}
 use Rattle.std.proofs.lemmas.Bool.{false≢true, and_parts}
 use Rattle.std.proofs.lemmas.Bool.Decides.{nat_tests}
 use Rattle.wasi_addr.specs.declared.address.IpSocketAddress.{IpSocketAddress}

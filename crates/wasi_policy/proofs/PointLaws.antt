@@ -1,6 +1,6 @@
 -- Addresses and their numbers.
-use Rattle.std.specs.Prelude.{nat_le, nat_lt, ◌&&◌, ◌||◌, ◌==◌, ◌/◌, ◌%◌, ◌*◌, ◌^◌}
-use Rattle.std.proofs.Common.{◌≡◌, ℕ, ◌+◌, ◌≤◌, ◌<◌, Bool, true, false, List, Option, Some, None, length, arith, ap, sym, ◌∙◌, refl}
+use Rattle.std.specs.Prelude.{nat_le, nat_lt, ◌&&◌, ◌==◌, ◌/◌, ◌%◌, ◌^◌}
+use Rattle.std.proofs.Common.{◌≡◌, ℕ, ◌≤◌, ◌<◌, Bool, true, false, arith, ap, sym, ◌∙◌, refl}
 use Rattle.std.proofs.lemmas.Bool.{false≢true, or_parts}
 use Rattle.std.proofs.lemmas.Bool.Decides.{nat_tests}
 use Rattle.wasi_addr.specs.declared.address.IpAddress.{IpAddress}
@@ -11,9 +11,9 @@ use Rattle.wasi_addr.specs.declared.address.SocketAddressFamily.{SocketAddressFa
 use Rattle.wasi_addr.specs.declared.address.SocketAddressFamily.TheVariants as family
 use Rattle.wasi_addr.specs.declared.address.SocketAddrUse.{SocketAddrUse}
 use Rattle.wasi_addr.specs.Address.{canonical, ip_of, port_of, starts_zero}
-use Rattle.world_text.specs.Written.{FitsIp, FitsIpv4, FitsIpv6, FitsAddress}
+use Rattle.world_text.specs.Written.{FitsIp, FitsIpv6, FitsAddress}
 use Rattle.wasi_policy.specs.declared.rule.Rule.{Rule}
-use Rattle.wasi_policy.specs.Decision.{ipv4_number, ipv6_number, is_about, is_in, matches}
+use Rattle.wasi_policy.specs.Decision.{ipv4_number, ipv6_number, is_about, matches}
 use Rattle.wasi_policy.specs.Reach.{family_of, ip_number, range_of}
 use Rattle.wasi_policy.specs.Points.{is_canonical, in_range, IsAt}
 use Rattle.wasi_policy.proofs.ReachLaws.{range_is}

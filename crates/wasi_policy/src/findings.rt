@@ -117,8 +117,9 @@ impl Policy {
 
     /// The lines of the rules that match something and decide no use of any address, in order: rules
     /// before them decide all that they match, alone or several together. Takes memory for them. A
-    /// rule costs a look, where its first address and port are left to it, and otherwise a look for
-    /// each rule before it that takes some of the rest.
+    /// rule costs a look or two, where its first address and port are left to it; a test of each rule
+    /// before it, where one of these matches all that it does; and otherwise a look for each rule
+    /// before it that takes some of the rest.
     pub fn shadowed(&self, alloc: Global) -> Result<Vec<u32>, AllocError>
         ensures sound { IfOk result (λ lines. All (λ line. IsShadowed self.now line) lines.items) }
         ensures matched { IfOk result (λ lines. All (λ line. Matches self.now line) lines.items) }

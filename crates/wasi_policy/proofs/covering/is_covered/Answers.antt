@@ -1,4 +1,4 @@
-use Rattle.std.proofs.Common.{◌≡◌, ◌<◌, ◌-◌, true, arith, rules}
+use Rattle.std.proofs.Common.{◌≡◌, ◌<◌, ◌-◌, true, rules}
 use Rattle.wasi_policy.specs.Deciding.{covers}
 use Rattle.wasi_policy.proofs.CoveringLaws.{covered_never}
 use Rattle.wasi_policy.proofs.covering.is_covered.Goals as goal

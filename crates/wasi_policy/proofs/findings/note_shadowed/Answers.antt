@@ -1,4 +1,3 @@
-use Rattle.std.proofs.Common.{refl}
 use Rattle.wasi_policy.proofs.FindingLaws.{lists_push, shadowed_is}
 use Rattle.wasi_policy.proofs.findings.note_shadowed.Goals as goal
 

@@ -1,5 +1,3 @@
-use Rattle.std.proofs.Common.{ℕ, ◌<◌, ◌≤◌, length}
-use Rattle.wasi_policy.specs.Findings.{IsShadowed, Matches}
 use Rattle.wasi_policy.proofs.FindingLaws.{lines_more}
 use Rattle.wasi_policy.proofs.policy.Policy.shadowed.Goals as goal
 
