@@ -235,7 +235,7 @@ usage: kaxtubor live LIMIT PORT..             runs the script on standard input,
 
 Before these words, in this order, may stand:
        --any-address                 every address may be used, in place of this machine's own alone
-       --wait                        a look that was pending waits without limit when it is made again
+       --wait                        a line whose looks were pending before waits for them without limit
        --hosts HOSTS                 lookups find the names of the file HOSTS
 
 Sockets of TCP and UDP may be bound to, listen on, connect to and send to 127.0.0.0/8 and ::1 with the named ports alone;
@@ -253,9 +253,10 @@ HOSTS has the form of the system's file /etc/hosts: on each line an address and 
 The log has each call on the check and the network with its answer. kaxtubor replay and kaxtubor draw read such a log, as
 log.txt in this folder; their --help has its form.
 
-The script's lines are those of kaxtubor run; its --help lists them. A look for a connection, for bytes, for room
-or for the end of a connect (tcp-accept, ready, tcp-finish-connect) waits for about a second at most, without using the
-processor. After --wait it answers at once, and made again it waits until something that was pending may go on.
+The script's lines are those of kaxtubor run; its --help lists them. A line that looks for a connection, for bytes, for
+room, for a datagram or for the end of a connect (tcp-accept, ready, poll-list, poll, turn, tcp-finish-connect) waits once,
+for all that it looks at, until one of them may go on: for about a second at most, without using the processor. After --wait
+it answers at once, and where all that a line looks at was pending before, it waits until one of them may go on.
 The hop-limit of an IPv6 socket is not-supported.
 
 The program ends with 0, or prints its status on standard error, with what is wrong, and ends with it:

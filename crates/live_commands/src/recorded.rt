@@ -3,13 +3,14 @@
 ghost use Rattle.live_commands.specs.Recorded.{EndsRecorded};
 
 use crate::script::{Setup, contexts};
+use crate::waits_before::WaitsBefore;
 use recorder_commands::RecorderStatus;
 use recorder_commands::recording::{keep_log, place_after, status_after};
 use std::alloc::Global;
 use std::net::Net;
 use wasi_program::Status;
 use wasi_replay::RecordingWorld;
-use wasi_run::run_script;
+use wasi_run::run_script_with;
 use world_io::{Sink, Source};
 
 /// Runs the script that the source gives over the system's sockets, and then writes the log of the
@@ -39,7 +40,16 @@ where
     };
     let network = network.world(rt, alloc);
     let mut world = RecordingWorld::new(alloc, network);
-    let outcome = run_script(alloc, &mut world, &mut contexts, limit, source, sink);
+    let mut before = WaitsBefore::new(alloc);
+    let outcome = run_script_with(
+        alloc,
+        &mut world,
+        &mut contexts,
+        limit,
+        source,
+        sink,
+        &mut before,
+    );
     let written = keep_log(
         alloc,
         outcome,

@@ -9,6 +9,7 @@ use crate::replay_world::count_code;
 use std::alloc::{AllocError, Global};
 use wasi_addr::IpSocketAddress;
 use wasi_decides::Decides;
+use wasi_looks::{Look, WaitsForLooks};
 use wasi_world::{Call, Entry, Octets, OpId, Sock, Told, Waits, World};
 
 /// A world round another one that reports no log, as one over the system's sockets. It hands every
@@ -249,6 +250,16 @@ impl<W: World> World for RecordingWorld<W> {
 impl<W: Waits> Waits for RecordingWorld<W> {
     fn wait(&mut self, timeout: i32) -> bool {
         self.inner.wait(timeout)
+    }
+}
+
+impl<W: WaitsForLooks> WaitsForLooks for RecordingWorld<W> {
+    fn wait_for(&mut self, looks: &[Look]) -> bool {
+        self.inner.wait_for(looks)
+    }
+
+    fn let_looks_wait(&mut self, waits: bool) {
+        self.inner.let_looks_wait(waits);
     }
 }
 
