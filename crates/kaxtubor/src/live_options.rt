@@ -3,13 +3,22 @@
 ghost use Rattle.std.specs.Prelude.{◌≡◌};
 ghost use Rattle.std.specs.Process.{exit_status};
 
-use live_commands::Options;
 use std::fmt::{self, Display, Formatter, Write};
 use std::process::ExitCode;
 use wasi_program::Status;
 
 /// The options, in the order in which they stand.
-const OPTIONS: [&str; 5] = ["--any-address", "--wait", "--hosts", "--policy", "--record"];
+const OPTIONS: [&str; 6] = [
+    "--any-address",
+    "--wait",
+    "--hosts",
+    "--policy",
+    "--record",
+    "--force",
+];
+
+/// Those that have a file behind them.
+const WITH_FILE: [&str; 3] = ["--hosts", "--policy", "--record"];
 
 /// What is wrong.
 #[derive(Clone, Copy)]
@@ -20,8 +29,6 @@ pub enum OptionFault<'a> {
     NoFile(&'a str),
     /// It stands behind one that it has to stand before, or twice.
     Order(&'a str),
-    /// `--record` stands beside `--policy`.
-    Both,
 }
 
 impl Display for OptionFault<'_> {
@@ -32,34 +39,26 @@ impl Display for OptionFault<'_> {
             OptionFault::Order(word) => {
                 write!(
                     f,
-                    "`{word}` stands too late: the options stand once each, in the order --any-address, --wait, --hosts HOSTS, --policy RULES, --record LOG"
+                    "`{word}` stands too late: the options stand once each, in the order --any-address, --wait, --hosts HOSTS, --policy RULES, --record LOG, --force"
                 )
             }
-            OptionFault::Both => write!(
-                f,
-                "--record can't go with --policy: no log is written under rules"
-            ),
         }
     }
 }
 
 /// What is wrong with the options, behind which these words are left.
-pub fn option_fault<'a>(options: Options<'a>, words: &'a [String]) -> Option<OptionFault<'a>> {
+pub fn option_fault<'a>(words: &'a [String]) -> Option<OptionFault<'a>> {
     let Some((first, rest)) = words.split_first() else {
         return None;
     };
     let word = first.as_str();
     if !word.starts_with("--") {
-        return match (options.rules, options.log) {
-            (Some(_), Some(_)) => Some(OptionFault::Both),
-            _ => None,
-        };
+        return None;
     }
     if !OPTIONS.iter().any(|option| *option == word) {
         return Some(OptionFault::Unknown(word));
     }
-    let takes_file = word != "--any-address" && word != "--wait";
-    if takes_file && rest.is_empty() {
+    if rest.is_empty() && WITH_FILE.iter().any(|option| *option == word) {
         Some(OptionFault::NoFile(word))
     } else {
         Some(OptionFault::Order(word))

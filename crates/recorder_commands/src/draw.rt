@@ -30,7 +30,7 @@ fn draw_entries<K: Sink>(
     }
 }
 
-/// Reads a log, and draws the part of its entries.
+/// Reads a log, whole or cut, and draws the part of its entries.
 pub fn draw_log<L: Source, K: Sink>(
     alloc: Global,
     part: Part,
@@ -42,7 +42,7 @@ pub fn draw_log<L: Source, K: Sink>(
     ensures log { result.log.items ≡ [] }
 {
     match read_log(alloc, log_in) {
-        FoundLog::Read(_, entries) => {
+        FoundLog::Read(_, entries) | FoundLog::Cut(_, entries) => {
             let status = draw_entries(alloc, entries.as_slice(), part, sink);
             return Ended::without_log(alloc, status, 0);
         }

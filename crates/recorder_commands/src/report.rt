@@ -14,6 +14,9 @@ use world_io::FileSource;
 const LOG_LINES: &str =
     "`context yes yes yes 100`, an entry such as `3 0 bind 2 0 4 127 0 0 1 80 = done`, or the last line `end`, ended by a newline, in a file of at most 4294967294 bytes";
 
+/// How many bytes a log has at most that is read.
+const MOST_LOG: u64 = 16_777_216;
+
 /// Prints that the log has this bad line. Returns the status as the program's.
 pub fn end_at_log_line<R: Eprint + Files>(rt: &R, number: u8, line: u32) -> ExitCode
     ensures { exit_status result ≡ number }
@@ -32,6 +35,31 @@ pub fn end_without_log<R: Eprint>(rt: &R, number: u8, path: &str) -> ExitCode
     ensures { exit_status result ≡ number }
 {
     let printed = eprintln!(rt; "status {number}\n{path} can't be opened, read or written");
+    let _ = printed;
+    ExitCode::from(number)
+}
+
+/// Prints that there is a file at this path, which isn't overwritten. Returns the status as the
+/// program's.
+pub fn end_at_log_file<R: Eprint>(rt: &R, number: u8, path: &str) -> ExitCode
+    ensures { exit_status result ≡ number }
+{
+    let printed = eprintln!(rt;
+        "status {number}\n{path} is there, and was left as it is; --force behind it overwrites it"
+    );
+    let _ = printed;
+    ExitCode::from(number)
+}
+
+/// Prints that the log was cut, and that the replies up to there were written. Returns the status as
+/// the program's.
+pub fn end_at_cut<R: Eprint>(rt: &R, number: u8) -> ExitCode
+    ensures { exit_status result ≡ number }
+{
+    let path = log_path();
+    let printed = eprintln!(rt;
+        "status {number}\n{path} was cut and has no last line `end`; the replies to the lines of the script up to there were written"
+    );
     let _ = printed;
     ExitCode::from(number)
 }

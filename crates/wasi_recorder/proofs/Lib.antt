@@ -1,2 +1,3 @@
+mod Fronts
 pub mod Comparing
 pub mod Outcomes

@@ -26,7 +26,7 @@ pub enum ReplayEnd {
 
 /// Where the run differs that made so many calls, of as many recorded ones: where its log does, or
 /// after all its calls, where more are recorded.
-fn first_difference(differs: Option<u32>, made: usize, count: usize) -> Option<u32>
+pub(crate) fn first_difference(differs: Option<u32>, made: usize, count: usize) -> Option<u32>
     requires { differs ≡ None → made < 2 ^ 32 }
     ensures { result ≡ first_difference differs made count }
 {
@@ -39,7 +39,7 @@ fn first_difference(differs: Option<u32>, made: usize, count: usize) -> Option<u
 
 /// Ends a replay whose replies are these bytes, of which none were written. A run into memory fails
 /// to write only where memory ran out.
-fn finish<K: Sink>(
+pub(crate) fn finish<K: Sink>(
     outcome: Result<RunEnd, RunError>,
     differs: Option<u32>,
     replies: &[u8],
