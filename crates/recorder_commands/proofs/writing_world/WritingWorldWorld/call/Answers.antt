@@ -5,8 +5,8 @@ use Rattle.recorder_commands.specs.Writing.{GoesOn}
 use Rattle.recorder_commands.proofs.Writings.{place_within, wrote_entries}
 use Rattle.recorder_commands.proofs.writing_world.WritingWorldWorld.call.Goals as goal
 
-pub requires-go_on : goal.requires-go_on
-requires-go_on g c =
+pub go_on-requires : goal.go_on-requires
+go_on-requires g c =
     let was = c.args.self.now.noted in
     subst (λ (log : List Entry). c.len-from.result ≤ length log) (sym c.entries-log.ensures)
     (subst (λ n. n ≤ length c.call.new.self.log.items) (sym (c.len-from.ensures ∙ ap length c.entries.ensures)) (place_within was.log.items c.call.new.self.log.items c.in_ok-told.ensures.asked.ok.entries c.in_ok-told.ensures.asked.ok.passed.log))
