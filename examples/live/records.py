@@ -140,15 +140,18 @@ def a_log_under_rules(folder):
 
 
 def a_long_log(folder):
-    """A log of more than 16,777,216 bytes is replayed."""
+    """A log of more than 16,777,216 bytes is replayed; where a line of it is wrong, that line is named."""
     write(os.path.join(folder, "scenario.txt"), b"")
     lines = ["0 network", "0 udp-create 4", "0 udp-start-bind 2 1 4 127 0 0 1 80", "0 udp-finish-bind 2", "0 udp-stream 2"]
     lines += ["0 udp-check-send 4", "0 udp-send 4 to 4 127 0 0 1 80 " + "61" * 4096] * 2100
     run = ended(["record", "100000000"], lines, folder)[:2]
     size = os.path.getsize(os.path.join(folder, "log.txt"))
     again = ended(["replay", "100000000"], lines, folder)[:2]
-    got = (run[0], len(run[1]), size > 16777216, again[0], again == run)
-    return same("a long log", got, (0, len(lines), True, 0, True))
+    log = read(os.path.join(folder, "log.txt")).splitlines(keepends=True)
+    write(os.path.join(folder, "log.txt"), b"".join([*log[:2], b"no entry\n", *log[2:]]))
+    status, _, said = ended(["replay", "100000000"], lines, folder)
+    got = (run[0], len(run[1]), size > 16777216, again[0], again == run, status, "`no entry`" in said)
+    return same("a long log", got, (0, len(lines), True, 0, True, 13, True))
 
 
 CASES = [

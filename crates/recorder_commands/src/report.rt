@@ -14,9 +14,6 @@ use world_io::FileSource;
 const LOG_LINES: &str =
     "`context yes yes yes 100`, an entry such as `3 0 bind 2 0 4 127 0 0 1 80 = done`, or the last line `end`, ended by a newline, in a file of at most 4294967294 bytes";
 
-/// How many bytes a log has at most that is read.
-const MOST_LOG: u64 = 16_777_216;
-
 /// Prints that the log has this bad line. Returns the status as the program's.
 pub fn end_at_log_line<R: Eprint + Files>(rt: &R, number: u8, line: u32) -> ExitCode
     ensures { exit_status result ≡ number }

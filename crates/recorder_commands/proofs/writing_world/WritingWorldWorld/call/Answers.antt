@@ -16,6 +16,6 @@ invariant_of-self-2 g c =
     let was = c.args.self.now in
     let G : List Entry → Type 0 = λ more. GoesOn (entries_text more) (g.M.Sink.writing was.log_out) (g.M.Sink.writing c.go_on.new.log_out) was.unwritten c.go_on.result in
     let went : G (drop (length was.noted.log.items) c.call.new.self.log.items) =
-        subst (λ n. G (drop n c.call.new.self.log.items)) (c.len-from.ensures ∙ ap length c.entries.ensures)
-        (subst (λ (log : List Entry). G (drop c.len-from.result log)) c.entries-log.ensures c.go_on.ensures) in
+    subst (λ n. G (drop n c.call.new.self.log.items)) (c.len-from.ensures ∙ ap length c.entries.ensures)
+    (subst (λ (log : List Entry). G (drop c.len-from.result log)) c.entries-log.ensures c.go_on.ensures) in
     wrote_entries (contexts_text g.B.Begun.contexts) was.noted.log.items c.call.new.self.log.items c.in_ok-told.ensures.asked.ok.entries was.unwritten c.go_on.result c.in_ok-told.ensures.asked.ok.passed.log was.wrote went
