@@ -1,1 +1,3 @@
+pub mod CutLogs
+pub mod ToldFronts
 pub mod Writings

@@ -49,8 +49,8 @@ pub struct WritingWorld<W: World, M: Sink, B: Begun> {
     log_out: M,
     unwritten: Option<Unwritten>,
     of: PhantomData<B>,
-    ghost wrote: { WroteSoFar (contexts_text B.contexts ++ entries_text noted.log.items) B.begun
-        (M.writing log_out) unwritten },
+    ghost wrote: { ∥ WroteSoFar (contexts_text B.contexts ++ entries_text noted.log.items) B.begun
+        (M.writing log_out) unwritten ∥₁ },
 }
 
 /// Writes a piece of a log. Returns why it isn't written.

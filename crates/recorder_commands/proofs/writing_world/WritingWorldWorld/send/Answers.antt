@@ -2,7 +2,7 @@ use Rattle.std.proofs.Common.{◌≡◌, ◌≤◌, ◌∙◌, ap, sym, subst, L
 use Rattle.wasi_world.specs.declared.call.Entry.{Entry}
 use Rattle.wasi_replay.specs.Pieces.{contexts_text, entries_text}
 use Rattle.recorder_commands.specs.Writing.{GoesOn}
-use Rattle.recorder_commands.proofs.Writings.{place_within, wrote_entries}
+use Rattle.recorder_commands.proofs.Writings.{place_within, wrote_more}
 use Rattle.recorder_commands.proofs.writing_world.WritingWorldWorld.send.Goals as goal
 
 pub go_on-requires : goal.go_on-requires
@@ -18,4 +18,4 @@ invariant_of-self-2 g c =
     let went : G (drop (length was.noted.log.items) c.send.new.self.log.items) =
     subst (λ n. G (drop n c.send.new.self.log.items)) (c.len-from.ensures ∙ ap length c.entries.ensures)
     (subst (λ (log : List Entry). G (drop c.len-from.result log)) c.entries-log.ensures c.go_on.ensures) in
-    wrote_entries (contexts_text g.B.Begun.contexts) was.noted.log.items c.send.new.self.log.items c.in_ok-told.ensures.asked.ok.entries was.unwritten c.go_on.result c.in_ok-told.ensures.asked.ok.passed.log was.wrote went
+    wrote_more (contexts_text g.B.Begun.contexts) was.noted.log.items c.send.new.self.log.items c.in_ok-told.ensures.asked.ok.entries was.unwritten c.go_on.result c.in_ok-told.ensures.asked.ok.passed.log was.wrote went
