@@ -60,32 +60,20 @@ front_part {old} {new} {text} part = record {
 }
 
 -- == one piece more
-so_far_more : {old new : Writing} {text : List ℕ} (more : List ℕ) (why : Unwritten) → WroteSoFar text old new (Some why) → WroteSoFar (text ++ more) old new (Some why)
-so_far_more more unwritten.Fault wrote = part_more more wrote
-so_far_more more unwritten.Memory wrote = front_more more wrote
+so_far_more : (old new : Writing) (text more : List ℕ) (why : Unwritten) → WroteSoFar text old new (Some why) → WroteSoFar (text ++ more) old new (Some why)
+so_far_more old new text more unwritten.Fault wrote = part_more more wrote
+so_far_more old new text more unwritten.Memory wrote = front_more more wrote
 
-piece_more : {old mid new : Writing} {text more : List ℕ} (after : Option Unwritten) → TookAll old text mid → GoesOn more mid new None after → WroteSoFar (text ++ more) old new after
-piece_more None wrote went = all_again wrote went
-piece_more (Some unwritten.Fault) wrote went = part_again wrote went
-piece_more {old} {mid} {new} {text} {more} (Some unwritten.Memory) wrote went = subst (λ n. TookFront old (text ++ more) n) (sym went) (front_all more wrote)
+piece_more : (old mid new : Writing) (text more : List ℕ) (after : Option Unwritten) → TookAll old text mid → GoesOn more mid new None after → WroteSoFar (text ++ more) old new after
+piece_more old mid new text more None wrote went = all_again wrote went
+piece_more old mid new text more (Some unwritten.Fault) wrote went = part_again wrote went
+piece_more old mid new text more (Some unwritten.Memory) wrote went = subst (λ n. TookFront old (text ++ more) n) (sym went) (front_all more wrote)
 
-pub wrote_on : {old mid new : Writing} {text more : List ℕ} (before after : Option Unwritten) → WroteSoFar text old mid before → GoesOn more mid new before after → WroteSoFar (text ++ more) old new after
-wrote_on None after wrote went = piece_more after wrote went
-wrote_on {old} {mid} {new} {text} {more} (Some why) after wrote went =
-    let same : WroteSoFar (text ++ more) old new (Some why) = subst (λ n. WroteSoFar (text ++ more) old n (Some why)) (sym went.1) (so_far_more more why wrote) in
+wrote_on : (old mid new : Writing) (text more : List ℕ) (before after : Option Unwritten) → WroteSoFar text old mid before → GoesOn more mid new before after → WroteSoFar (text ++ more) old new after
+wrote_on old mid new text more None after wrote went = piece_more old mid new text more after wrote went
+wrote_on old mid new text more (Some why) after wrote went =
+    let same : WroteSoFar (text ++ more) old new (Some why) = subst (λ n. WroteSoFar (text ++ more) old n (Some why)) (sym went.1) (so_far_more old mid text more why wrote) in
     subst (WroteSoFar (text ++ more) old new) (sym went.0) same
-
--- the lines of the contexts
-wrote_first : {old new : Writing} (contexts : List WasiSocketsCtx) (after : Option Unwritten) → GoesOn (contexts_text contexts) old new None after → WroteSoFar (contexts_text contexts ++ entries_text []) old new after
-wrote_first {old} {new} contexts after went = subst (λ t. WroteSoFar t old new after) (sym (append-nil (contexts_text contexts))) (piece_more {text = []} after (all_none old) went)
-
--- a log that has none yet
-pub wrote_new : {old new : Writing} (contexts given : List WasiSocketsCtx) (begun : Writing) (log : List Entry) (after : Option Unwritten) → given ≡ contexts → old ≡ begun → Some log ≡ Some [] → GoesOn (contexts_text given) old new None after → ∥ WroteSoFar (contexts_text contexts ++ entries_text log) begun new after ∥₁
-wrote_new {old} {new} contexts given begun log after given_is old_is none went =
-    let first : WroteSoFar (contexts_text given ++ entries_text []) old new after = wrote_first given after went in
-    let named : WroteSoFar (contexts_text contexts ++ entries_text []) old new after = subst (λ cs. WroteSoFar (contexts_text cs ++ entries_text []) old new after) given_is first in
-    let from : WroteSoFar (contexts_text contexts ++ entries_text []) begun new after = subst (λ o. WroteSoFar (contexts_text contexts ++ entries_text []) o new after) old_is named in
-    ∣ subst (λ l. WroteSoFar (contexts_text contexts ++ entries_text l) begun new after) (sym (some_is log [] none)) from ∣₁
 
 -- the lines of more entries
 entries_more : (head : List ℕ) (log more : List Entry) → (head ++ entries_text log) ++ entries_text more ≡ head ++ entries_text (log ++ more)
@@ -94,36 +82,34 @@ entries_more head log more = append_assoc head (entries_text log) (entries_text 
 pub place_within : (log new es : List Entry) → Some new ≡ option_map (λ l. l ++ es) (Some log) → length log ≤ length new
 place_within log new es grown = omega (arith, ap length (some_is new (log ++ es) grown), length-append log es)
 
-wrote_entries : {begun mid end : Writing} (head : List ℕ) (log new es : List Entry) (before after : Option Unwritten) → Some new ≡ option_map (λ l. l ++ es) (Some log) → WroteSoFar (head ++ entries_text log) begun mid before → GoesOn (entries_text (drop (length log) new)) mid end before after → WroteSoFar (head ++ entries_text new) begun end after
-wrote_entries {begun} {mid} {end} head log new es before after grown wrote went =
+wrote_entries : (begun mid end : Writing) (head : List ℕ) (log new es : List Entry) (before after : Option Unwritten) → Some new ≡ option_map (λ l. l ++ es) (Some log) → WroteSoFar (head ++ entries_text log) begun mid before → GoesOn (entries_text (drop (length log) new)) mid end before after → WroteSoFar (head ++ entries_text new) begun end after
+wrote_entries begun mid end head log new es before after grown wrote went =
     let is : new ≡ log ++ es = some_is new (log ++ es) grown in
     let rest : drop (length log) new ≡ es = ap (drop (length log)) is ∙ drop-append_seam log es in
-    let more : WroteSoFar ((head ++ entries_text log) ++ entries_text es) begun end after = wrote_on before after wrote (subst (λ d. GoesOn (entries_text d) mid end before after) rest went) in
+    let more : WroteSoFar ((head ++ entries_text log) ++ entries_text es) begun end after = wrote_on begun mid end (head ++ entries_text log) (entries_text es) before after wrote (subst (λ d. GoesOn (entries_text d) mid end before after) rest went) in
     subst (λ t. WroteSoFar t begun end after) (entries_more head log es ∙ ap (λ l. head ++ entries_text l) (sym is)) more
 
-pub wrote_more : {begun mid end : Writing} (head : List ℕ) (log new es : List Entry) (before after : Option Unwritten) → Some new ≡ option_map (λ l. l ++ es) (Some log) → ∥ WroteSoFar (head ++ entries_text log) begun mid before ∥₁ → GoesOn (entries_text (drop (length log) new)) mid end before after → ∥ WroteSoFar (head ++ entries_text new) begun end after ∥₁
-wrote_more head log new es before after grown wrote went = ∥∥₁_map wrote (λ so_far. wrote_entries head log new es before after grown so_far went)
-
--- no entry more
-pub wrote_same : {begun mid : Writing} (head : List ℕ) (log new : List Entry) (before : Option Unwritten) → Some new ≡ Some log → ∥ WroteSoFar (head ++ entries_text log) begun mid before ∥₁ → ∥ WroteSoFar (head ++ entries_text new) begun mid before ∥₁
-wrote_same {begun} {mid} head log new before same wrote = subst (λ l. ∥ WroteSoFar (head ++ entries_text l) begun mid before ∥₁) (sym (some_is new log same)) wrote
+pub wrote_more : (begun mid end : Writing) (head : List ℕ) (log new es : List Entry) (before after : Option Unwritten) → Some new ≡ option_map (λ l. l ++ es) (Some log) → ∥ WroteSoFar (head ++ entries_text log) begun mid before ∥₁ → GoesOn (entries_text (drop (length log) new)) mid end before after → ∥ WroteSoFar (head ++ entries_text new) begun end after ∥₁
+wrote_more begun mid end head log new es before after grown wrote went = ∥∥₁_map wrote (λ so_far. wrote_entries begun mid end head log new es before after grown so_far went)
 
 -- == the end
-so_far_told : {old new : Writing} {text : List ℕ} (before : Option Unwritten) → ∥ WroteSoFar text old new before ∥₁ → WroteSoFar text old new before
-so_far_told None wrote = all_told wrote
-so_far_told (Some unwritten.Fault) wrote = part_told wrote
-so_far_told (Some unwritten.Memory) wrote = front_told wrote
+so_far_told : (old new : Writing) (text : List ℕ) (before : Option Unwritten) → ∥ WroteSoFar text old new before ∥₁ → WroteSoFar text old new before
+so_far_told old new text None wrote = all_told wrote
+so_far_told old new text (Some unwritten.Fault) wrote = part_told wrote
+so_far_told old new text (Some unwritten.Memory) wrote = front_told wrote
 
-front_so_far : {old new : Writing} {text : List ℕ} (more : List ℕ) (before : Option Unwritten) → WroteSoFar text old new before → TookFront old (text ++ more) new
-front_so_far more None wrote = front_all more wrote
-front_so_far more (Some unwritten.Fault) wrote = front_more more (front_part wrote)
-front_so_far more (Some unwritten.Memory) wrote = front_more more wrote
+front_so_far : (old new : Writing) (text more : List ℕ) (before : Option Unwritten) → WroteSoFar text old new before → TookFront old (text ++ more) new
+front_so_far old new text more None wrote = front_all more wrote
+front_so_far old new text more (Some unwritten.Fault) wrote = front_more more (front_part wrote)
+front_so_far old new text more (Some unwritten.Memory) wrote = front_more more wrote
 
-ended : {begun old new : Writing} {text : List ℕ} (before : Option Unwritten) (written : Result (Unit {0}) Unwritten) → WroteSoFar text begun old before → EndsLog old new before written → WritesAsItComes (text ++ codes "end\n") begun new written
-ended {begun} {old} {new} {text} before (Ok done) wrote ends = all_again (subst (WroteSoFar text begun old) ends.0 wrote) ends.1
-ended {begun} {old} {new} {text} before (Err unwritten.Fault) wrote (inl ends) = part_again (subst (WroteSoFar text begun old) ends.0 wrote) ends.1
-ended {begun} {old} {new} {text} before (Err unwritten.Fault) wrote (inr ends) = subst (λ n. TookPart begun (text ++ codes "end\n") n) (sym ends.1) (part_more (codes "end\n") (subst (WroteSoFar text begun old) ends.0 wrote))
-ended {begun} {old} {new} {text} before (Err unwritten.Memory) wrote ends = subst (λ n. TookFront begun (text ++ codes "end\n") n) (sym ends) (front_so_far (codes "end\n") before wrote)
+ended : (begun old new : Writing) (text : List ℕ) (before : Option Unwritten) (written : Result (Unit {0}) Unwritten) → WroteSoFar text begun old before → EndsLog old new before written → WritesAsItComes (text ++ codes "end\n") begun new written
+ended begun old new text before (Ok done) wrote ends = all_again (subst (WroteSoFar text begun old) ends.0 wrote) ends.1
+ended begun old new text before (Err unwritten.Fault) wrote (inl ends) = part_again (subst (WroteSoFar text begun old) ends.0 wrote) ends.1
+ended begun old new text before (Err unwritten.Fault) wrote (inr ends) = subst (λ n. TookPart begun (text ++ codes "end\n") n) (sym ends.1) (part_more (codes "end\n") (subst (WroteSoFar text begun old) ends.0 wrote))
+ended begun old new text before (Err unwritten.Memory) wrote ends = subst (λ n. TookFront begun (text ++ codes "end\n") n) (sym ends) (front_so_far begun old text (codes "end\n") before wrote)
 
-pub wrote_all : {begun old new : Writing} (contexts : List WasiSocketsCtx) (log : List Entry) (before : Option Unwritten) (written : Result (Unit {0}) Unwritten) → ∥ WroteSoFar (contexts_text contexts ++ entries_text log) begun old before ∥₁ → EndsLog old new before written → WritesAsItComes (log_text contexts log) begun new written
-wrote_all {begun} {old} {new} contexts log before written wrote ends = subst (λ t. WritesAsItComes t begun new written) (pieces_are contexts log) (ended before written (so_far_told before wrote) ends)
+pub wrote_all : (begun old new : Writing) (contexts : List WasiSocketsCtx) (log : List Entry) (before : Option Unwritten) (written : Result (Unit {0}) Unwritten) → ∥ WroteSoFar (contexts_text contexts ++ entries_text log) begun old before ∥₁ → EndsLog old new before written → WritesAsItComes (log_text contexts log) begun new written
+wrote_all begun old new contexts log before written wrote ends =
+    let so_far = so_far_told begun old (contexts_text contexts ++ entries_text log) before wrote in
+    subst (λ t. WritesAsItComes t begun new written) (pieces_are contexts log) (ended begun old new (contexts_text contexts ++ entries_text log) before written so_far ends)
