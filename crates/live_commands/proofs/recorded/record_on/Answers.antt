@@ -19,7 +19,7 @@ returns g c =
     let begins = seen_of before.log.items (g.W.World.seen before.inner).ended (g.W.World.seen before.inner).closings before.faults in
     let fresh : begins ≡ seen_of [] false 0 0 = c.new-world.ensures ∙ ap (λ s. seen_of [] s.ended s.closings 0) c.requires.silent in
     let R : List WasiSocketsCtx → Seen → Type 0 = λ contexts old. RunsLicensed contexts c.args.limit (g.S.Source.reading c.args.source.now) (g.S.Source.reading c.run_script-outcome.new.reader) (g.K.Sink.writing c.args.sink.now) (g.K.Sink.writing c.run_script-outcome.new.writer) old seen c.run_script-outcome.result in
-    let W : List WasiSocketsCtx → Writing → Type 0 = λ contexts begun. WritesAsItComes (log_text contexts after.log.items) begun (g.M.Sink.writing c.finish.result.1) c.finish.result.0 in
+    let W : List WasiSocketsCtx → Writing → Type 0 = λ contexts begun. WritesAsItComes (log_text contexts after.log.items) begun (g.M.Sink.writing c.finish-written.result.1) c.finish-written.result.0 in
     record {
       log = after.log.items;
       result = c.run_script-outcome.result;
@@ -30,9 +30,9 @@ returns g c =
         licensed = subst (R (free_context ∷ [])) fresh (subst (λ contexts. R contexts begins) c.requires.free c.run_script-outcome.ensures.licensed);
         closed = c.run_script-outcome.ensures.closed (subst IsFresh (sym fresh) (record { log = refl; closings = refl }));
       };
-      written = c.finish.result.0;
-      wrote = subst (W (free_context ∷ [])) c.requires.begun (subst (λ contexts. W contexts g.B.Begun.begun) c.requires.contexts c.finish.ensures.wrote);
-      no_memory = c.finish.ensures.no_memory;
+      written = c.finish-written.result.0;
+      wrote = subst (W (free_context ∷ [])) c.requires.begun (subst (λ contexts. W contexts g.B.Begun.begun) c.requires.contexts c.finish-written.ensures.wrote);
+      no_memory = c.finish-written.ensures.no_memory;
       end_is = c.status_after.ensures;
       place_is = c.place_after.ensures;
     }
