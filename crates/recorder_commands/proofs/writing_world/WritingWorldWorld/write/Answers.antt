@@ -18,4 +18,4 @@ invariant_of-self-2 g c =
     let went : G (drop (length was.noted.log.items) c.write.new.self.log.items) =
     subst (λ n. G (drop n c.write.new.self.log.items)) (ap length c.entries-from.ensures)
     (subst (λ (log : List Entry). G (drop (length c.entries-from.result.now) log)) c.entries-log.ensures c.go_on-self.ensures) in
-    wrote_more g.B.Begun.begun (g.M.Sink.writing was.log_out) (g.M.Sink.writing c.go_on-self.new.log_out) (contexts_text g.B.Begun.contexts) was.noted.log.items c.write.new.self.log.items c.in_ok-told.ensures.asked.ok.entries was.unwritten c.go_on-self.result c.in_ok-told.ensures.asked.ok.passed.log was.wrote went
+    record { wrote = wrote_more g.B.Begun.begun (g.M.Sink.writing was.log_out) (g.M.Sink.writing c.go_on-self.new.log_out) (contexts_text g.B.Begun.contexts) was.noted.log.items c.write.new.self.log.items c.in_ok-told.ensures.asked.ok.entries was.unwritten c.go_on-self.result c.in_ok-told.ensures.asked.ok.passed.log was.wrote went }
