@@ -259,7 +259,8 @@ The log has each call on the check and the network with its answer, and each is 
 before the first line is read; a file that is there is left as it is and ends the program, but after --record LOG --force it
 is overwritten. Where a write to LOG fails the run goes on, nothing more is written to LOG, and the status at its end is 14.
 kaxtubor replay and kaxtubor draw read such a log, as log.txt in this folder; their --help has its form.
-SIGINT and SIGTERM aren't caught: the system closes the sockets, and LOG has what was answered until then, without its line `end`.
+SIGINT and SIGTERM can't be caught, since Rattle has no handle for signals: the system closes the sockets, and LOG has what
+was answered until then, without its line `end`.
 
 The script's lines are those of kaxtubor run; its --help lists them. A look for a connection, for bytes, for room
 or for the end of a connect (tcp-accept, ready, tcp-finish-connect) waits for about a second at most, without using the
@@ -305,7 +306,8 @@ it takes no more connections and ends with 26.
 
 With --live it waits without using the processor, and on a terminal it shows once a second on standard error how many
 connections are open and over, and how many bytes went each way. A relay does 4294967295 steps at most, and six or seven
-for each 4096 bytes of one connection. SIGINT and SIGTERM aren't caught: the system closes the sockets, and no line is written.
+for each 4096 bytes of one connection. SIGINT and SIGTERM can't be caught, since Rattle has no handle for signals: the
+system closes the sockets, and no line is written.
 
 The program ends with 0, or prints its status on standard error, with what is wrong, and ends with it:
     1  the words aren't in order            8  scenario.txt can't be read

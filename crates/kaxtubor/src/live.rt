@@ -36,7 +36,7 @@ const RULES_FAULT: u8 = 17;
 /// Does what the words behind `live` ask for.
 pub fn run(rt: HostRuntime, words: &[String]) -> ExitCode {
     let (options, words) = options_in(words);
-    match option_fault(words) {
+    match option_fault(options, words) {
         Some(fault) => end_at_option(&rt, fault),
         None => run_with(rt, options, words),
     }

@@ -3,9 +3,13 @@
 ghost use Rattle.std.specs.Prelude.{◌≡◌};
 ghost use Rattle.std.specs.Process.{exit_status};
 
+use live_commands::Options;
 use std::fmt::{self, Display, Formatter, Write};
 use std::process::ExitCode;
 use wasi_program::Status;
+
+/// The option that stands behind a log.
+const FORCE: &str = "--force";
 
 /// The options, in the order in which they stand.
 const OPTIONS: [&str; 6] = [
@@ -14,7 +18,7 @@ const OPTIONS: [&str; 6] = [
     "--hosts",
     "--policy",
     "--record",
-    "--force",
+    FORCE,
 ];
 
 /// Those that have a file behind them.
@@ -29,6 +33,8 @@ pub enum OptionFault<'a> {
     NoFile(&'a str),
     /// It stands behind one that it has to stand before, or twice.
     Order(&'a str),
+    /// `--force` stands without a log.
+    NoLog,
 }
 
 impl Display for OptionFault<'_> {
@@ -42,12 +48,13 @@ impl Display for OptionFault<'_> {
                     "`{word}` stands too late: the options stand once each, in the order --any-address, --wait, --hosts HOSTS, --policy RULES, --record LOG, --force"
                 )
             }
+            OptionFault::NoLog => write!(f, "`--record LOG` is missing in front of `--force`"),
         }
     }
 }
 
 /// What is wrong with the options, behind which these words are left.
-pub fn option_fault<'a>(words: &'a [String]) -> Option<OptionFault<'a>> {
+pub fn option_fault<'a>(options: Options<'a>, words: &'a [String]) -> Option<OptionFault<'a>> {
     let Some((first, rest)) = words.split_first() else {
         return None;
     };
@@ -57,6 +64,9 @@ pub fn option_fault<'a>(words: &'a [String]) -> Option<OptionFault<'a>> {
     }
     if !OPTIONS.iter().any(|option| *option == word) {
         return Some(OptionFault::Unknown(word));
+    }
+    if word == FORCE && options.log.is_none() {
+        return Some(OptionFault::NoLog);
     }
     if rest.is_empty() && WITH_FILE.iter().any(|option| *option == word) {
         Some(OptionFault::NoFile(word))

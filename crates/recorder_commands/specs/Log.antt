@@ -1,5 +1,5 @@
 -- How a log is written, and how it is read.
-use Rattle.std.specs.Prelude.{◌≡◌, ℕ, ◌<◌, ◌≤◌, ◌^◌, true, codes, List, Result, Ok, Err, length}
+use Rattle.std.specs.Prelude.{◌≡◌, ◌⊎◌, ℕ, ◌<◌, ◌≤◌, ◌^◌, true, codes, List, Result, Ok, Err, length}
 use Rattle.std.specs.List.{list_all}
 use Rattle.wasi_world.specs.declared.call.Entry.{Entry}
 use Rattle.wasi_world.specs.declared.outcome.WasiSocketsCtx.{WasiSocketsCtx}
@@ -61,11 +61,17 @@ pub record LogCut (before after : Reading) (contexts : List WasiSocketsCtx) (ent
   pub bad : log_of text ≡ Err line
   pub is_cut : IsCutLog text line contexts entries
 
--- The log was read whole, and this is its first line that isn't in its grammar.
+-- a text isn't one that was cut: it is too long, or its whole lines aren't a log with `end` behind them
+abbrev pub IsNoCut : List ℕ → Type 0
+IsNoCut text = (most_log < length text) ⊎ ((line : ℕ) × (log_of (completed text) ≡ Err line))
+
+-- The log was read to its end, or past the most bytes that it may have; this is its first line that isn't in its grammar, and it
+-- isn't one that was cut.
 pub record HasBadLogLine (before after : Reading) (line : ℕ) : Type 0 where
   pub text : List ℕ
   pub read : ReadWithin most_log before after text
   pub bad : log_of text ≡ Err line
+  pub no_cut : IsNoCut text
 
 -- why there is no log, by how the program ends
 abbrev pub NoLogSince : Reading → Reading → RecorderStatus → ℕ → Type 0
@@ -78,7 +84,7 @@ NoLogSince before after _ line = ⊥
 abbrev pub IsCutSo : List ℕ → ℕ → FoundLog → Type 0
 IsCutSo text line (Read contexts entries) = ⊥
 IsCutSo text line (Cut contexts entries) = IsCutLog text line contexts.items entries.items
-IsCutSo text line (Stopped BadLog bad) = bad ≡ line
+IsCutSo text line (Stopped BadLog bad) = (bad ≡ line) × IsNoCut text
 IsCutSo text line (Stopped (Of status.Memory) bad) = bad ≡ 0
 IsCutSo text line (Stopped _ bad) = ⊥
 

@@ -6,8 +6,12 @@ use std::rt::Files;
 use std::{fs, io};
 use wasi_replay::MOST_BYTES;
 
-/// A file that takes at most as many bytes as a log that is read may have. A write that would pass
-/// them fails, and writes nothing.
+/// How many bytes a log's file takes: with the line `end` behind them, as a log that was cut is
+/// read, they are no more than a log that is read may have.
+const MOST_WRITTEN: usize = MOST_BYTES - 4;
+
+/// A file that takes at most so many bytes that what it has of a log can be read, whole or cut. A
+/// write that would pass them fails, and writes nothing.
 #[derive(Drop)]
 pub struct LogFile<F> {
     file: F,
@@ -20,7 +24,7 @@ impl<F> LogFile<F> {
     pub fn new(file: F) -> LogFile<F> {
         LogFile {
             file,
-            left: MOST_BYTES,
+            left: MOST_WRITTEN,
         }
     }
 }
