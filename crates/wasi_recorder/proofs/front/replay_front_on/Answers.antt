@@ -1,4 +1,4 @@
-use Rattle.std.proofs.Common.{rules, Some, ap, sym, subst, length, take, ◌∙◌}
+use Rattle.std.proofs.Common.{rules, Some, ap, sym, subst}
 use Rattle.wasi_replay.specs.Replayed.{StandsTo}
 use Rattle.wasi_recorder.proofs.Fronts.{done_front, stopped_front}
 use Rattle.wasi_recorder.proofs.front.replay_front_on.Goals as goal

@@ -1,4 +1,4 @@
-use Rattle.std.proofs.Common.{rules, Some, ap, sym, subst, length, take, ◌∙◌}
+use Rattle.std.proofs.Common.{rules, Some, ap, sym, subst}
 use Rattle.wasi_replay.specs.Replayed.{StandsTo}
 use Rattle.wasi_recorder.proofs.Outcomes.{done_by, stopped_by}
 use Rattle.wasi_recorder.proofs.replaying.replay_on.Goals as goal
