@@ -97,8 +97,8 @@ module _ (contexts : List WasiSocketsCtx) (limit : ℕ) (before after : Reading)
   fault_whole error.ReadFault h =
       stopped_by contexts limit before after recorded log differs k_old k_new sink_old sink_new w_old w_new replies outcome made count place made_is count_is place_is stands empty logged none_yet held all_read trapped read_fault (Err error.ReadFault) h
   fault_whole error.Memory h = h
-  fault_whole (error.BadStep line) h = h
-  fault_whole error.TooLong h = h
+  fault_whole (error.BadStep line) h = h.1
+  fault_whole error.TooLong h = h.1
 
   fault_replies : (e : RunError) → at_end ≡ true → outcome ≡ Err error.Memory → WritesReplies replies k_old k_new (Err e) → FrontStops contexts recorded limit before after k_old k_new e
   fault_replies error.WriteFault ended stops h = inr (up_to_end ended stops (λ answers. TookPart k_old (texts answers) k_new) (λ answers is. subst (λ w. TookPart k_old w k_new) is h))

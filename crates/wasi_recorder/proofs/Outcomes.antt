@@ -126,5 +126,5 @@ module _ (contexts : List WasiSocketsCtx) (limit : ℕ) (before after : Reading)
       (λ steps answers state asked is. (same_by (run contexts [] first_state 1 steps) (answers, state) recorded log asked differs stands (sym place_of ∙ finishes.1), subst (λ w. TookPart k_old w k_new) is finishes.2))
   stopped_by (Err error.ReadFault) finishes = ((read_fault finishes.0).rose, finishes.1)
   stopped_by (Err error.Memory) finishes = finishes
-  stopped_by (Err (error.BadStep line)) finishes = finishes
-  stopped_by (Err error.TooLong) finishes = finishes
+  stopped_by (Err (error.BadStep line)) finishes = finishes.1
+  stopped_by (Err error.TooLong) finishes = finishes.1

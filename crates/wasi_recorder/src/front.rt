@@ -6,6 +6,7 @@ ghost use Rattle.wasi_world.specs.Contexts.{AreNumbered};
 ghost use Rattle.wasi_replay.specs.Recorded.{fits_entry};
 ghost use Rattle.wasi_recorder.specs.Front.{FrontReplayed, FrontStops, FinishesFront};
 ghost use Rattle.wasi_recorder.specs.Front.{WritesReplies, FinishesAsWhole};
+ghost use Rattle.wasi_recorder.specs.Causes.{Causes, ReplayCompletes};
 
 use crate::replaying::{ReplayEnd, finish, first_difference};
 use std::alloc::{AllocError, Global};
@@ -161,6 +162,11 @@ fn replay_front_on<R: Recorded, S: Source, K: Sink>(
     ensures stopped { IfErr result (λ e. FrontStops contexts.old.items R.recorded limit
         (S.reading reader.old) (S.reading reader.new) (K.writing writer.old)
         (K.writing writer.new) e) }
+    ensures cause { IfErr result (λ e. Causes (length contexts.old.items) limit
+        (S.reading reader.old) (S.reading reader.new) e) }
+    ensures complete { ReplayCompletes (length contexts.old.items) limit
+        (S.reading reader.old) (S.reading reader.new) (K.writing writer.old)
+        (K.writing writer.new) result }
     ensures contexts { contexts.new.items ≡ contexts.old.items }
 {
     let count = recorded.len();
@@ -196,6 +202,11 @@ pub fn replay_front<S: Source, K: Sink>(
     ensures stopped { IfErr result (λ e. FrontStops contexts.old.items recorded.items limit
         (S.reading reader.old) (S.reading reader.new) (K.writing writer.old)
         (K.writing writer.new) e) }
+    ensures cause { IfErr result (λ e. Causes (length contexts.old.items) limit
+        (S.reading reader.old) (S.reading reader.new) e) }
+    ensures complete { ReplayCompletes (length contexts.old.items) limit
+        (S.reading reader.old) (S.reading reader.new) (K.writing writer.old)
+        (K.writing writer.new) result }
     ensures contexts { contexts.new.items ≡ contexts.old.items }
 {
     replay_front_on::<Brand, S, K>(alloc, recorded, contexts, limit, reader, writer)
