@@ -1,3 +1,2 @@
-pub mod CutLogs
-pub mod ToldFronts
-pub mod Writings
+mod ToldFronts
+mod Writings

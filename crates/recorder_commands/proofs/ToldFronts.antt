@@ -7,8 +7,7 @@ use Rattle.std.proofs.lemmas.Bool.Decides.{Decides-eqb}
 use Rattle.std.proofs.lemmas.Bool.{false≢true}
 use Rattle.std.proofs.lemmas.List.{take-append-drop, length-take-le}
 use Rattle.std.proofs.Math.Seq.{take-append_seam}
-use Rattle.wasi_world.specs.Seen.{Rose}
-use Rattle.world_io.specs.Io.{Writing, Took, CountRose}
+use Rattle.world_io.specs.Io.{Writing, CountRose}
 use Rattle.world_io.specs.Written.{TookAll, TookPart, TookFront}
 
 -- == how many bytes it took

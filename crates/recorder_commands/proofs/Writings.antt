@@ -1,6 +1,6 @@
 -- A log that is written as it comes, a piece at a time.
 use Rattle.std.specs.Prelude.{codes, option_map, unwrap_or}
-use Rattle.std.proofs.Common.{◌≡◌, ℕ, ◌+◌, ◌<◌, ◌≤◌, List, [], ◌∷◌, ◌++◌, ◌⊎◌, inl, inr, append_assoc, append-nil, take, drop, length, length-append, Option, Some, None, Result, Ok, Err, ap, sym, subst, ◌∙◌, refl, arith}
+use Rattle.std.proofs.Common.{◌≡◌, ℕ, ◌+◌, ◌≤◌, List, ◌++◌, inl, inr, append_assoc, take, drop, length, length-append, Option, Some, None, Result, Ok, Err, ap, sym, subst, ◌∙◌, refl, arith}
 use Rattle.std.proofs.Math.Logic.{∥∥₁_map}
 use Rattle.std.proofs.lemmas.Grind.{flat_map-append}
 use Rattle.std.proofs.lemmas.List.{take-append-drop, take-append-le}
@@ -9,7 +9,7 @@ use Rattle.wasi_world.specs.declared.call.Entry.{Entry}
 use Rattle.wasi_world.specs.declared.outcome.WasiSocketsCtx.{WasiSocketsCtx}
 use Rattle.world_io.specs.Io.{Writing, Took}
 use Rattle.world_io.specs.Written.{TookAll, TookPart, TookFront}
-use Rattle.world_io.proofs.Took.{took_again, rose_again, all_none, all_again}
+use Rattle.world_io.proofs.Took.{took_again, rose_again, all_again}
 use Rattle.wasi_replay.specs.Pieces.{contexts_text, entry_text, entries_text}
 use Rattle.wasi_replay.specs.Log.{log_text}
 use Rattle.wasi_replay.proofs.LogTexts.{pieces_are}

@@ -1,4 +1,4 @@
-use Rattle.std.proofs.Common.{◌≡◌, ◌≤◌, ◌∙◌, ap, sym, subst, List, drop, length}
+use Rattle.std.proofs.Common.{◌≤◌, ap, sym, subst, List, drop, length}
 use Rattle.wasi_world.specs.declared.call.Entry.{Entry}
 use Rattle.wasi_replay.specs.Pieces.{contexts_text, entries_text}
 use Rattle.recorder_commands.specs.Writing.{GoesOn}
