@@ -685,6 +685,12 @@ def few_descriptors():
     return same("few descriptors", seen, [(12, (12, 0, [])), (12, (12, 0, [])), (0, (0, 26, ["status 26"]))])
 
 
+def logs_of_runs_that_are_ended():
+    """Signals, logs that are cut and files that are there: see records.py."""
+    done = subprocess.run([sys.executable, os.path.join(TOP, "examples", "live", "records.py"), *PROGRAM], check=False)
+    return same("logs of runs that are ended", done.returncode, 0)
+
+
 TESTS = [
     the_two_scripts,
     connect_from_a_bound_port,
@@ -705,6 +711,7 @@ TESTS = [
     targets_that_reset,
     an_answer_before_a_reset,
     few_descriptors,
+    logs_of_runs_that_are_ended,
 ]
 
 if __name__ == "__main__":
