@@ -1,6 +1,6 @@
 //! A world that notes what is asked of another one.
 
-ghost use Rattle.std.specs.Prelude.{◌≡◌, ◌<◌, Some, None, [], IfOk, OnErr, ◌∷◌, ◌++◌, vec_len};
+ghost use Rattle.std.specs.Prelude.{◌≡◌, ◌<◌, [], IfOk, OnErr, ◌∷◌, ◌++◌, vec_len};
 ghost use Rattle.std.specs.Prelude.{vec_capacity};
 ghost use Rattle.wasi_world.specs.Seen.{Counts};
 ghost use Rattle.wasi_replay.specs.Replayed.{entry, seen_of};
@@ -11,8 +11,8 @@ use wasi_addr::IpSocketAddress;
 use wasi_decides::Decides;
 use wasi_world::{Call, Entry, Octets, OpId, Sock, Told, Waits, World};
 
-/// A world round another one that reports no log, as one over the system's sockets. It hands every
-/// call on, and its own log is what it noted: each call with the other world's answer.
+/// A world round another one, as one over the system's sockets. It hands every call on, once, and
+/// returns what the other world answered; its own log is what it noted: each call with its answer.
 ///
 /// Room for a note is taken before its call is handed on, but for the copy of an answer that holds
 /// bytes or names: where there is no room for that, the call was made and isn't noted, and it is
@@ -22,7 +22,6 @@ pub struct RecordingWorld<W: World> {
     inner: W,
     log: Vec<Entry>,
     faults: u64,
-    ghost silent: { (W.seen inner).log ≡ None },
 }
 
 /// A copy of a call. Takes memory where it holds bytes.
@@ -133,9 +132,8 @@ fn copy_call(call: &Call) -> Result<Call, AllocError>
 }
 
 impl<W: World> RecordingWorld<W> {
-    /// A world round one that was asked nothing yet and reports no log. Takes no memory.
+    /// A world round this one, of which nothing is noted yet. Takes no memory.
     pub fn new(alloc: Global, inner: W) -> RecordingWorld<W>
-        requires { (W.seen inner).log ≡ None }
         ensures { seen_of result.log.items (W.seen result.inner).ended
             (W.seen result.inner).closings result.faults ≡ seen_of [] (W.seen inner).ended
             (W.seen inner).closings 0 }
@@ -194,7 +192,10 @@ fn note(
 
 impl<W: World> World for RecordingWorld<W> {
     ghost use Rattle.std.specs.Prelude.{Some};
+    ghost use Rattle.wasi_world.specs.declared.call.Call.TheVariants.{Send};
+    ghost use Rattle.wasi_world.specs.Asks.{one, one_write, AsksFor};
     ghost use Rattle.wasi_world.specs.Script.{without_plan};
+    ghost use Rattle.wasi_world.specs.Seen.{Closes, Ends};
     ghost use Rattle.wasi_replay.specs.Replayed.{seen_of};
 
     ghost seen = { λ world. seen_of world.log.items (W.seen world.inner).ended
@@ -204,14 +205,20 @@ impl<W: World> World for RecordingWorld<W> {
 
     ghost scripted = { λ world. without_plan (Some world.log.items) };
 
-    fn call(&mut self, op: OpId, call: Call) -> Result<Told, AllocError> {
+    fn call(&mut self, op: OpId, call: Call) -> Result<Told, AllocError>
+        ensures handed { AsksFor (one op call) (W.seen self.old.inner) (W.seen self.new.inner)
+            (λ told. told) result }
+    {
         self.log.reserve(1)?;
         let noted = copy_call(&call)?;
         let told = self.inner.call(op, call)?;
         note(&mut self.log, &mut self.faults, op, noted, told)
     }
 
-    fn write(&mut self, op: OpId, sock: Sock, bytes: &[u8]) -> Result<Told, AllocError> {
+    fn write(&mut self, op: OpId, sock: Sock, bytes: &[u8]) -> Result<Told, AllocError>
+        ensures handed { AsksFor (one_write op sock bytes.now) (W.seen self.old.inner)
+            (W.seen self.new.inner) (λ told. told) result }
+    {
         self.log.reserve(1)?;
         let offered = bytes.len() as u32;
         let told = self.inner.write(op, sock, bytes)?;
@@ -225,7 +232,10 @@ impl<W: World> World for RecordingWorld<W> {
         sock: Sock,
         addr: IpSocketAddress,
         bytes: &[u8],
-    ) -> Result<Told, AllocError> {
+    ) -> Result<Told, AllocError>
+        ensures handed { AsksFor (one op (Send sock addr bytes.now)) (W.seen self.old.inner)
+            (W.seen self.new.inner) (λ told. told) result }
+    {
         self.log.reserve(1)?;
         let copy = Octets::copy_of(*self.log.allocator(), bytes)?;
         let told = self.inner.send(op, sock, addr, bytes)?;
@@ -237,11 +247,15 @@ impl<W: World> World for RecordingWorld<W> {
         note(&mut self.log, &mut self.faults, op, noted, told)
     }
 
-    fn end(&mut self) {
+    fn end(&mut self)
+        ensures handed { Ends (W.seen self.old.inner) (W.seen self.new.inner) }
+    {
         self.inner.end();
     }
 
-    fn close_after_end(&mut self, sock: Sock) {
+    fn close_after_end(&mut self, sock: Sock)
+        ensures handed { Closes (W.seen self.old.inner) (W.seen self.new.inner) }
+    {
         self.inner.close_after_end(sock);
     }
 }
