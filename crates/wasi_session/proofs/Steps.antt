@@ -187,13 +187,13 @@ at_refusal step steps (Err (NoContext n)) e may h d = d
 at_refusal {s} step steps (Err Memory) e may h d = absurd (not_memory s step (rw (← h) at may))
 
 -- why a step has no reply: the session's state, or memory
-pub why_refused : {s : State} (step : Step) (r : Result Reply StepError) (e : StepError) → may_step s step ≡ Err e → IsErrAnd r (λ x. x ≡ e) → HasWhy s step r
-why_refused step (Ok reply) e may h = absurd h
-why_refused step (Err x) e may h = rw h (inl may)
+pub why_refused : (s : State) (step : Step) (r : Result Reply StepError) (e : StepError) → may_step s step ≡ Err e → IsErrAnd r (λ x. x ≡ e) → HasWhy s step r
+why_refused s step (Ok reply) e may h = absurd h
+why_refused s step (Err x) e may h = rw h (inl may)
 
-pub why_memory : {s : State} (step : Step) (r : Result Reply StepError) → may_step s step ≡ Ok tt → IsErrAnd r (λ e. e ≡ Memory) → HasWhy s step r
-why_memory step (Ok reply) may h = absurd h
-why_memory step (Err e) may h = inr (h, may)
+pub why_memory : (s : State) (step : Step) (r : Result Reply StepError) → may_step s step ≡ Ok tt → IsErrAnd r (λ e. e ≡ Memory) → HasWhy s step r
+why_memory s step (Ok reply) may h = absurd h
+why_memory s step (Err e) may h = inr (h, may)
 
 -- == at the end
 -- the records hold what was made and not closed

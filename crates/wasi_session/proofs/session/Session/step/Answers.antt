@@ -23,7 +23,7 @@ returns-in_err-may_step-clause-did g c = λ steps replies start d.
     at_refusal c.args.step steps c.from_residual.result _ (sym c.may_step.ensures.may ∙ c.in_err-may_step.was) c.from_residual.ensures.1 d
 
 pub returns-in_err-may_step-clause-why : goal.returns-in_err-may_step-clause-why
-returns-in_err-may_step-clause-why g c = why_refused c.args.step c.from_residual.result _ (sym c.may_step.ensures.may ∙ c.in_err-may_step.was) c.from_residual.ensures.1
+returns-in_err-may_step-clause-why g c = why_refused c.args.self.now c.args.step c.from_residual.result _ (sym c.may_step.ensures.may ∙ c.in_err-may_step.was) c.from_residual.ensures.1
 
 pub returns-in_err-reply-clause-why : goal.returns-in_err-reply-clause-why
-returns-in_err-reply-clause-why g c = why_memory c.args.step c.from_residual-in_err-reply.result (sym c.may_step.ensures.may ∙ c.in_ok-may_step.was) c.from_residual-in_err-reply.ensures.1
+returns-in_err-reply-clause-why g c = why_memory c.args.self.now c.args.step c.from_residual-in_err-reply.result (sym c.may_step.ensures.may ∙ c.in_ok-may_step.was) c.from_residual-in_err-reply.ensures.1
