@@ -166,8 +166,12 @@ early. Its lines are
                                 it that made it, the call, and its answer, such as
                                 3 0 bind 2 0 4 127 0 0 1 80 = done
     end                         the last line
-A line of a transcript, which kaxtubor show prints, has the same form behind its indent. A log of at most
-4294967294 bytes can be replayed and drawn.
+A line of a transcript, which kaxtubor show prints, has the same form behind its indent. A log has at most
+4294967294 bytes: it isn't written beyond them.
+
+A log without its line `end` was cut, as that of a run of kaxtubor live that was ended by a signal. What stands behind
+its last newline is dropped. It is drawn as far as it goes, and replayed up to there: the replies to the lines of the
+script before the one that asks more are written, and the status is 25.
 
 The program ends with 0, or prints its status on standard error, with what is wrong, and ends with it:
     1  the words aren't in order            7  memory ran out
@@ -175,7 +179,7 @@ The program ends with 0, or prints its status on standard error, with what is wr
     3  a bad line in the script            13  a bad line in log.txt
     4  the script is longer than LIMIT     14  log.txt can't be read or written
     5  a read of the script failed         15  the script asks something else than is recorded
-    6  a write failed
+    6  a write failed                      25  log.txt was cut, and the script asks more
 
 example: : > scenario.txt; printf '0 network\\n0 tcp-create 4\\n' | kaxtubor record 1000; cat log.txt
     ok 1
@@ -232,12 +236,13 @@ Runs a script of wasi:sockets calls over this machine's network, and writes one 
 
 usage: kaxtubor live LIMIT PORT..             runs the script on standard input, of at most LIMIT bytes
        kaxtubor live --policy RULES LIMIT     the same, where the rules of the file RULES decide in place of ports
-       kaxtubor live --record LOG LIMIT PORT..  runs as the first, and then writes the log of the run to the file LOG
+       kaxtubor live --record LOG LIMIT PORT..  runs as the first, and writes the log of the run to the new file LOG
+       kaxtubor live --policy RULES --record LOG LIMIT   both
        kaxtubor live --help                   prints this
 
 Before these words, in this order, may stand:
        --any-address                 every address may be used, in place of this machine's own alone
-       --wait                        a look that was pending waits without limit when it is made again
+       --wait                        a line whose looks were pending before waits for them without limit
        --hosts HOSTS                 lookups find the names of the file HOSTS
 
 Sockets of TCP and UDP may be bound to, listen on, connect to and send to 127.0.0.0/8 and ::1 with the named ports alone;
@@ -252,19 +257,24 @@ answers what they decide.
 HOSTS has the form of the system's file /etc/hosts: on each line an address and its names. Any other name, and without
 --hosts every name, is name-unresolvable: no name server is asked.
 
-The log has each call on the check and the network with its answer. kaxtubor replay and kaxtubor draw read such a log, as
-log.txt in this folder; their --help has its form.
+The log has each call on the check and the network with its answer, and each is written as soon as it is answered. LOG is made
+before the first line is read; a file that is there is left as it is and ends the program, but after --record LOG --force it
+is overwritten. Where a write to LOG fails the run goes on, nothing more is written to LOG, and the status at its end is 14.
+kaxtubor replay and kaxtubor draw read such a log, as log.txt in this folder; their --help has its form.
+SIGINT and SIGTERM can't be caught, since Rattle has no handle for signals: the system closes the sockets, and LOG has what
+was answered until then, without its line `end`.
 
-The script's lines are those of kaxtubor run; its --help lists them. A look for a connection, for bytes, for room
-or for the end of a connect (tcp-accept, ready, tcp-finish-connect) waits for about a second at most, without using the
-processor. After --wait it answers at once, and made again it waits until something that was pending may go on.
+The script's lines are those of kaxtubor run; its --help lists them. A line that looks for a connection, for bytes, for
+room, for a datagram or for the end of a connect (tcp-accept, ready, poll-list, poll, turn, tcp-finish-connect) waits once,
+for all that it looks at, until one of them may go on: for about a second at most, without using the processor. After --wait
+it answers at once, and where all that a line looks at was pending before, it waits until one of them may go on.
 The hop-limit of an IPv6 socket is not-supported.
 
 The program ends with 0, or prints its status on standard error, with what is wrong, and ends with it:
     1  the words aren't in order            5  a read of the script failed
     3  a bad line in the script             6  a write failed
     4  the script is longer than LIMIT      7  memory ran out
-    14 LOG can't be written                 18 HOSTS can't be read, or isn't text
+    14 LOG is there, or can't be written    18 HOSTS can't be read, or isn't text
     16 a bad line in RULES                  17 RULES can't be read
 
 example: printf '0 network\\n0 tcp-create 4\\n0 tcp-start-bind 2 1 4 127 0 0 1 81\\n' | kaxtubor live 1000 80
@@ -299,7 +309,8 @@ it takes no more connections and ends with 26.
 
 With --live it waits without using the processor, and on a terminal it shows once a second on standard error how many
 connections are open and over, and how many bytes went each way. A relay does 4294967295 steps at most, and six or seven
-for each 4096 bytes of one connection.
+for each 4096 bytes of one connection. SIGINT and SIGTERM can't be caught, since Rattle has no handle for signals: the
+system closes the sockets, and no line is written.
 
 The program ends with 0, or prints its status on standard error, with what is wrong, and ends with it:
     1  the words aren't in order            8  scenario.txt can't be read

@@ -2,21 +2,23 @@
 //! and writes one reply per line.
 
 use crate::forms::{Form, LIVE, LIVE_BY_RULES};
-use crate::live_options::{OptionFault, end_at_option, option_fault};
+use crate::live_options::{end_at_option, option_fault};
 use crate::words::end_at_form;
 use live_commands::{
-    Command, Network, NoHosts, Options, Setup, allowed, command_in, every_port, limit_in,
-    options_in, patience, read_hosts, run_live, run_recorded, run_ruled,
+    Command, Network, NoHosts, Options, Recorded, Setup, allowed, command_in, every_port, limit_in,
+    options_in, patience, read_hosts, run_live, run_recorded, run_recorded_under, run_ruled,
 };
 use policy_commands::report::end_at_rules;
-use policy_commands::{PolicyStatus, RulesText};
-use recorder_commands::report::end_without_log;
-use recorder_commands::{NewFile, RecorderStatus};
+use policy_commands::{FoundRules, PolicyStatus, RulesText, read_rules};
+use recorder_commands::report::{end_at_log_file, end_without_log};
+use recorder_commands::{LogFile, NoLogFile, RecorderStatus, create_log};
 use std::alloc::Global;
 use std::process::ExitCode;
+use std::rt::Files;
 use std::{fs, io};
 use wasi_console::{LineSource, end, end_of_run, end_unread, is_longer};
 use wasi_net::{Allowed, Hosts};
+use wasi_policy::Policy;
 use wasi_program::Status;
 use wasi_program::scenario::Unread;
 use wasi_program::status::bad_line;
@@ -103,9 +105,12 @@ fn run_with(rt: HostRuntime, options: Options<'_>, words: &[String]) -> ExitCode
     let setup = Setup { limit, network };
     match (options.rules, options.log) {
         (None, None) => run_over(rt, setup),
-        (None, Some(path)) => run_noted(rt, path, setup),
+        (None, Some(path)) => run_noted(rt, path, options.overwrites, None, setup),
         (Some(path), None) => run_by_rules(rt, path, setup),
-        (Some(_), Some(_)) => end_at_option(&rt, OptionFault::Both),
+        (Some(rules), Some(path)) => match policy_of(&rt, rules) {
+            Ok(policy) => run_noted(rt, path, options.overwrites, Some(policy), setup),
+            Err(code) => code,
+        },
     }
 }
 
@@ -139,25 +144,82 @@ fn run_over(rt: HostRuntime, setup: Setup) -> ExitCode {
     end_at(&rt, Status::of_run(outcome), bad_line(outcome), &source)
 }
 
-/// Runs the script, and writes the log of its run to this file.
-fn run_noted(rt: HostRuntime, path: &str, setup: Setup) -> ExitCode {
-    let mut log_out = StdSink::new(NewFile::new(&rt, path));
+/// The text of the rules in a file, or how the program ends without it.
+fn rules_text(rt: &HostRuntime, path: &str) -> Result<RulesText, ExitCode> {
+    match RulesText::read(rt.alloc(), FileSource::open(rt, path)) {
+        Ok(text) => Ok(text),
+        Err(Unread::Fault) => Err(end_unread(rt, RULES_FAULT, path)),
+        Err(Unread::Memory(_)) => Err(end(rt, Status::Memory, 0, None)),
+    }
+}
+
+/// The rules of a file, or how the program ends without them.
+fn policy_of(rt: &HostRuntime, path: &str) -> Result<Policy, ExitCode> {
+    let text = rules_text(rt, path)?;
+    let Ok(mut rules) = text.source() else {
+        return Err(end(rt, Status::Memory, 0, None));
+    };
+    match read_rules(rt.alloc(), &mut rules) {
+        FoundRules::Read(policy) => Ok(policy),
+        FoundRules::Stopped(PolicyStatus::Of(status), line) => Err(end(rt, status, line, None)),
+        FoundRules::Stopped(status, line) => {
+            Err(end_at_rules(rt, status.number(), path, line, &text))
+        }
+    }
+}
+
+/// Runs the script, under rules where there are some, and writes the log of its run to this file,
+/// which is made before the first line is read.
+fn run_noted(
+    rt: HostRuntime,
+    path: &str,
+    overwrites: bool,
+    policy: Option<Policy>,
+    setup: Setup,
+) -> ExitCode {
+    let number = RecorderStatus::LogFault.number();
+    match create_log(&rt, path, overwrites) {
+        Ok(log) => run_into(rt, path, log, policy, setup),
+        Err(NoLogFile::Exists) => end_at_log_file(&rt, number, path),
+        Err(NoLogFile::Fault) => end_without_log(&rt, number, path),
+    }
+}
+
+/// The same, where this file was made.
+fn run_into(
+    rt: HostRuntime,
+    path: &str,
+    log: LogFile<<HostRuntime as Files>::File>,
+    policy: Option<Policy>,
+    setup: Setup,
+) -> ExitCode {
+    let log_out = StdSink::new(log);
     let mut source = LineSource::new(StdSource::new(rt.stdin()));
     let mut sink = StdSink::new(rt.stdout());
     let alloc = rt.alloc();
-    let (status, line) = run_recorded(&rt, alloc, setup, &mut log_out, &mut source, &mut sink);
+    let Recorded { status, place, .. } = match policy {
+        None => run_recorded(&rt, alloc, setup, log_out, &mut source, &mut sink),
+        Some(policy) => run_recorded_under(
+            &rt,
+            alloc,
+            policy,
+            setup,
+            log_out,
+            &mut source,
+            &mut sink,
+        ),
+    };
     match status {
-        RecorderStatus::Of(status) => end_at(&rt, status, line, &source),
+        RecorderStatus::Of(status) => end_at(&rt, status, place, &source),
         status => end_without_log(&rt, status.number(), path),
     }
 }
 
 /// Runs the script under the rules of this file.
 fn run_by_rules(rt: HostRuntime, path: &str, setup: Setup) -> ExitCode {
-    match RulesText::read(rt.alloc(), FileSource::open(&rt, path)) {
+    match rules_text(&rt, path) {
         Ok(rules) => run_under(rt, path, &rules, setup),
-        Err(Unread::Fault) => end_unread(&rt, RULES_FAULT, path),
-        Err(Unread::Memory(_)) => end(&rt, Status::Memory, 0, None),
+        Err(code) => code,
     }
 }
 

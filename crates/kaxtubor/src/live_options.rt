@@ -8,8 +8,21 @@ use std::fmt::{self, Display, Formatter, Write};
 use std::process::ExitCode;
 use wasi_program::Status;
 
+/// The option that stands behind a log.
+const FORCE: &str = "--force";
+
 /// The options, in the order in which they stand.
-const OPTIONS: [&str; 5] = ["--any-address", "--wait", "--hosts", "--policy", "--record"];
+const OPTIONS: [&str; 6] = [
+    "--any-address",
+    "--wait",
+    "--hosts",
+    "--policy",
+    "--record",
+    FORCE,
+];
+
+/// Those that have a file behind them.
+const WITH_FILE: [&str; 3] = ["--hosts", "--policy", "--record"];
 
 /// What is wrong.
 #[derive(Clone, Copy)]
@@ -20,8 +33,8 @@ pub enum OptionFault<'a> {
     NoFile(&'a str),
     /// It stands behind one that it has to stand before, or twice.
     Order(&'a str),
-    /// `--record` stands beside `--policy`.
-    Both,
+    /// `--force` stands without a log.
+    NoLog,
 }
 
 impl Display for OptionFault<'_> {
@@ -32,13 +45,10 @@ impl Display for OptionFault<'_> {
             OptionFault::Order(word) => {
                 write!(
                     f,
-                    "`{word}` stands too late: the options stand once each, in the order --any-address, --wait, --hosts HOSTS, --policy RULES, --record LOG"
+                    "`{word}` stands too late: the options stand once each, in the order --any-address, --wait, --hosts HOSTS, --policy RULES, --record LOG, --force"
                 )
             }
-            OptionFault::Both => write!(
-                f,
-                "--record can't go with --policy: no log is written under rules"
-            ),
+            OptionFault::NoLog => write!(f, "`--record LOG` is missing in front of `--force`"),
         }
     }
 }
@@ -50,16 +60,15 @@ pub fn option_fault<'a>(options: Options<'a>, words: &'a [String]) -> Option<Opt
     };
     let word = first.as_str();
     if !word.starts_with("--") {
-        return match (options.rules, options.log) {
-            (Some(_), Some(_)) => Some(OptionFault::Both),
-            _ => None,
-        };
+        return None;
     }
     if !OPTIONS.iter().any(|option| *option == word) {
         return Some(OptionFault::Unknown(word));
     }
-    let takes_file = word != "--any-address" && word != "--wait";
-    if takes_file && rest.is_empty() {
+    if word == FORCE && options.log.is_none() {
+        return Some(OptionFault::NoLog);
+    }
+    if rest.is_empty() && WITH_FILE.iter().any(|option| *option == word) {
         Some(OptionFault::NoFile(word))
     } else {
         Some(OptionFault::Order(word))

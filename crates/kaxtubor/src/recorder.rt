@@ -5,7 +5,7 @@ ghost use Rattle.std.specs.Prelude.{◌≡◌};
 ghost use Rattle.std.specs.Process.{exit_status};
 
 use crate::words::end_at_words;
-use recorder_commands::report::{end_at_difference, end_at_log_line, end_without_log};
+use recorder_commands::report::{end_at_cut, end_at_difference, end_at_log_line, end_without_log};
 use recorder_commands::{NewFile, log_path, replay_main};
 use std::fs;
 use std::process::ExitCode;
@@ -91,6 +91,7 @@ fn stop<R: Eprint + Files, I>(rt: &R, number: u8, place: u32, script: &LineSourc
         13 => end_at_log_line(rt, number, place),
         14 => end_without_log(rt, number, log_path()),
         15 => end_at_difference(rt, number, place),
+        25 => end_at_cut(rt, number),
         _ => end_of_run(rt, number, place, script),
     }
 }

@@ -16,7 +16,7 @@ use Rattle.recorder_commands.specs.declared.log.Unwritten.{Unwritten}
 use Rattle.recorder_commands.specs.declared.log.Unwritten.TheVariants as unwritten
 use Rattle.recorder_commands.specs.declared.status.RecorderStatus.{RecorderStatus}
 use Rattle.recorder_commands.specs.declared.status.RecorderStatus.TheVariants.{Of}
-use Rattle.recorder_commands.specs.Log.{WritesLog}
+use Rattle.recorder_commands.specs.Writing.{WritesAsItComes}
 use Rattle.recorder_commands.specs.Record.{status_after, place_after}
 
 -- The script was run over a network that answered nothing before; this is what it asked, with the answers, and it is licensed; and as
@@ -28,13 +28,13 @@ pub record RanNoted (limit : ℕ) (s_old s_new : Reading) (k_old k_new : Writing
   pub licensed : RunsLicensed (free_context ∷ []) limit s_old s_new k_old k_new (seen_of [] false 0 0) seen result
   pub closed : HasClosedAll seen
 
--- The script was run, and the text of the run's log was written so. Where memory ran out in the run nothing was.
+-- The script was run, and the text of the run's log was written so, as it came. Where memory ran out in the run a front of it was.
 pub record RanRecorded (limit : ℕ) (m_old m_new : Writing) (s_old s_new : Reading) (k_old k_new : Writing) (place : ℕ) (end : RecorderStatus) : Type 0 where
   pub log : List Entry
   pub result : Result RunEnd RunError
   pub ran : RanNoted limit s_old s_new k_old k_new log result
   pub written : Result (Unit {0}) Unwritten
-  pub wrote : WritesLog (log_text (free_context ∷ []) log) m_old m_new written
+  pub wrote : WritesAsItComes (log_text (free_context ∷ []) log) m_old m_new written
   pub no_memory : result ≡ Err error.Memory → written ≡ Err unwritten.Memory
   pub end_is : end ≡ status_after result written
   pub place_is : place ≡ place_after result written

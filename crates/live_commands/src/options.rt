@@ -13,6 +13,8 @@ pub struct Options<'a> {
     pub rules: Option<&'a str>,
     /// The file that the log goes to (`--record LOG`).
     pub log: Option<&'a str>,
+    /// Whether that file may be overwritten (`--force`, behind it).
+    pub overwrites: bool,
 }
 
 /// Whether the first word is this flag, and the words after it.
@@ -38,12 +40,17 @@ pub fn options_in<'a>(words: &'a [String]) -> (Options<'a>, &'a [String]) {
     let (hosts, words) = file(words, "--hosts");
     let (rules, words) = file(words, "--policy");
     let (log, words) = file(words, "--record");
+    let (overwrites, words) = match log {
+        Some(_) => flag(words, "--force"),
+        None => (false, words),
+    };
     let options = Options {
         anywhere,
         endless,
         hosts,
         rules,
         log,
+        overwrites,
     };
     (options, words)
 }

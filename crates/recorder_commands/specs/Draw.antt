@@ -7,7 +7,7 @@ use Rattle.world_io.specs.Written.{TookAll, TookPart}
 use Rattle.wasi_program.specs.declared.status.Status.TheVariants as status
 use Rattle.recorder_commands.specs.declared.status.RecorderStatus.{RecorderStatus}
 use Rattle.recorder_commands.specs.declared.status.RecorderStatus.TheVariants.{Of}
-use Rattle.recorder_commands.specs.Log.{LogRead, NoLogSince}
+use Rattle.recorder_commands.specs.Log.{LogRead, LogCut, NoLogSince}
 
 -- a picture was written whole, or in part; or memory ran out, and nothing was
 abbrev pub DrawsSo : Writing → Writing → RecorderStatus → Type 0
@@ -16,11 +16,11 @@ DrawsSo k_old k_new (Of status.WriteFault) = (picture : List ℕ) × TookPart k_
 DrawsSo k_old k_new (Of status.Memory) = k_new ≡ k_old
 DrawsSo k_old k_new _ = ⊥
 
--- The log was read whole, and a picture of it was written so.
+-- The log was read, whole or cut, and a picture of it was written so.
 pub record LogDrawn (l_old l_new : Reading) (k_old k_new : Writing) (place : ℕ) (end : RecorderStatus) : Type 0 where
   pub contexts : List WasiSocketsCtx
   pub entries : List Entry
-  pub read : LogRead l_old l_new contexts entries
+  pub read : LogRead l_old l_new contexts entries ⊎ LogCut l_old l_new contexts entries
   pub draws : DrawsSo k_old k_new end
   pub place_is : place ≡ 0
 

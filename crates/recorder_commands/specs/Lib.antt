@@ -4,3 +4,4 @@ pub mod Record
 pub mod Replay
 pub mod Draw
 pub mod Ends
+pub mod Writing

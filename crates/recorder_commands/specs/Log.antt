@@ -1,5 +1,5 @@
 -- How a log is written, and how it is read.
-use Rattle.std.specs.Prelude.{◌≡◌, ℕ, ◌<◌, ◌^◌, true, codes, List, Result, Ok, Err, length}
+use Rattle.std.specs.Prelude.{◌≡◌, ◌⊎◌, ℕ, ◌<◌, ◌≤◌, ◌^◌, true, codes, List, Result, Ok, Err, length}
 use Rattle.std.specs.List.{list_all}
 use Rattle.wasi_world.specs.declared.call.Entry.{Entry}
 use Rattle.wasi_world.specs.declared.outcome.WasiSocketsCtx.{WasiSocketsCtx}
@@ -9,12 +9,13 @@ use Rattle.world_io.specs.Io.{Reading, Writing}
 use Rattle.world_io.specs.Written.{TookAll, TookPart}
 use Rattle.wasi_program.specs.Reading.{ReadWithin}
 use Rattle.wasi_program.specs.declared.status.Status.TheVariants as status
+use Rattle.wasi_replay.specs.Cut.{completed}
 use Rattle.wasi_replay.specs.Log.{log_of}
 use Rattle.wasi_replay.specs.Recorded.{fits_entry}
 use Rattle.recorder_commands.specs.declared.log.Unwritten.{Unwritten}
 use Rattle.recorder_commands.specs.declared.log.Unwritten.TheVariants as unwritten
 use Rattle.recorder_commands.specs.declared.log.FoundLog.{FoundLog}
-use Rattle.recorder_commands.specs.declared.log.FoundLog.TheVariants.{Read, Stopped}
+use Rattle.recorder_commands.specs.declared.log.FoundLog.TheVariants.{Read, Cut, Stopped}
 use Rattle.recorder_commands.specs.declared.status.RecorderStatus.{RecorderStatus}
 use Rattle.recorder_commands.specs.declared.status.RecorderStatus.TheVariants.{Of, BadLog, LogFault}
 
@@ -42,11 +43,35 @@ pub record LogRead (before after : Reading) (contexts : List WasiSocketsCtx) (en
   pub fits : list_all fits_entry entries ≡ true
   pub few_entries : length entries < 4294967295
 
--- The log was read whole, and this is its first line that isn't in its grammar.
+-- A text that isn't a whole log, of which this is the first line that is wrong, is one that was cut: its whole lines are these
+-- contexts and entries, on which a script can be run.
+pub record IsCutLog (text : List ℕ) (line : ℕ) (contexts : List WasiSocketsCtx) (entries : List Entry) : Type 0 where
+  pub within : length text ≤ most_log
+  pub are : log_of (completed text) ≡ Ok (contexts, entries)
+  pub numbered : AreNumbered contexts
+  pub few_contexts : length contexts < 2 ^ 32
+  pub fits : list_all fits_entry entries ≡ true
+  pub few_entries : length entries < 4294967295
+
+-- The log was read to its end, isn't whole, and was cut.
+pub record LogCut (before after : Reading) (contexts : List WasiSocketsCtx) (entries : List Entry) : Type 0 where
+  pub text : List ℕ
+  pub read : ReadWithin most_log before after text
+  pub line : ℕ
+  pub bad : log_of text ≡ Err line
+  pub is_cut : IsCutLog text line contexts entries
+
+-- a text isn't one that was cut: it is too long, or its whole lines aren't a log with `end` behind them
+abbrev pub IsNoCut : List ℕ → Type 0
+IsNoCut text = (most_log < length text) ⊎ ((line : ℕ) × (log_of (completed text) ≡ Err line))
+
+-- The log was read to its end, or past the most bytes that it may have; this is its first line that isn't in its grammar, and it
+-- isn't one that was cut.
 pub record HasBadLogLine (before after : Reading) (line : ℕ) : Type 0 where
   pub text : List ℕ
   pub read : ReadWithin most_log before after text
   pub bad : log_of text ≡ Err line
+  pub no_cut : IsNoCut text
 
 -- why there is no log, by how the program ends
 abbrev pub NoLogSince : Reading → Reading → RecorderStatus → ℕ → Type 0
@@ -55,7 +80,16 @@ NoLogSince before after LogFault line = Rose before.faults after.faults × (line
 NoLogSince before after (Of status.Memory) line = line ≡ 0
 NoLogSince before after _ line = ⊥
 
+-- what a text is that isn't a whole log, of which this is the first line that is wrong
+abbrev pub IsCutSo : List ℕ → ℕ → FoundLog → Type 0
+IsCutSo text line (Read contexts entries) = ⊥
+IsCutSo text line (Cut contexts entries) = IsCutLog text line contexts.items entries.items
+IsCutSo text line (Stopped BadLog bad) = (bad ≡ line) × IsNoCut text
+IsCutSo text line (Stopped (Of status.Memory) bad) = bad ≡ 0
+IsCutSo text line (Stopped _ bad) = ⊥
+
 -- the log, or why there is none
 abbrev pub IsLogFoundSo : Reading → Reading → FoundLog → Type 0
 IsLogFoundSo before after (Read contexts entries) = LogRead before after contexts.items entries.items
+IsLogFoundSo before after (Cut contexts entries) = LogCut before after contexts.items entries.items
 IsLogFoundSo before after (Stopped end line) = NoLogSince before after end line

@@ -9,9 +9,12 @@ use Rattle.wasi_program.specs.declared.status.Status.TheVariants as status
 use Rattle.wasi_recorder.specs.declared.replaying.ReplayEnd.{ReplayEnd}
 use Rattle.wasi_recorder.specs.declared.replaying.ReplayEnd.TheVariants as end
 use Rattle.wasi_recorder.specs.Outcome.{Replayed, Compares, Stops}
+use Rattle.wasi_recorder.specs.declared.front.FrontEnd.{FrontEnd}
+use Rattle.wasi_recorder.specs.declared.front.FrontEnd.TheVariants as front
+use Rattle.wasi_recorder.specs.Front.{FrontReplayed, FrontStops}
 use Rattle.recorder_commands.specs.declared.status.RecorderStatus.{RecorderStatus}
-use Rattle.recorder_commands.specs.declared.status.RecorderStatus.TheVariants.{Of, Differs}
-use Rattle.recorder_commands.specs.Log.{LogRead, NoLogSince}
+use Rattle.recorder_commands.specs.declared.status.RecorderStatus.TheVariants.{Of, Differs, LogEnds}
+use Rattle.recorder_commands.specs.Log.{LogRead, LogCut, NoLogSince}
 
 -- how a replay is reported
 abbrev pub status_of : Result ReplayEnd RunError → RecorderStatus
@@ -44,6 +47,36 @@ pub record LogReplayed (limit : ℕ) (l_old l_new s_old s_new : Reading) (k_old 
   pub read : LogRead l_old l_new contexts entries
   pub runs : RunsOnLog limit contexts entries s_old s_new k_old k_new place end
 
+-- == a log that was cut
+abbrev pub status_of_front : Result FrontEnd RunError → RecorderStatus
+status_of_front (Ok front.LogEnds) = LogEnds
+status_of_front (Ok (front.Of e)) = status_of (Ok e)
+status_of_front (Err e) = status_of (Err e)
+
+abbrev pub place_of_front : Result FrontEnd RunError → ℕ
+place_of_front (Ok front.LogEnds) = 0
+place_of_front (Ok (front.Of e)) = place_of (Ok e)
+place_of_front (Err e) = place_of (Err e)
+
+-- the replies of the lines before the log ended, or as on a whole log
+abbrev pub ReplaysCutSo : ℕ → List WasiSocketsCtx → List Entry → Reading → Reading → Writing → Writing → Result FrontEnd RunError → Type 0
+ReplaysCutSo limit contexts entries s_old s_new k_old k_new (Ok e) = FrontReplayed contexts entries limit s_old s_new k_old k_new e
+ReplaysCutSo limit contexts entries s_old s_new k_old k_new (Err e) = FrontStops contexts entries limit s_old s_new k_old k_new e
+
+-- The script was run on the answers of these entries of a log that was cut, and so the program ends so.
+pub record RunsOnCut (limit : ℕ) (contexts : List WasiSocketsCtx) (entries : List Entry) (s_old s_new : Reading) (k_old k_new : Writing) (place : ℕ) (end : RecorderStatus) : Type 0 where
+  pub outcome : Result FrontEnd RunError
+  pub replays : ReplaysCutSo limit contexts entries s_old s_new k_old k_new outcome
+  pub end_is : end ≡ status_of_front outcome
+  pub place_is : place ≡ place_of_front outcome
+
+-- The log was read to its end and is one that was cut, and the script was run on its answers.
+pub record CutReplayed (limit : ℕ) (l_old l_new s_old s_new : Reading) (k_old k_new : Writing) (place : ℕ) (end : RecorderStatus) : Type 0 where
+  pub contexts : List WasiSocketsCtx
+  pub entries : List Entry
+  pub read : LogCut l_old l_new contexts entries
+  pub runs : RunsOnCut limit contexts entries s_old s_new k_old k_new place end
+
 -- Nothing was read from the source or written to the sink, for this reason.
 pub record NothingReplayed (s_old s_new : Reading) (k_old k_new : Writing) (P : Type 0) : Type 0 where
   pub source : s_new ≡ s_old
@@ -55,3 +88,4 @@ abbrev pub ReplayEnds : ℕ → Reading → Reading → Reading → Reading → 
 ReplayEnds limit l_old l_new s_old s_new k_old k_new place end =
     NothingReplayed s_old s_new k_old k_new (NoLogSince l_old l_new end place)
     ⊎ LogReplayed limit l_old l_new s_old s_new k_old k_new place end
+    ⊎ CutReplayed limit l_old l_new s_old s_new k_old k_new place end

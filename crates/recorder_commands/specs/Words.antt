@@ -6,13 +6,14 @@ use Rattle.wasi_program.specs.Status as program
 use Rattle.recorder_commands.specs.declared.status.Command.{Command}
 use Rattle.recorder_commands.specs.declared.status.Command.TheVariants.{Record, Replay, Draw}
 use Rattle.recorder_commands.specs.declared.status.RecorderStatus.{RecorderStatus}
-use Rattle.recorder_commands.specs.declared.status.RecorderStatus.TheVariants.{Of, BadLog, LogFault, Differs}
+use Rattle.recorder_commands.specs.declared.status.RecorderStatus.TheVariants.{Of, BadLog, LogFault, Differs, LogEnds}
 
 abbrev pub number_of : RecorderStatus → ℕ
 number_of (Of s) = program.number_of s
 number_of BadLog = 13
 number_of LogFault = 14
 number_of Differs = 15
+number_of LogEnds = 25
 
 -- the command of a word with a limit
 abbrev pub limited_by : List ℕ → ℕ → Option Command

@@ -30,7 +30,16 @@ fn draw_entries<K: Sink>(
     }
 }
 
-/// Reads a log, and draws the part of its entries.
+/// Draws the part of a log's entries, and ends so.
+fn draw_found<K: Sink>(alloc: Global, entries: &[Entry], part: Part, sink: &mut K) -> Ended
+    ensures draws { DrawsSo (K.writing sink.old) (K.writing sink.new) result.status }
+    ensures place { result.place ≡ 0 }
+    ensures log { result.log.items ≡ [] }
+{
+    Ended::without_log(alloc, draw_entries(alloc, entries, part, sink), 0)
+}
+
+/// Reads a log, whole or cut, and draws the part of its entries.
 pub fn draw_log<L: Source, K: Sink>(
     alloc: Global,
     part: Part,
@@ -42,10 +51,8 @@ pub fn draw_log<L: Source, K: Sink>(
     ensures log { result.log.items ≡ [] }
 {
     match read_log(alloc, log_in) {
-        FoundLog::Read(_, entries) => {
-            let status = draw_entries(alloc, entries.as_slice(), part, sink);
-            return Ended::without_log(alloc, status, 0);
-        }
+        FoundLog::Read(_, entries) => return draw_found(alloc, entries.as_slice(), part, sink),
+        FoundLog::Cut(_, entries) => return draw_found(alloc, entries.as_slice(), part, sink),
         FoundLog::Stopped(status, line) => return Ended::without_log(alloc, status, line),
     }
 }

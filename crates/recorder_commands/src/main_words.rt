@@ -49,11 +49,12 @@ fn do_command<C: Source, L: Source, M: Sink, S: Source, K: Sink>(
 }
 
 /// Does what the program's words say. `record LIMIT` runs the script that the source gives, of at
-/// most LIMIT bytes, over the scenario's world, as `kaxtubor run LIMIT` does, and
-/// then writes the log of the run. `replay LIMIT` reads a log, and runs the script on its answers:
-/// its replies go to the sink where the run asks just what is recorded, and else nothing (status
-/// 15). `draw` and `draw FROM TO` read a log, and write a picture of it, or of these lines of its
-/// script, to the sink. Other words are status 1.
+/// most LIMIT bytes, over the scenario's world, as `kaxtubor run LIMIT` does, and then writes the
+/// log of the run. `replay LIMIT` reads a log, and runs the script on its answers: its replies go to
+/// the sink where the run asks just what is recorded, and else nothing (status 15). Of a log that
+/// was cut, the replies up to there go to the sink (status 25). `draw` and `draw FROM TO` read a
+/// log, and write a picture of it, or of these lines of its script, to the sink. Other words are
+/// status 1.
 ///
 /// The words are tested first. A log that can't be written is status 14, whatever the run's end
 /// was; so is one that can't be read, and one with a bad line is status 13.

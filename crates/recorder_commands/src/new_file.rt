@@ -1,16 +1,17 @@
 //! A file that is made when it is written.
 
+use crate::log_file::LogFile;
 use std::io::Write;
 use std::rt::Files;
 use std::{fs, io};
 
-/// A file that the first write to it makes, or makes empty, so that where nothing is written all
-/// stays as it was. One that can't be opened fails at each write.
+/// A log's file that the first write to it makes, or makes empty, so that where nothing is written
+/// all stays as it was. One that can't be opened fails at each write.
 #[derive(Drop)]
 pub struct NewFile<'a, R: Files> {
     rt: &'a R,
     path: &'a str,
-    file: Option<R::File>,
+    file: Option<LogFile<R::File>>,
 }
 
 impl<'a, R: Files> NewFile<'a, R> {
@@ -27,7 +28,7 @@ impl<'a, R: Files> NewFile<'a, R> {
 impl<R: Files> Write for NewFile<'_, R> {
     fn write(&mut self, bytes: &[u8]) -> io::Result<usize> {
         if self.file.is_none() {
-            self.file = Some(fs::create(self.rt, self.path)?);
+            self.file = Some(LogFile::new(fs::create(self.rt, self.path)?));
         }
         match &mut self.file {
             Some(file) => file.write(bytes),

@@ -36,6 +36,31 @@ pub fn end_without_log<R: Eprint>(rt: &R, number: u8, path: &str) -> ExitCode
     ExitCode::from(number)
 }
 
+/// Prints that there is a file at this path, which isn't overwritten. Returns the status as the
+/// program's.
+pub fn end_at_log_file<R: Eprint>(rt: &R, number: u8, path: &str) -> ExitCode
+    ensures { exit_status result ≡ number }
+{
+    let printed = eprintln!(rt;
+        "status {number}\n{path} is there, and was left as it is; --force behind it overwrites it"
+    );
+    let _ = printed;
+    ExitCode::from(number)
+}
+
+/// Prints that the log was cut, and that the replies up to there were written. Returns the status as
+/// the program's.
+pub fn end_at_cut<R: Eprint>(rt: &R, number: u8) -> ExitCode
+    ensures { exit_status result ≡ number }
+{
+    let path = log_path();
+    let printed = eprintln!(rt;
+        "status {number}\n{path} was cut and has no last line `end`; the replies to the lines of the script up to there were written"
+    );
+    let _ = printed;
+    ExitCode::from(number)
+}
+
 /// Prints that the run isn't the recorded one from this entry on. Returns the status as the
 /// program's.
 pub fn end_at_difference<R: Eprint>(rt: &R, number: u8, place: u32) -> ExitCode

@@ -20,6 +20,8 @@ pub enum RecorderStatus {
     LogFault,
     /// The run isn't the recorded one.
     Differs,
+    /// The log was cut, and the run asked more than it has.
+    LogEnds,
 }
 
 impl RecorderStatus {
@@ -32,6 +34,7 @@ impl RecorderStatus {
             RecorderStatus::BadLog => 13,
             RecorderStatus::LogFault => 14,
             RecorderStatus::Differs => 15,
+            RecorderStatus::LogEnds => 25,
         }
     }
 }

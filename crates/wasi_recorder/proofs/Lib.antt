@@ -1,2 +1,4 @@
+mod Fronts
 pub mod Comparing
 pub mod Outcomes
+mod ReplayCauses

@@ -1,13 +1,13 @@
 -- What a replay ends with, by what its run asked.
 use Rattle.std.specs.Prelude.{IfOk, IfErr, if◌then◌else◌}
-use Rattle.std.proofs.Common.{◌≡◌, ℕ, ◌<◌, ◌≤◌, nat_lt, Bool, true, false, List, [], ◌++◌, length, take, Option, Some, None, option_map, unwrap_or, is_some, Result, Ok, Err, arith, ap, sym, subst, ◌∙◌, refl}
+use Rattle.std.proofs.Common.{◌≡◌, ℕ, ◌<◌, ◌≤◌, nat_lt, Bool, true, false, List, [], ◌++◌, length, Option, Some, None, option_map, unwrap_or, is_some, Result, Ok, Err, arith, ap, sym, subst, ◌∙◌, refl}
 use Rattle.std.proofs.lemmas.Bool.{false≢true}
 use Rattle.std.proofs.lemmas.Bool.Decides.{nat_tests}
 use Rattle.wasi_world.specs.declared.call.Entry.{Entry}
 use Rattle.wasi_world.specs.declared.outcome.WasiSocketsCtx.{WasiSocketsCtx}
-use Rattle.wasi_world.specs.Seen.{Seen, Rose}
+use Rattle.wasi_world.specs.Seen.{Seen}
 use Rattle.wasi_world.specs.Asks.{Asks, Give, Left}
-use Rattle.world_io.specs.Io.{Reading, Writing, Took}
+use Rattle.world_io.specs.Io.{Reading, Writing}
 use Rattle.world_io.specs.Written.{TookAll, TookPart}
 use Rattle.host_store.specs.declared.machine.Machine.{Machine}
 use Rattle.host_store.specs.Machine.{first_state}
@@ -20,11 +20,11 @@ use Rattle.wasi_run.specs.declared.error.RunError.{RunError}
 use Rattle.wasi_run.specs.declared.error.RunError.TheVariants as error
 use Rattle.wasi_run.specs.Causes.{DoneLines, ReadsAll, StopsAtTrap, StopsAtReadFault}
 use Rattle.wasi_run.specs.Ran.{texts}
-use Rattle.wasi_replay.specs.Replayed.{StandsTo, seen_of}
+use Rattle.wasi_replay.specs.Replayed.{StandsTo}
 use Rattle.wasi_recorder.specs.declared.replaying.ReplayEnd.{ReplayEnd}
 use Rattle.wasi_recorder.specs.declared.replaying.ReplayEnd.TheVariants.{Same, Differs}
 use Rattle.wasi_recorder.specs.Replays.{DiffersAt}
-use Rattle.wasi_recorder.specs.Outcome.{EndsSo, Compares, IsCut, Replayed, Stops, first_difference, Finishes}
+use Rattle.wasi_recorder.specs.Outcome.{Compares, IsCut, Replayed, Stops, first_difference, Finishes}
 use Rattle.wasi_recorder.proofs.Comparing.{run_differs, run_ended, run_same}
 
 some_is : {A : Type 0} (a b : A) → Some a ≡ Some b → a ≡ b
@@ -126,5 +126,5 @@ module _ (contexts : List WasiSocketsCtx) (limit : ℕ) (before after : Reading)
       (λ steps answers state asked is. (same_by (run contexts [] first_state 1 steps) (answers, state) recorded log asked differs stands (sym place_of ∙ finishes.1), subst (λ w. TookPart k_old w k_new) is finishes.2))
   stopped_by (Err error.ReadFault) finishes = ((read_fault finishes.0).rose, finishes.1)
   stopped_by (Err error.Memory) finishes = finishes
-  stopped_by (Err (error.BadStep line)) finishes = finishes
-  stopped_by (Err error.TooLong) finishes = finishes
+  stopped_by (Err (error.BadStep line)) finishes = finishes.1
+  stopped_by (Err error.TooLong) finishes = finishes.1

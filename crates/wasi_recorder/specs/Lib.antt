@@ -1,2 +1,4 @@
+pub mod Causes
+pub mod Front
 pub mod Outcome
 pub mod Replays

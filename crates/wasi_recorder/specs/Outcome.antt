@@ -15,7 +15,7 @@ use Rattle.wasi_steps.specs.declared.reply.Reply.{Reply}
 use Rattle.wasi_run.specs.declared.run.RunEnd.{RunEnd}
 use Rattle.wasi_run.specs.declared.run.RunEnd.TheVariants.{AllRead, Trapped}
 use Rattle.wasi_run.specs.declared.error.RunError.{RunError}
-use Rattle.wasi_run.specs.declared.error.RunError.TheVariants.{WriteFault, ReadFault}
+use Rattle.wasi_run.specs.declared.error.RunError.TheVariants.{WriteFault, ReadFault, BadStep, TooLong}
 use Rattle.wasi_run.specs.Lines.{StartWith}
 use Rattle.wasi_run.specs.Ran.{texts, NoTrap, OneTrap}
 use Rattle.wasi_recorder.specs.declared.replaying.ReplayEnd.{ReplayEnd}
@@ -74,4 +74,6 @@ Finishes outcome differs replies k_old k_new (Ok (Same end)) = (outcome ≡ Ok e
 Finishes outcome differs replies k_old k_new (Ok (Differs place)) = ((end : RunEnd) × (outcome ≡ Ok end)) × (differs ≡ Some place) × (k_new ≡ k_old)
 Finishes outcome differs replies k_old k_new (Err WriteFault) = ((end : RunEnd) × (outcome ≡ Ok end)) × (differs ≡ None) × TookPart k_old replies k_new
 Finishes outcome differs replies k_old k_new (Err ReadFault) = (outcome ≡ Err ReadFault) × (k_new ≡ k_old)
+Finishes outcome differs replies k_old k_new (Err (BadStep line)) = (outcome ≡ Err (BadStep line)) × (k_new ≡ k_old)
+Finishes outcome differs replies k_old k_new (Err TooLong) = (outcome ≡ Err TooLong) × (k_new ≡ k_old)
 Finishes outcome differs replies k_old k_new (Err e) = k_new ≡ k_old

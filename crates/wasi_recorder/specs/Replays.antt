@@ -1,5 +1,5 @@
 -- A run beside a recorded log: whether it asks just what is recorded, or where it differs.
-use Rattle.std.specs.Prelude.{◌≡◌, ℕ, ◌≤◌, ⊤, List, [], ◌∷◌, take, drop, length}
+use Rattle.std.specs.Prelude.{ℕ, ◌≤◌, ⊤, List, [], ◌∷◌, take, drop, length}
 use Rattle.wasi_world.specs.declared.call.Call.{Call}
 use Rattle.wasi_world.specs.declared.call.Call.TheVariants.{Write}
 use Rattle.wasi_world.specs.declared.call.Told.{Told}

@@ -6,6 +6,7 @@ ghost use Rattle.wasi_world.specs.Contexts.{AreNumbered};
 ghost use Rattle.wasi_replay.specs.Recorded.{fits_entry};
 ghost use Rattle.wasi_recorder.specs.Outcome.{Replayed, Compares, Stops};
 ghost use Rattle.wasi_recorder.specs.Outcome.{first_difference, Finishes};
+ghost use Rattle.wasi_recorder.specs.Causes.{Causes, ReplayCompletes};
 
 use std::alloc::Global;
 use std::marker::Brand;
@@ -26,7 +27,7 @@ pub enum ReplayEnd {
 
 /// Where the run differs that made so many calls, of as many recorded ones: where its log does, or
 /// after all its calls, where more are recorded.
-fn first_difference(differs: Option<u32>, made: usize, count: usize) -> Option<u32>
+pub(crate) fn first_difference(differs: Option<u32>, made: usize, count: usize) -> Option<u32>
     requires { differs ≡ None → made < 2 ^ 32 }
     ensures { result ≡ first_difference differs made count }
 {
@@ -39,7 +40,7 @@ fn first_difference(differs: Option<u32>, made: usize, count: usize) -> Option<u
 
 /// Ends a replay whose replies are these bytes, of which none were written. A run into memory fails
 /// to write only where memory ran out.
-fn finish<K: Sink>(
+pub(crate) fn finish<K: Sink>(
     outcome: Result<RunEnd, RunError>,
     differs: Option<u32>,
     replies: &[u8],
@@ -84,6 +85,11 @@ fn replay_on<R: Recorded, S: Source, K: Sink>(
     ensures stopped { IfErr result (λ e. Stops contexts.old.items R.recorded limit
         (S.reading reader.old) (S.reading reader.new) (K.writing writer.old)
         (K.writing writer.new) e) }
+    ensures cause { IfErr result (λ e. Causes (length contexts.old.items) limit
+        (S.reading reader.old) (S.reading reader.new) e) }
+    ensures complete { ReplayCompletes (length contexts.old.items) limit
+        (S.reading reader.old) (S.reading reader.new) (K.writing writer.old)
+        (K.writing writer.new) result }
     ensures contexts { contexts.new.items ≡ contexts.old.items }
 {
     let count = recorded.len();
@@ -118,6 +124,11 @@ pub fn replay<S: Source, K: Sink>(
     ensures stopped { IfErr result (λ e. Stops contexts.old.items recorded.items limit
         (S.reading reader.old) (S.reading reader.new) (K.writing writer.old)
         (K.writing writer.new) e) }
+    ensures cause { IfErr result (λ e. Causes (length contexts.old.items) limit
+        (S.reading reader.old) (S.reading reader.new) e) }
+    ensures complete { ReplayCompletes (length contexts.old.items) limit
+        (S.reading reader.old) (S.reading reader.new) (K.writing writer.old)
+        (K.writing writer.new) result }
     ensures contexts { contexts.new.items ≡ contexts.old.items }
 {
     replay_on::<Brand, S, K>(alloc, recorded, contexts, limit, reader, writer)

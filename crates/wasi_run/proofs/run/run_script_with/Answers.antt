@@ -1,7 +1,7 @@
 use Rattle.wasi_run.proofs.Completes.{completes}
 use Rattle.wasi_run.proofs.CauseLaws.{reads_all, stops_at_trap, stops_at_bad_step, stops_too_long, stops_at_read_fault, stops_at_write_fault, stops_for_memory}
 use Rattle.wasi_run.proofs.Headline.{begins_run, runs_licensed, whole_at_ok, over_open, has_closed, has_closed_each}
-use Rattle.wasi_run.proofs.run.run_script.Goals as goal
+use Rattle.wasi_run.proofs.run.run_script_with.Goals as goal
 
 pub finish-requires : goal.finish-requires
 finish-requires g c = over_open c.run_lines-result.ensures c.requires.open

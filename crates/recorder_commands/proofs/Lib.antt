@@ -1,0 +1,2 @@
+mod ToldFronts
+mod Writings
