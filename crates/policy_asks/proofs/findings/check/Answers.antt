@@ -7,11 +7,11 @@ pub returns-in_default : goal.returns-in_default
 returns-in_default g c =
     let counted = c.in_ok-conflicts.ensures in
     let text : c.as_bytes.result.now ≡ findings_text c.in_ok-unmatched.unmatched.items c.in_ok-shadowed.shadowed.items (take 1000 counted.all) (min (length counted.all) 18446744073709551615) =
-        c.as_bytes.ensures.value ∙ (c.as_str.ensures.value ∙ (c.in_ok-text.ensures
-        ∙ (ap (λ lines. findings_text lines c.as_slice-2.result.now c.in_ok-conflicts.conflicts.first.items c.in_ok-conflicts.conflicts.count) c.as_slice.ensures.value
-        ∙ (ap (λ lines. findings_text c.in_ok-unmatched.unmatched.items lines c.in_ok-conflicts.conflicts.first.items c.in_ok-conflicts.conflicts.count) c.as_slice-2.ensures.value
-        ∙ (ap (λ pairs. findings_text c.in_ok-unmatched.unmatched.items c.in_ok-shadowed.shadowed.items pairs c.in_ok-conflicts.conflicts.count) counted.tally.first_is
-        ∙ ap (λ count. findings_text c.in_ok-unmatched.unmatched.items c.in_ok-shadowed.shadowed.items (take 1000 counted.all) count) counted.tally.count_is))))) in
+    c.as_bytes.ensures.value ∙ (c.as_str.ensures.value ∙ (c.in_ok-text.ensures
+    ∙ (ap (λ lines. findings_text lines c.as_slice-2.result.now c.in_ok-conflicts.conflicts.first.items c.in_ok-conflicts.conflicts.count) c.as_slice.ensures.value
+    ∙ (ap (λ lines. findings_text c.in_ok-unmatched.unmatched.items lines c.in_ok-conflicts.conflicts.first.items c.in_ok-conflicts.conflicts.count) c.as_slice-2.ensures.value
+    ∙ (ap (λ pairs. findings_text c.in_ok-unmatched.unmatched.items c.in_ok-shadowed.shadowed.items pairs c.in_ok-conflicts.conflicts.count) counted.tally.first_is
+    ∙ ap (λ count. findings_text c.in_ok-unmatched.unmatched.items c.in_ok-shadowed.shadowed.items (take 1000 counted.all) count) counted.tally.count_is))))) in
     record {
       unmatched = c.in_ok-unmatched.unmatched.items;
       shadowed = c.in_ok-shadowed.shadowed.items;
@@ -33,11 +33,11 @@ pub returns : goal.returns
 returns g c =
     let counted = c.in_ok-conflicts.ensures in
     let text : c.as_bytes.result.now ≡ findings_text c.in_ok-unmatched.unmatched.items c.in_ok-shadowed.shadowed.items (take 1000 counted.all) (min (length counted.all) 18446744073709551615) =
-        c.as_bytes.ensures.value ∙ (c.as_str.ensures.value ∙ (c.in_ok-text.ensures
-        ∙ (ap (λ lines. findings_text lines c.as_slice-2.result.now c.in_ok-conflicts.conflicts.first.items c.in_ok-conflicts.conflicts.count) c.as_slice.ensures.value
-        ∙ (ap (λ lines. findings_text c.in_ok-unmatched.unmatched.items lines c.in_ok-conflicts.conflicts.first.items c.in_ok-conflicts.conflicts.count) c.as_slice-2.ensures.value
-        ∙ (ap (λ pairs. findings_text c.in_ok-unmatched.unmatched.items c.in_ok-shadowed.shadowed.items pairs c.in_ok-conflicts.conflicts.count) counted.tally.first_is
-        ∙ ap (λ count. findings_text c.in_ok-unmatched.unmatched.items c.in_ok-shadowed.shadowed.items (take 1000 counted.all) count) counted.tally.count_is))))) in
+    c.as_bytes.ensures.value ∙ (c.as_str.ensures.value ∙ (c.in_ok-text.ensures
+    ∙ (ap (λ lines. findings_text lines c.as_slice-2.result.now c.in_ok-conflicts.conflicts.first.items c.in_ok-conflicts.conflicts.count) c.as_slice.ensures.value
+    ∙ (ap (λ lines. findings_text c.in_ok-unmatched.unmatched.items lines c.in_ok-conflicts.conflicts.first.items c.in_ok-conflicts.conflicts.count) c.as_slice-2.ensures.value
+    ∙ (ap (λ pairs. findings_text c.in_ok-unmatched.unmatched.items c.in_ok-shadowed.shadowed.items pairs c.in_ok-conflicts.conflicts.count) counted.tally.first_is
+    ∙ ap (λ count. findings_text c.in_ok-unmatched.unmatched.items c.in_ok-shadowed.shadowed.items (take 1000 counted.all) count) counted.tally.count_is))))) in
     record {
       unmatched = c.in_ok-unmatched.unmatched.items;
       shadowed = c.in_ok-shadowed.shadowed.items;
