@@ -1,1 +1,1 @@
-pub mod Unlogged
+pub mod Searches
