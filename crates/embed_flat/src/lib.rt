@@ -16,6 +16,5 @@ pub mod udp;
 
 pub use args::{Args, Refusal};
 pub use arguments::guest_call;
-pub use memory::put;
 pub use results::{Lists, written};
 pub use shape::{Shape, result_place, shape_of};

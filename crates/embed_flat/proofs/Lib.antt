@@ -1,0 +1,3 @@
+mod Examples
+pub mod Puts
+pub mod Blocks

@@ -1,0 +1,5 @@
+pub mod Memory
+pub mod Abi
+pub mod Wit
+pub mod Fields
+pub mod Answers
