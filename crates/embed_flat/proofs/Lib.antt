@@ -1,3 +1,5 @@
 mod Examples
 pub mod Puts
 pub mod Blocks
+pub mod Done
+pub mod InPlaces

@@ -1,5 +1,5 @@
 -- Which value of the interface's types a call's answer is.
-use Rattle.std.specs.Prelude.{ℕ, ◌+◌, ◌-◌, ◌/◌, ◌==◌, nat_lt, nat_le, Bool, true, false, ◌&&◌, ◌||◌, not, if◌then◌else◌, List, [], ◌∷◌, length, drop, Option, Some, None, refl}
+use Rattle.std.specs.Prelude.{◌≡◌, ℕ, ◌+◌, ◌*◌, ◌≤◌, ◌⊎◌, ◌-◌, ◌/◌, ◌==◌, nat_lt, nat_le, Bool, true, false, ◌&&◌, ◌||◌, not, if◌then◌else◌, List, [], ◌∷◌, length, drop, Option, Some, None, refl}
 use Rattle.wasi_steps.specs.declared.reply.CodeWord.{CodeWord}
 use Rattle.wasi_steps.specs.declared.reply.CodeWord.TheVariants as word
 use Rattle.wasi_steps.specs.declared.reply.Field.{Field}
@@ -144,6 +144,12 @@ answer_of s reply.Closed place = stream_answer s (stream_error_value None)
 answer_of s (reply.Failed code handle) place = stream_answer s (stream_error_value (Some handle))
 answer_of s _ place = None
 
+-- the number that a call returns, of those that return one: of a family its case
+abbrev pub returned : Shape → Reply → ℕ
+returned shape.Flat (reply.Ok fields) = number_in fields 0
+returned shape.Family (reply.Ok fields) = if number_in fields 0 == 6 then 1 else 0
+returned _ _ = 0
+
 -- == what is written
 -- whether it gives a list
 abbrev pub has_list : Shape → Bool
@@ -158,6 +164,13 @@ has_room shape.Datagrams fields room = (number_in fields 0 == 0) || nat_le (size
 has_room shape.StreamBytes fields room = nat_le (length (bytes_in fields 0)) room
 has_room shape.Places fields room = nat_le (length fields) (room / size U32)
 has_room _ fields room = true
+
+-- the same as a fact: a list of this shape that begins at a place ends within the memory
+abbrev pub HasRoom : Shape → List Field → ℕ → List ℕ → Type 0
+HasRoom shape.Datagrams fields place memory = ((number_in fields 0 == 0) ≡ true) ⊎ (place + (40 + length (data_in (drop 1 fields))) ≤ length memory)
+HasRoom shape.StreamBytes fields place memory = place + length (bytes_in fields 0) ≤ length memory
+HasRoom shape.Places fields place memory = place + 4 * length fields ≤ length memory
+HasRoom _ fields place memory = Unit {0}
 
 -- whether there is room within the memory for the list, and it is enough
 abbrev pub list_fits : Shape → List Field → List ℕ → Lists → Bool

@@ -1,10 +1,10 @@
 //! Writes what a call gave into the guest's memory.
 
-ghost use Rattle.std.specs.Prelude.{◌≡◌, ◌≤◌, ◌+◌, ◌*◌, ◌==◌, ◌&&◌, ◌⊎◌, length, take, drop};
-ghost use Rattle.std.specs.Prelude.{IsTrue, true, if◌then◌else◌};
+ghost use Rattle.std.specs.Prelude.{◌≡◌, ◌≤◌, ◌+◌, ◌*◌, ◌==◌, ◌&&◌, length, take, drop};
+ghost use Rattle.std.specs.Prelude.{nat_lt, if◌then◌else◌};
 ghost use Rattle.embed_flat.specs.Abi.{AList, U32, bytes_of, padding, size, stored, with_lists};
-ghost use Rattle.embed_flat.specs.Answers.{done_answer, answer_of, result_type};
-ghost use Rattle.embed_flat.specs.Answers.{has_room, list_fits, result_fits, is_written, with_answer};
+ghost use Rattle.embed_flat.specs.Answers.{done_answer, answer_of, result_type, returned};
+ghost use Rattle.embed_flat.specs.Answers.{has_room, HasRoom, list_fits, result_fits, is_written, with_answer};
 ghost use Rattle.embed_flat.specs.Fields.{address_in, found_in, data_in, datagrams_in, number_in, numbers_in, words_in};
 ghost use Rattle.embed_flat.specs.Memory.{put, low_bytes};
 ghost use Rattle.embed_flat.specs.Wit.{ip_address, ip_socket_address, incoming_datagram, option, outcome, error_code, triple};
@@ -108,23 +108,44 @@ fn list_block(at: usize, place: u64, len: usize) -> Block
     block
 }
 
+/// A truth value: 1 where the number isn't 0.
+fn truth_of(number: u64) -> u64
+    ensures { result ≡ (if nat_lt 0 number then 1 else 0) }
+{
+    if number > 0 { 1 } else { 0 }
+}
+
+/// How many datagrams came: one at most.
+fn count_of(number: u64) -> usize
+    ensures { result ≡ (if number == 0 then 0 else 1) }
+{
+    if number == 0 { 0 } else { 1 }
+}
+
 /// The block of a call that is done; its list lies at this place.
-fn done_block(shape: Shape, fields: &[Field], place: u32) -> Block
+fn done_block(shape: Shape, fields: &[Field], place: u64) -> Block
     ensures { let it = done_answer shape fields.now place in
         take (size (result_type shape)) result ≡ bytes_of it.wit it.value }
 {
     let number = number_at(fields, 0);
     match shape {
-        Shape::Truth => number_block(1, 1, u64::from(number != 0)),
+        Shape::Flat => [0u8; 40],
+        Shape::Family => [0u8; 40],
+        Shape::Unit => [0u8; 40],
+        Shape::StreamUnit => [0u8; 40],
+        Shape::MaybeCode => [0u8; 40],
+        Shape::Truth => number_block(1, 1, truth_of(number)),
         Shape::Byte => number_block(1, 1, number),
-        Shape::Word | Shape::Pair | Shape::Triple => words_block(fields),
-        Shape::Wide | Shape::StreamWide => number_block(8, 8, number),
+        Shape::Word => words_block(fields),
+        Shape::Pair => words_block(fields),
+        Shape::Triple => words_block(fields),
+        Shape::Wide => number_block(8, 8, number),
+        Shape::StreamWide => number_block(8, 8, number),
         Shape::Address => bound_block(fields),
         Shape::MaybeIp => found_block(fields),
-        Shape::Datagrams => list_block(4, u64::from(place), usize::from(number != 0)),
-        Shape::StreamBytes => list_block(4, u64::from(place), bytes_at(fields, 0).len()),
-        Shape::Places => list_block(0, u64::from(place), fields.len()),
-        _ => [0u8; 40],
+        Shape::Datagrams => list_block(4, place, count_of(number)),
+        Shape::StreamBytes => list_block(4, place, bytes_at(fields, 0).len()),
+        Shape::Places => list_block(0, place, fields.len()),
     }
 }
 
@@ -172,8 +193,7 @@ fn list_fits(shape: Shape, fields: &[Field], memory: &[u8], lists: Lists) -> boo
 
 /// Puts the datagram that came, if one did, and its bytes behind it.
 fn put_datagrams(memory: &mut [u8], place: u32, fields: &[Field])
-    requires { IsTrue (number_in fields.now 0 == 0)
-        ⊎ (place + (40 + length (data_in (drop 1 fields.now))) ≤ length memory.old) }
+    requires { HasRoom Shape.Datagrams fields.now place memory.old }
     ensures { memory.new ≡ with_lists (AList incoming_datagram)
         (place, datagrams_in fields.now place) memory.old }
 {
@@ -191,7 +211,7 @@ fn put_datagrams(memory: &mut [u8], place: u32, fields: &[Field])
 
 /// Puts the places that a poll gives.
 fn put_places(memory: &mut [u8], place: u32, fields: &[Field])
-    requires { place + 4 * length fields.now ≤ length memory.old }
+    requires { HasRoom Shape.Places fields.now place memory.old }
     ensures { memory.new ≡ with_lists (AList U32) (place, numbers_in fields.now) memory.old }
 {
     for k in 0..fields.len() {
@@ -201,15 +221,15 @@ fn put_places(memory: &mut [u8], place: u32, fields: &[Field])
 }
 
 /// Puts the list that a call of this shape gives.
-fn put_list(shape: Shape, fields: &[Field], memory: &mut [u8], lists: Lists)
-    requires { list_fits shape fields.now memory.old lists ≡ true }
-    ensures { let it = done_answer shape fields.now lists.place in
+fn put_list(shape: Shape, fields: &[Field], memory: &mut [u8], place: u32)
+    requires { HasRoom shape fields.now place memory.old }
+    ensures { let it = done_answer shape fields.now place in
         memory.new ≡ with_lists it.wit it.value memory.old }
 {
     match shape {
-        Shape::Datagrams => put_datagrams(memory, lists.place, fields),
-        Shape::StreamBytes => put(memory, lists.place as usize, bytes_at(fields, 0)),
-        Shape::Places => put_places(memory, lists.place, fields),
+        Shape::Datagrams => put_datagrams(memory, place, fields),
+        Shape::StreamBytes => put(memory, place as usize, bytes_at(fields, 0)),
+        Shape::Places => put_places(memory, place, fields),
         _ => {}
     }
 }
@@ -221,11 +241,14 @@ fn write_done(shape: Shape, fields: &[Field], memory: &mut [u8], at: u32, lists:
         memory.new ≡ (if result then stored it.wit it.value at memory.old else memory.old) }
 {
     let size = shape.size();
-    if !list_fits(shape, fields, memory, lists) || !lies_within(memory, at, size) {
+    if !list_fits(shape, fields, memory, lists) {
         return false;
     }
-    put_list(shape, fields, memory, lists);
-    let block = done_block(shape, fields, lists.place);
+    if !lies_within(memory, at, size) {
+        return false;
+    }
+    put_list(shape, fields, memory, lists.place);
+    let block = done_block(shape, fields, u64::from(lists.place));
     put(memory, at as usize, &block[..size]);
     true
 }
@@ -245,14 +268,21 @@ fn write_block(shape: Shape, block: &Block, memory: &mut [u8], at: u32) -> bool
 }
 
 /// The number that a call returns: a family's is 0 or 1, as in the interface.
-pub fn value_of(shape: Shape, reply: &Reply) -> u64 {
+pub fn value_of(shape: Shape, reply: &Reply) -> u64
+    ensures { result ≡ returned shape reply.now }
+{
     let Reply::Ok(fields) = reply else {
         return 0;
     };
     let number = number_at(fields.as_slice(), 0);
     match shape {
         Shape::Flat => number,
-        Shape::Family if number == 6 => 1,
+        Shape::Family => {
+            if number == 6 {
+                return 1;
+            }
+            0
+        }
         _ => 0,
     }
 }
