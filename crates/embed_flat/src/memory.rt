@@ -2,6 +2,7 @@
 
 ghost use Rattle.std.specs.Prelude.{◌≡◌, ◌≤◌, ◌+◌, length, nat_le, IfSome, take, drop};
 ghost use Rattle.embed_flat.specs.Memory.{put};
+ghost use Rattle.world_text.specs.Written.{AreBytes};
 
 /// Whether so many bytes at this place lie within the memory.
 pub fn lies_within(memory: &[u8], at: u32, len: usize) -> bool
@@ -25,7 +26,8 @@ pub fn bytes_at(memory: &[u8], at: u32, len: u32) -> Option<&[u8]>
 /// Puts bytes at a place that is within the memory.
 pub fn put(memory: &mut [u8], at: usize, bytes: &[u8])
     requires { at + length bytes.now ≤ length memory.old }
-    ensures { memory.new ≡ put memory.old at bytes.now }
+    ensures memory { memory.new ≡ put memory.old at bytes.now }
+    ensures bytes { AreBytes bytes.now }
 {
     memory[at..at + bytes.len()].copy_from_slice(bytes);
 }

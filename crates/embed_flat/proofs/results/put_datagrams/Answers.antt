@@ -14,5 +14,5 @@ returns c =
         c.copy_from_slice.ensures.after ∙ (c.address_block.ensures ∙ ap (λ fs. bytes_of ip_socket_address (address_in fs)) c.rest_of-datagram.ensures) in
     let one = datagram_block (c.args.place + 40) (length c.data_at-data.result.now) (data_in (drop 1 c.args.fields.now)) c.copy_from_slice.new.self
         (address_in (drop 1 c.args.fields.now)) (ap length bytes) part in
-    rw (c.put-2.ensures, c.put.ensures, c.list_block-one.ensures)
-        (datagram_stored c.args.memory.now _ c.data_at-data.result.now c.args.fields.now c.args.place some one bytes (λ k. c.data_at-data.type_inv k))
+    rw (c.put-2.ensures.memory, c.put.ensures.memory, c.list_block-one.ensures)
+        (datagram_stored c.args.memory.now _ c.data_at-data.result.now c.args.fields.now c.args.place some one bytes c.put-2.ensures.bytes)
