@@ -61,7 +61,7 @@ ipv4_block fields first second port four p e1 e2 =
     step ∙ ap (bytes_of ip_socket_address) (sym (address_four fields four))
 
 ipv6_bytes : (fields : List Field) → take 32 (put (put (put (put (put empty 0 (low_bytes 1 1)) 4 (low_bytes 2 (number_in fields 9))) 8 (low_bytes 4 (number_in fields 10)))
-        12 (segments_one_by_one fields 1 8)) 28 (low_bytes 4 (number_in fields 11)))
+    12 (segments_one_by_one fields 1 8)) 28 (low_bytes 4 (number_in fields 11)))
     ≡ bytes_of ip_socket_address (1, (number_in fields 9, (number_in fields 10, (ipv6_in fields 1, (number_in fields 11, tt)))))
 ipv6_bytes fields = refl
 
@@ -70,7 +70,7 @@ pub ipv6_block : (fields : List Field) (b1 b2 b3 b4 b5 : List ℕ) (port flow sc
     → b4 ≡ put b3 12 (segments_one_by_one fields 1 8) → b5 ≡ put b4 28 (low_bytes 4 scope) → take 32 b5 ≡ bytes_of ip_socket_address (address_in fields)
 ipv6_block fields b1 b2 b3 b4 b5 port flow scope six p f s e1 e2 e3 e4 e5 =
     let step : take 32 b5 ≡ bytes_of ip_socket_address (1, (number_in fields 9, (number_in fields 10, (ipv6_in fields 1, (number_in fields 11, tt))))) =
-        rw (e5, e4, e3, e2, e1, p, f, s) (ipv6_bytes fields) in
+    rw (e5, e4, e3, e2, e1, p, f, s) (ipv6_bytes fields) in
     step ∙ ap (bytes_of ip_socket_address) (sym (address_six fields six))
 
 found_four : (fields : List Field) → number_in fields 0 ≡ 4 → found_in fields ≡ (1, (0, ipv4_in fields 1))

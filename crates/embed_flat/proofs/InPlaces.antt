@@ -33,9 +33,10 @@ four_within place room n len h k = omega arith
 pub list_room : (s : Shape) (fields : List Field) (memory : List ℕ) (lists : Lists) → list_fits s fields memory lists ≡ true → HasRoom s fields lists.place memory
 list_room shape.Datagrams fields memory lists e =
     let parts = and_parts (nat_le (lists.place + lists.room) (length memory)) ((number_in fields 0 == 0) || nat_le (40 + length (data_in (drop 1 fields))) lists.room) e in
-    elim (or_cases (number_in fields 0 == 0) (nat_le (40 + length (data_in (drop 1 fields))) lists.room) parts.1)
-        [ inl none ↦ inl none
-        | inr some ↦ inr (within lists.place lists.room (40 + length (data_in (drop 1 fields))) (length memory) (leb-true _ _ parts.0) (leb-true _ _ some)) ]
+    elim (or_cases (number_in fields 0 == 0) (nat_le (40 + length (data_in (drop 1 fields))) lists.room) parts.1) [
+      | inl none ↦ inl none
+      | inr some ↦ inr (within lists.place lists.room (40 + length (data_in (drop 1 fields))) (length memory) (leb-true _ _ parts.0) (leb-true _ _ some))
+    ]
 list_room shape.StreamBytes fields memory lists e =
     let parts = and_parts (nat_le (lists.place + lists.room) (length memory)) (nat_le (length (bytes_in fields 0)) lists.room) e in
     within lists.place lists.room (length (bytes_in fields 0)) (length memory) (leb-true _ _ parts.0) (leb-true _ _ parts.1)
@@ -125,11 +126,11 @@ datagram_stored memory one bytes fields place ne e d fits =
     let own = bytes_of incoming_datagram ((place + 40, rest), (sender, tt)) in
     let AllFit : List ℕ → Type 0 = λ xs. (k : ℕ) → get_or xs k 0 < 256 in
     let behind : put (put memory place own) (place + 40) rest ≡ with_lists (AList U8) (place + 40, rest) (put memory place own) =
-        bytes_stored (put memory place own) rest (place + 40) (subst AllFit d fits) in
+    bytes_stored (put memory place own) rest (place + 40) (subst AllFit d fits) in
     let padded : with_lists (AList U8) (place + 40, rest) (put memory place own) ≡ with_lists (AList U8) (place + 40, rest) (put memory place (own ++ [])) =
-        ap (λ xs. with_lists (AList U8) (place + 40, rest) (put memory place xs)) (sym (append-nil own)) in
+    ap (λ xs. with_lists (AList U8) (place + 40, rest) (put memory place xs)) (sym (append-nil own)) in
     let whole : with_lists (AList U8) (place + 40, rest) (put memory place (own ++ [])) ≡ with_lists (AList incoming_datagram) (place, ((place + 40, rest), (sender, tt)) ∷ []) memory =
-        sym (address_lists sender (with_lists (AList U8) (place + 40, rest) (put memory place (own ++ [])))) in
+    sym (address_lists sender (with_lists (AList U8) (place + 40, rest) (put memory place (own ++ [])))) in
     ap (λ o. put (put memory place o) (place + 40) bytes) e
     ∙ (ap (λ x. put (put memory place own) (place + 40) x) d
     ∙ (behind ∙ (padded ∙ (whole ∙ ap (λ ds. with_lists (AList incoming_datagram) (place, ds) memory) (sym (none_came fields place ne))))))

@@ -3,3 +3,4 @@ pub mod Puts
 pub mod Blocks
 pub mod Done
 pub mod InPlaces
+pub mod Replies

@@ -34,7 +34,7 @@ put-put memory xs ys at n h e =
     let taken : take n (put memory at xs) ≡ front ++ xs = ap (take n) regroup ∙ take_at (front ++ xs) back n far in
     let dropped : drop n (put memory at xs) ≡ back = ap (drop n) regroup ∙ drop_at (front ++ xs) back n far in
     let behind : drop (length ys) back ≡ drop (length (xs ++ ys)) (drop at memory) =
-        drop-drop (length ys) (length xs) (drop at memory) ∙ ap (λ k. drop k (drop at memory)) (sym (length-append xs ys)) in
+    drop-drop (length ys) (length xs) (drop at memory) ∙ ap (λ k. drop k (drop at memory)) (sym (length-append xs ys)) in
     rw (taken, dropped, behind, append_assoc front xs, ← append_assoc xs ys) refl
 
 pub length-bytes : (fields : List Field) (first k : ℕ) → length (bytes_one_by_one fields first k) ≡ k

@@ -22,7 +22,6 @@ mutual
     ◌◂◌ : Wit → Wits → Wits
 
 infixr 50 ◌◂◌
-
 abbrev pub count : Wits → ℕ
 count end = 0
 count (t ◂ ts) = suc (count ts)

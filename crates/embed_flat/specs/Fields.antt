@@ -33,8 +33,19 @@ abbrev pub ipv4_in : List Field → ℕ → Value ipv4_address
 ipv4_in fields k = (number_in fields k, (number_in fields (k + 1), (number_in fields (k + 2), (number_in fields (k + 3), tt))))
 
 abbrev pub ipv6_in : List Field → ℕ → Value ipv6_address
-ipv6_in fields k = (number_in fields k, (number_in fields (k + 1), (number_in fields (k + 2), (number_in fields (k + 3),
-    (number_in fields (k + 4), (number_in fields (k + 5), (number_in fields (k + 6), (number_in fields (k + 7), tt))))))))
+ipv6_in fields k = (
+  number_in fields k,
+  (
+    number_in fields (k + 1),
+    (
+      number_in fields (k + 2),
+      (
+        number_in fields (k + 3),
+        (number_in fields (k + 4), (number_in fields (k + 5), (number_in fields (k + 6), (number_in fields (k + 7), tt)))),
+      ),
+    ),
+  ),
+)
 
 abbrev pub words_in : List Field → Value triple
 words_in fields = (number_in fields 0, (number_in fields 1, (number_in fields 2, tt)))

@@ -3,3 +3,4 @@ pub mod Abi
 pub mod Wit
 pub mod Fields
 pub mod Answers
+pub mod Values

@@ -1,5 +1,5 @@
 -- The types of wasi:sockets and wasi:io 0.2 that their calls give.
-use Rattle.std.specs.Prelude.{ℕ, zero, suc}
+use Rattle.std.specs.Prelude.{ℕ, zero, suc, List, [], ◌∷◌, codes}
 use Rattle.embed_flat.specs.Abi.{Wit, Wits, Truth, U8, U16, U32, U64, AList, ARecord, AnEnum, AVariant, end, ◌◂◌, nothing}
 
 abbrev pub option : Wit → Wit
@@ -19,6 +19,14 @@ abbrev pub triple : Wit
 triple = ARecord (handle ◂ handle ◂ handle ◂ end)
 
 -- == wasi:sockets/network
+-- the cases of error-code, in their order
+abbrev pub error_code_names : List (List ℕ)
+error_code_names = codes "unknown" ∷ codes "access-denied" ∷ codes "not-supported" ∷ codes "invalid-argument" ∷ codes "out-of-memory" ∷ codes "timeout"
+    ∷ codes "concurrency-conflict" ∷ codes "not-in-progress" ∷ codes "would-block" ∷ codes "invalid-state" ∷ codes "new-socket-limit"
+    ∷ codes "address-not-bindable" ∷ codes "address-in-use" ∷ codes "remote-unreachable" ∷ codes "connection-refused" ∷ codes "connection-reset"
+    ∷ codes "connection-aborted" ∷ codes "datagram-too-large" ∷ codes "name-unresolvable" ∷ codes "temporary-resolver-failure"
+    ∷ codes "permanent-resolver-failure" ∷ []
+
 abbrev pub error_code : Wit
 error_code = AnEnum 21
 

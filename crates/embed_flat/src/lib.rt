@@ -2,6 +2,7 @@
 //! and a result in the guest's memory.
 #![tactic(auto)]
 
+pub mod answers;
 pub mod args;
 pub mod arguments;
 pub mod block;

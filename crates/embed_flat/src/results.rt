@@ -187,8 +187,7 @@ fn list_fits(shape: Shape, fields: &[Field], memory: &[u8], lists: Lists) -> boo
     ensures { result ≡ list_fits shape fields.now memory.now lists }
 {
     let room = lists.room as usize;
-    !shape.has_list()
-        || (lies_within(memory, lists.place, room) && has_room(shape, fields, room))
+    !shape.has_list() || (lies_within(memory, lists.place, room) && has_room(shape, fields, room))
 }
 
 /// Puts the datagram that came, if one did, and its bytes behind it.

@@ -13,5 +13,5 @@ pub returns : goal.returns
 returns c =
     let six : number_in c.args.fields.now 0 ≡ 4 → ⊥ = λ e. c.if-number_at-eq4.false (c.number_at.ensures ∙ e) in
     ipv6_block c.args.fields.now c.set-2.new.block c.set-3.new.block c.set-4.new.block c.set_segments.new.block c.set-5.new.block
-        c.number_at-2.result c.number_at-3.result c.number_at-4.result six c.number_at-2.ensures c.number_at-3.ensures c.number_at-4.ensures
-        c.set-2.ensures c.set-3.ensures c.set-4.ensures c.set_segments.ensures c.set-5.ensures
+    c.number_at-2.result c.number_at-3.result c.number_at-4.result six c.number_at-2.ensures c.number_at-3.ensures c.number_at-4.ensures
+    c.set-2.ensures c.set-3.ensures c.set-4.ensures c.set_segments.ensures c.set-5.ensures

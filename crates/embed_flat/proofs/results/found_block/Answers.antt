@@ -13,4 +13,4 @@ pub returns-then-family-eq6 : goal.returns-then-family-eq6
 returns-then-family-eq6 c =
     let six : number_in c.args.fields.now 0 ≡ 6 = sym c.number_at-family.ensures ∙ c.if-family-eq6.true in
     found_six_block c.args.fields.now c.set-then-family-eq6.new.block c.set-then-family-eq6-2.new.block c.set_segments.new.block six
-        c.set-then-family-eq6.ensures c.set-then-family-eq6-2.ensures c.set_segments.ensures
+    c.set-then-family-eq6.ensures c.set-then-family-eq6-2.ensures c.set_segments.ensures

@@ -8,7 +8,7 @@ loop-k-preserved c =
     let below : c.loop-k.k < length c.args.fields.now = omega arith in
     let inside : c.args.place ≤ length c.args.memory.now = omega (arith, c.requires) in
     places_step c.args.memory.now c.put.new.memory c.args.fields.now c.args.place c.loop-k.k below inside
-        (rw (c.put.ensures.memory, c.loop-k.invariant, c.to_le_bytes.ensures, c.number_at-number.ensures) refl)
+    (rw (c.put.ensures.memory, c.loop-k.invariant, c.to_le_bytes.ensures, c.number_at-number.ensures) refl)
 
 pub returns : goal.returns
 returns c =
