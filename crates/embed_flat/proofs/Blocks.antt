@@ -1,5 +1,5 @@
 -- The blocks of errors are the bytes of their values.
-use Rattle.std.specs.Prelude.{ℕ, ◌≡◌, ◌+◌, List, take, Option, Some, None, IfSome}
+use Rattle.std.specs.Prelude.{ℕ, ◌≡◌, ◌+◌, List, take, Some, None, IfSome}
 use Rattle.std.proofs.Common.{refl}
 use Rattle.wasi_steps.specs.declared.reply.CodeWord.{CodeWord}
 use Rattle.embed_flat.specs.declared.shape.Shape.{Shape}

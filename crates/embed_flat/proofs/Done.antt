@@ -1,12 +1,12 @@
 -- The blocks of what calls give are the bytes of its values.
-use Rattle.std.specs.Prelude.{ℕ, ◌≡◌, ◌+◌, ◌==◌, Bool, true, false, if◌then◌else◌, nat_lt, List, [], ◌∷◌, ◌++◌, length, map, take, drop}
+use Rattle.std.specs.Prelude.{ℕ, ◌≡◌, ◌==◌, Bool, true, false, if◌then◌else◌, nat_lt, List, [], ◌∷◌, ◌++◌, length, take}
 use Rattle.std.proofs.Common.{refl, sym, ap, ◌∙◌, ◌≤◌, arith}
 use Rattle.std.proofs.lemmas.Bool.{ne_eqb}
 use Rattle.std.proofs.lemmas.List.{append-nil, length-map, take-take, take_at}
 use borrow.Rule.Slice.PartMut.{put_mid}
 use Rattle.wasi_steps.specs.declared.reply.Field.{Field}
 use Rattle.embed_flat.specs.Abi.{Value, Truth, U8, U32, U64, AList, bytes_of, padding}
-use Rattle.embed_flat.specs.Fields.{number_in, number_of, numbers_in, ipv4_in, ipv6_in, address_in, found_in, words_in, data_in, datagrams_in, bytes_one_by_one, segments_one_by_one}
+use Rattle.embed_flat.specs.Fields.{number_in, number_of, numbers_in, ipv4_in, ipv6_in, address_in, found_in, words_in, datagrams_in, bytes_one_by_one, segments_one_by_one}
 use Rattle.embed_flat.specs.Memory.{put, low_bytes}
 use Rattle.embed_flat.specs.Wit.{outcome, option, pair, triple, error_code, stream_error, ip_address, ip_socket_address, incoming_datagram}
 

@@ -1,8 +1,8 @@
 -- Worked by hand from the canonical ABI.
-use Rattle.std.specs.Prelude.{◌≡◌, ℕ, ◌+◌, List, [], ◌∷◌, ◌++◌, refl, true}
+use Rattle.std.specs.Prelude.{◌≡◌, ℕ, [], ◌∷◌, refl}
 use Rattle.std.specs.Int.{byte_at}
-use Rattle.embed_flat.specs.Abi.{Wit, Wits, Truth, U8, U16, U32, U64, AList, ARecord, AnEnum, AVariant, end, ◌◂◌, nothing, size, alignment, payload_place, bytes_of, stored}
-use Rattle.embed_flat.specs.Wit.{option, outcome, handle, error_code, ip_address, ip_socket_address, incoming_datagram, stream_error}
+use Rattle.embed_flat.specs.Abi.{U32, U64, AList, ARecord, end, ◌◂◌, nothing, size, alignment, bytes_of, stored}
+use Rattle.embed_flat.specs.Wit.{option, outcome, error_code, ip_address, ip_socket_address, incoming_datagram, stream_error}
 
 sizes : (size (outcome (ARecord (U32 ◂ U32 ◂ end)) error_code) ≡ 12) × (size ip_socket_address ≡ 32) × (alignment ip_socket_address ≡ 4) × (size (outcome ip_socket_address error_code) ≡ 36)
     × (size (option U64) ≡ 16) × (size (outcome (option ip_address) error_code) ≡ 22) × (size incoming_datagram ≡ 40) × (size (outcome U64 stream_error) ≡ 16) × (size (outcome nothing stream_error) ≡ 12) × (size (outcome nothing error_code) ≡ 2)

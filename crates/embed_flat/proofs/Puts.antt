@@ -1,6 +1,6 @@
 -- Bytes that are put in their places.
 use Rattle.std.specs.Int.{bytes_low_first, byte_at}
-use Rattle.std.proofs.Common.{ℕ, zero, suc, ◌≡◌, ◌≤◌, ◌+◌, ◌-◌, ◌*◌, List, [], ◌∷◌, ◌++◌, length, take, drop, ap, refl, arith, ◌∙◌, sym, append_assoc}
+use Rattle.std.proofs.Common.{ℕ, zero, suc, ◌≡◌, ◌≤◌, ◌+◌, ◌*◌, List, [], ◌∷◌, ◌++◌, length, take, drop, ap, refl, arith, ◌∙◌, sym, append_assoc}
 use Rattle.std.proofs.lemmas.List.{take-append-drop, drop-drop, length-append, length-take-le, take_at, drop_at}
 use borrow.Rule.Slice.PartMut.{put_mid}
 use Rattle.wasi_steps.specs.declared.reply.Field.{Field}

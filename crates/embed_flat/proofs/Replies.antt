@@ -1,5 +1,5 @@
 -- What replies tell, as values.
-use Rattle.std.specs.Prelude.{ℕ, ◌≡◌, ◌+◌, ◌==◌, Bool, true, false, if◌then◌else◌, List, [], ◌∷◌, map, Option, Some, None, slice_get}
+use Rattle.std.specs.Prelude.{ℕ, ◌≡◌, ◌+◌, Bool, true, false, if◌then◌else◌, List, [], ◌∷◌, Option, Some, None, slice_get}
 use Rattle.std.proofs.Common.{refl, ap}
 use Rattle.wasi_addr.specs.declared.address.IpAddress.{IpAddress}
 use Rattle.wasi_addr.specs.declared.address.IpAddress.TheVariants as ip
@@ -12,12 +12,10 @@ use Rattle.wasi_addr.specs.declared.p2.ErrorCode.TheVariants as p2
 use Rattle.wasi_world.specs.declared.datagram.IncomingDatagram.{IncomingDatagram}
 use Rattle.wasi_steps.specs.Reply.{address_values, found_values, datagram_values, numbers_fields, truth_fields, family_fields, word_of_p2}
 use Rattle.wasi_steps.specs.Replies.{code_text}
-use Rattle.wasi_steps.specs.declared.reply.Field.{Field}
-use Rattle.wasi_steps.specs.declared.reply.Field.TheVariants as field
 use Rattle.wasi_steps.specs.declared.reply.Reply.TheVariants as reply
 use Rattle.embed_flat.specs.declared.shape.Shape.TheVariants as shape
-use Rattle.embed_flat.specs.Abi.{Value, Truth, U32, AList}
-use Rattle.embed_flat.specs.Answers.{Answer, code_value, done_answer, done, plain, returned}
+use Rattle.embed_flat.specs.Abi.{Truth, U32, AList}
+use Rattle.embed_flat.specs.Answers.{code_value, done_answer, done, plain, returned}
 use Rattle.embed_flat.specs.Fields.{numbers_in}
 use Rattle.embed_flat.specs.Values.{address_value, found_value, datagram_value, family_case}
 use Rattle.embed_flat.specs.Wit.{option, error_code, error_code_names, ip_address, ip_socket_address, incoming_datagram}

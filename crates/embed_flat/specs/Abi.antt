@@ -1,5 +1,5 @@
 -- How a value lies in memory by the component model's canonical ABI: its rules, for the types that wasi:sockets and wasi:io use.
-use Rattle.std.specs.Prelude.{ℕ, zero, suc, ◌+◌, ◌-◌, ◌*◌, ◌/◌, max, Bool, true, false, if◌then◌else◌, nat_lt, nat_le, IsTrue, List, [], ◌∷◌, ◌++◌, length, replicate, flat_map}
+use Rattle.std.specs.Prelude.{ℕ, zero, suc, ◌+◌, ◌-◌, ◌*◌, ◌/◌, max, Bool, if◌then◌else◌, nat_lt, nat_le, IsTrue, List, [], ◌∷◌, ◌++◌, length, replicate, flat_map}
 use Rattle.embed_flat.specs.Memory.{low_bytes, put}
 
 -- == types

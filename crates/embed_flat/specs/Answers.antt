@@ -1,5 +1,5 @@
 -- Which value of the interface's types a call's answer is.
-use Rattle.std.specs.Prelude.{◌≡◌, ℕ, ◌+◌, ◌*◌, ◌≤◌, ◌⊎◌, ◌-◌, ◌/◌, ◌==◌, nat_lt, nat_le, Bool, true, false, ◌&&◌, ◌||◌, not, if◌then◌else◌, List, [], ◌∷◌, length, drop, Option, Some, None, refl}
+use Rattle.std.specs.Prelude.{◌≡◌, ℕ, ◌+◌, ◌*◌, ◌≤◌, ◌⊎◌, ◌/◌, ◌==◌, nat_lt, nat_le, Bool, true, false, ◌&&◌, ◌||◌, not, if◌then◌else◌, List, length, drop, Option, Some, None, refl}
 use Rattle.wasi_steps.specs.declared.reply.CodeWord.{CodeWord}
 use Rattle.wasi_steps.specs.declared.reply.CodeWord.TheVariants as word
 use Rattle.wasi_steps.specs.declared.reply.Field.{Field}
@@ -8,7 +8,7 @@ use Rattle.wasi_steps.specs.declared.reply.Reply.TheVariants as reply
 use Rattle.embed_flat.specs.declared.shape.Shape.{Shape}
 use Rattle.embed_flat.specs.declared.shape.Shape.TheVariants as shape
 use Rattle.embed_flat.specs.declared.results.Lists.{Lists}
-use Rattle.embed_flat.specs.Abi.{Wit, Value, Truth, U8, U16, U32, U64, AList, ARecord, end, ◌◂◌, nothing, size, payload_place, stored}
+use Rattle.embed_flat.specs.Abi.{Wit, Value, Truth, U8, U32, U64, AList, end, ◌◂◌, nothing, size, payload_place, stored}
 use Rattle.embed_flat.specs.Wit.{option, outcome, pair, triple, error_code, ip_address, ip_socket_address, incoming_datagram, stream_error}
 use Rattle.embed_flat.specs.Fields.{number_in, bytes_in, numbers_in, words_in, address_in, found_in, data_in, datagrams_in}
 

@@ -1,5 +1,5 @@
 -- Bytes of a guest's memory.
-use Rattle.std.specs.Prelude.{ℕ, ◌+◌, List, ◌++◌, length, take, drop}
+use Rattle.std.specs.Prelude.{ℕ, List, ◌++◌, length, take, drop}
 use Rattle.std.specs.Int.{bytes_low_first}
 
 -- the lowest bytes of a number, so many, the lowest first

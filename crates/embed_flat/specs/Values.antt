@@ -1,5 +1,5 @@
 -- Addresses and datagrams as values of the interface's types.
-use Rattle.std.specs.Prelude.{ℕ, List, Option, Some, None}
+use Rattle.std.specs.Prelude.{ℕ, Option, Some, None}
 use Rattle.wasi_addr.specs.declared.address.IpAddress.{IpAddress}
 use Rattle.wasi_addr.specs.declared.address.IpAddress.TheVariants as ip
 use Rattle.wasi_addr.specs.declared.address.IpSocketAddress.{IpSocketAddress}

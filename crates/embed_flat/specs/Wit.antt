@@ -1,6 +1,6 @@
 -- The types of wasi:sockets and wasi:io 0.2 that their calls give.
-use Rattle.std.specs.Prelude.{ℕ, zero, suc, List, [], ◌∷◌, codes}
-use Rattle.embed_flat.specs.Abi.{Wit, Wits, Truth, U8, U16, U32, U64, AList, ARecord, AnEnum, AVariant, end, ◌◂◌, nothing}
+use Rattle.std.specs.Prelude.{ℕ, List, [], ◌∷◌, codes}
+use Rattle.embed_flat.specs.Abi.{Wit, U8, U16, U32, AList, ARecord, AnEnum, AVariant, end, ◌◂◌, nothing}
 
 abbrev pub option : Wit → Wit
 option t = AVariant (nothing ◂ t ◂ end)

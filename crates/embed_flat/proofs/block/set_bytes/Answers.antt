@@ -1,5 +1,5 @@
 -- One byte more stands right behind those before.
-use Rattle.std.proofs.Common.{◌≡◌, ◌≤◌, length, refl, arith}
+use Rattle.std.proofs.Common.{◌≤◌, length, refl, arith}
 use Rattle.embed_flat.proofs.Puts.{bytes_more}
 use Rattle.embed_flat.proofs.block.set_bytes.Goals as goal
 

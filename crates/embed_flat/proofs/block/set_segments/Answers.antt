@@ -1,5 +1,5 @@
 -- One segment more stands right behind those before.
-use Rattle.std.proofs.Common.{◌≡◌, ◌≤◌, length, refl, arith}
+use Rattle.std.proofs.Common.{◌≤◌, length, refl, arith}
 use Rattle.embed_flat.proofs.Puts.{segments_more}
 use Rattle.embed_flat.proofs.block.set_segments.Goals as goal
 

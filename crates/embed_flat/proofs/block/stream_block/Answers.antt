@@ -1,5 +1,5 @@
 -- The case, and then that of the error.
-use Rattle.embed_flat.proofs.Blocks.{failed_bytes, closed_bytes}
+use Rattle.embed_flat.proofs.Blocks.{failed_bytes}
 use Rattle.embed_flat.proofs.block.stream_block.Goals as goal
 
 pub returns-in-Some : goal.returns-in-Some

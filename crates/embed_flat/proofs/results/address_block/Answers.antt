@@ -1,5 +1,5 @@
 -- The family, the port and the parts, each in its place.
-use Rattle.std.proofs.Common.{◌≡◌, sym, ◌∙◌, arith}
+use Rattle.std.proofs.Common.{◌≡◌, sym, ◌∙◌}
 use Rattle.embed_flat.specs.Fields.{number_in}
 use Rattle.embed_flat.proofs.Done.{ipv4_block, ipv6_block}
 use Rattle.embed_flat.proofs.results.address_block.Goals as goal

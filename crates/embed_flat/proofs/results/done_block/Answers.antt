@@ -1,5 +1,5 @@
 -- Each shape's block is the bytes of its value.
-use Rattle.std.proofs.Common.{◌∙◌, ap, length, refl}
+use Rattle.std.proofs.Common.{ap, length, refl}
 use Rattle.embed_flat.proofs.Done.{truth_bytes, byte_bytes, wide_bytes, stream_wide_bytes, word_bytes, pair_bytes, bytes_list, places_list, datagrams_list}
 use Rattle.embed_flat.proofs.results.done_block.Goals as goal
 

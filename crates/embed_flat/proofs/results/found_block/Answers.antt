@@ -1,5 +1,5 @@
 -- An address is there, its family, and its parts.
-use Rattle.std.proofs.Common.{◌≡◌, sym, ◌∙◌, arith}
+use Rattle.std.proofs.Common.{◌≡◌, sym, ◌∙◌}
 use Rattle.embed_flat.specs.Fields.{number_in}
 use Rattle.embed_flat.proofs.Done.{found_four_block, found_six_block}
 use Rattle.embed_flat.proofs.results.found_block.Goals as goal

@@ -1,5 +1,5 @@
 -- The datagram's block is its bytes, and its data lies behind it.
-use Rattle.std.proofs.Common.{◌≡◌, ℕ, ◌+◌, ◌∙◌, ap, length, drop, refl}
+use Rattle.std.proofs.Common.{◌≡◌, ◌+◌, ◌∙◌, ap, length, drop}
 use Rattle.embed_flat.specs.Abi.{bytes_of}
 use Rattle.embed_flat.specs.Fields.{number_in, data_in, address_in}
 use Rattle.embed_flat.specs.Wit.{ip_socket_address}

@@ -1,5 +1,5 @@
 -- One number more stands right behind those before.
-use Rattle.std.proofs.Common.{◌≡◌, ◌≤◌, ◌<◌, length, refl, arith, ◌∙◌}
+use Rattle.std.proofs.Common.{◌≤◌, ◌<◌, length, refl, arith, ◌∙◌}
 use Rattle.embed_flat.proofs.InPlaces.{places_step, places_stored}
 use Rattle.embed_flat.proofs.results.put_places.Goals as goal
 
