@@ -7,6 +7,7 @@ was seen. Each script's run is recorded, and `kaxtubor replay` replays it.
 
 import os
 import resource
+import select
 import socket
 import struct
 import subprocess
@@ -274,8 +275,107 @@ class Talk:
         self.program.stdin.flush()
         return [self.program.stdout.readline().rstrip("\n") for _ in lines]
 
+    def soon(self, line, most):
+        """Returns the reply to this line and how many seconds it took, or no reply where it takes more than so many: the
+        run ends then."""
+        began = time.monotonic()
+        try:
+            self.program.stdin.write(line + "\n")
+            self.program.stdin.flush()
+        except BrokenPipeError:
+            return None, most
+        if not select.select([self.program.stdout], [], [], most)[0]:
+            self.program.kill()
+            return None, most
+        return self.program.stdout.readline().rstrip("\n"), time.monotonic() - began
+
     def descriptors(self):
         return len(os.listdir(f"/proc/{self.program.pid}/fd"))
+
+
+def connected(talk, server, handle):
+    """Connects the socket that has this handle next, and returns its peer. The input has the handle after it."""
+    port = server.getsockname()[1]
+    talk.ask("0 tcp-create 4", f"0 tcp-start-connect {handle} 1 4 127 0 0 1 {port}", f"0 tcp-finish-connect {handle}")
+    return server.accept()[0]
+
+
+def a_list_with_one_ready():
+    """Of an output with room and an idle input the output is found ready at once, and once more; and so it is behind 19 idle
+    inputs."""
+    replies = []
+    for words in (["--wait"], []):
+        with socket.create_server(("127.0.0.1", 0)) as server, Talk(*words, 100000, server.getsockname()[1]) as talk:
+            talk.ask("0 network")
+            peers = [connected(talk, server, handle) for handle in range(2, 62, 3)]
+            talk.ask(*(f"0 subscribe {handle}" for handle in range(3, 60, 3)), "0 subscribe 61")
+            for line in ("0 poll-list 81 62", "0 poll-list 81 62", f"0 poll-list {' '.join(map(str, range(62, 82)))}"):
+                replies.append(talk.soon(line, 0.9)[0])
+            for peer in peers:
+                peer.close()
+    return same("a list with one ready", replies, ["ok 0", "ok 0", "ok 19"] * 2)
+
+
+def a_poll_of_a_list():
+    """Two inputs are waited for, and bytes come for one of them."""
+    replies = []
+    for words in (["--wait"], []):
+        for which in (0, 1):
+            with socket.create_server(("127.0.0.1", 0)) as server, Talk(*words, 100000, server.getsockname()[1]) as talk:
+                talk.ask("0 network")
+                peers = [connected(talk, server, handle) for handle in (2, 5)]
+                talk.ask("0 subscribe 3", "0 subscribe 6")
+                pending = talk.soon("0 poll-list 8 9", 5)[0]
+                late = threading.Timer(0.2, peers[which].sendall, [b"hi"])
+                late.start()
+                replies.append((pending, *talk.soon("poll 10", 0.9)[:1]))
+                late.join()
+                for peer in peers:
+                    peer.close()
+    return same("a poll of a list", replies, [("pending 10", "ok 0"), ("pending 10", "ok 1")] * 2)
+
+
+def a_turn_of_two_receives():
+    """Two receives are pending, and a datagram comes for one of them."""
+    replies = []
+    for words in (["--wait"], []):
+        for which in (0, 1):
+            own = [free_port(socket.SOCK_DGRAM) for _ in range(2)]
+            with socket.socket(socket.AF_INET, socket.SOCK_DGRAM) as other:
+                other.bind(("127.0.0.1", 0))
+                with Talk(*words, 100000, *own, other.getsockname()[1]) as talk:
+                    talk.ask("0 network")
+                    for handle, port in zip((2, 5), own):
+                        bind = f"0 udp-start-bind {handle} 1 4 127 0 0 1 {port}"
+                        talk.ask("0 udp-create 4", bind, f"0 udp-finish-bind {handle}", f"0 udp-stream {handle}")
+                    begun = talk.ask("0 subscribe 3", "0 subscribe 6", "0 ready 8", "0 ready 9")[2:]
+                    late = threading.Timer(0.2, sent, [other, b"hi", own[which]])
+                    late.start()
+                    turned = talk.soon("turn", 0.9)[0]
+                    late.join()
+                    replies.append((begun, turned, talk.soon(f"0 ready {8 + which}", 5)[0]))
+    return same("a turn of two receives", replies, [(["ok false"] * 2, "ok", "ok true")] * 4)
+
+
+def many_idle_inputs():
+    """A look at 1,500 idle inputs takes a second in all, and bytes for the last of them end it."""
+    soft, hard = resource.getrlimit(resource.RLIMIT_NOFILE)
+    if hard < 4096:
+        return same("many idle inputs", hard, "at least 4096 descriptors")
+    resource.setrlimit(resource.RLIMIT_NOFILE, (4096, hard))
+    with socket.create_server(("127.0.0.1", 0), backlog=64) as server, Talk(10000000, server.getsockname()[1]) as talk:
+        talk.ask("0 network")
+        peers = [connected(talk, server, handle) for handle in range(2, 4502, 3)]
+        for handle in range(3, 4502, 3):
+            talk.ask(f"0 subscribe {handle}")
+        line = 1 + 1500 * 3 + 1500 + 1
+        pending, took = talk.soon(f"0 poll-list {' '.join(map(str, range(4502, 6002)))}", 60)
+        peers[-1].sendall(b"hi")
+        found = talk.soon(f"poll {line}", 60)[0]
+        for peer in peers:
+            peer.close()
+    resource.setrlimit(resource.RLIMIT_NOFILE, (soft, hard))
+    return same("many idle inputs", (pending, found, 0.9 < took < 10), (f"pending {line}", "ok 1499", True))
 
 
 def a_peer_that_never_reads():
@@ -415,7 +515,7 @@ def no_descriptor_is_left():
     """Counts the descriptors of `live` before and after 10,000 creates and drops of each kind of socket."""
     counts = []
     for create in ["tcp-create 4", "tcp-create 6", "udp-create 4", "udp-create 6"]:
-        words = [*LIVE, "10000000"]
+        words = [*LIVE, "10000000", "8080"]
         with subprocess.Popen(words, stdin=subprocess.PIPE, stdout=subprocess.PIPE, text=True) as program:
             folder = f"/proc/{program.pid}/fd"
             program.stdin.write("0 network\n")
@@ -599,6 +699,10 @@ TESTS = [
     datagrams_each_way,
     a_peer_that_closes_half,
     a_peer_that_never_reads,
+    a_list_with_one_ready,
+    a_poll_of_a_list,
+    a_turn_of_two_receives,
+    many_idle_inputs,
     datagrams_from_elsewhere,
     rules_over_every_address,
     a_thousand_at_once,

@@ -197,10 +197,12 @@ wasi:sockets calls under them.
 
 usage: kaxtubor policy ask LIMIT      answers each question on standard input, of at most LIMIT bytes in all, by
                                       `allow N` or `deny N`: N is the line of the rule that decided, 0 where none matches
-       kaxtubor policy explain LIMIT  answers each question by `N RULE`, the rule that decided
-       kaxtubor policy check          writes `shadowed N` for each line N whose rule decides nothing, since rules before
-                                      it decide all that it matches, and `overlap N M` for each two lines whose rules
-                                      match something in common, of which one allows and the other denies
+       kaxtubor policy explain LIMIT  answers each question by `N RULE`, the rule that decided; and for a connect adds that
+                                      a socket that isn't bound needs `allow tcp-bind any 0 0` too, where no rule allows it
+       kaxtubor policy check          writes `unmatched N` for each line N whose rule matches nothing, `shadowed N` for
+                                      each whose rule decides nothing, since rules before it decide all that it matches,
+                                      and `overlap N M` for each two lines whose rules match something in common, of
+                                      which one allows and the other denies; behind 1000 of these lines `and N more`
        kaxtubor policy run LIMIT      runs the script on standard input, of at most LIMIT bytes, under the rules, over
                                       the network that scenario.txt in this folder plans, and writes one reply per line
        kaxtubor policy --help         prints this
@@ -240,7 +242,7 @@ usage: kaxtubor live LIMIT PORT..             runs the script on standard input,
 
 Before these words, in this order, may stand:
        --any-address                 every address may be used, in place of this machine's own alone
-       --wait                        a look that was pending waits without limit when it is made again
+       --wait                        a line whose looks were pending before waits for them without limit
        --hosts HOSTS                 lookups find the names of the file HOSTS
 
 Sockets of TCP and UDP may be bound to, listen on, connect to and send to 127.0.0.0/8 and ::1 with the named ports alone;
@@ -262,9 +264,10 @@ kaxtubor replay and kaxtubor draw read such a log, as log.txt in this folder; th
 SIGINT and SIGTERM can't be caught, since Rattle has no handle for signals: the system closes the sockets, and LOG has what
 was answered until then, without its line `end`.
 
-The script's lines are those of kaxtubor run; its --help lists them. A look for a connection, for bytes, for room
-or for the end of a connect (tcp-accept, ready, tcp-finish-connect) waits for about a second at most, without using the
-processor. After --wait it answers at once, and made again it waits until something that was pending may go on.
+The script's lines are those of kaxtubor run; its --help lists them. A line that looks for a connection, for bytes, for
+room, for a datagram or for the end of a connect (tcp-accept, ready, poll-list, poll, turn, tcp-finish-connect) waits once,
+for all that it looks at, until one of them may go on: for about a second at most, without using the processor. After --wait
+it answers at once, and where all that a line looks at was pending before, it waits until one of them may go on.
 The hop-limit of an IPv6 socket is not-supported.
 
 The program ends with 0, or prints its status on standard error, with what is wrong, and ends with it:

@@ -8,6 +8,7 @@ pub mod options;
 pub mod recorded;
 pub mod ruled;
 pub mod script;
+pub mod waits_before;
 
 pub use command::{Command, command_in, limit_in};
 pub use hosts::{NoHosts, read_hosts};

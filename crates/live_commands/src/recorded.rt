@@ -6,15 +6,17 @@ ghost use Rattle.wasi_net.specs.Net.{counts_of};
 ghost use Rattle.live_commands.specs.Recorded.{EndsRecorded, RanRecorded};
 
 use crate::script::{Setup, contexts};
+use crate::waits_before::WaitsBefore;
 use recorder_commands::recording::{place_after, status_after};
 use recorder_commands::{Begun, RecorderStatus, WritingWorld};
 use std::alloc::Global;
 use std::marker::Brand;
 use std::net::Net;
+use wasi_looks::WaitsForLooks;
 use wasi_policy::{Policy, PolicyWorld, Rules};
 use wasi_program::Status;
-use wasi_run::run_script;
-use wasi_world::{WasiSocketsCtx, World};
+use wasi_run::run_script_with;
+use wasi_world::WasiSocketsCtx;
 use world_io::{Sink, Source};
 
 /// How a run ended of which a log is kept: how the program ends, the number of the bad line of the
@@ -27,7 +29,7 @@ pub struct Recorded<M> {
 }
 
 /// Runs the script over a world, whose log is written as it comes.
-fn record_on<B: Begun, W: World + Drop, M: Sink, S: Source, K: Sink>(
+fn record_on<B: Begun, W: WaitsForLooks + Drop, M: Sink, S: Source, K: Sink>(
     alloc: Global,
     inner: W,
     mut contexts: Vec<WasiSocketsCtx>,
@@ -45,7 +47,16 @@ fn record_on<B: Begun, W: World + Drop, M: Sink, S: Source, K: Sink>(
         result.place result.status }
 {
     let mut world = WritingWorld::<W, M, B>::new(alloc, inner, contexts.as_slice(), log_out);
-    let outcome = run_script(alloc, &mut world, &mut contexts, limit, source, sink);
+    let mut before = WaitsBefore::new(alloc);
+    let outcome = run_script_with(
+        alloc,
+        &mut world,
+        &mut contexts,
+        limit,
+        source,
+        sink,
+        &mut before,
+    );
     let (written, log_out) = world.finish(outcome);
     Recorded {
         status: status_after(outcome, written),
@@ -55,7 +66,7 @@ fn record_on<B: Begun, W: World + Drop, M: Sink, S: Source, K: Sink>(
 }
 
 /// The same, with the one context that may use all that is built.
-fn record_over<W: World + Drop, M: Sink, S: Source, K: Sink>(
+fn record_over<W: WaitsForLooks + Drop, M: Sink, S: Source, K: Sink>(
     alloc: Global,
     inner: W,
     limit: u32,

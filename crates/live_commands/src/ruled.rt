@@ -5,6 +5,7 @@ ghost use Rattle.live_commands.specs.Live.{RanLive};
 ghost use Rattle.live_commands.specs.Ruled.{EndsUnderRules};
 
 use crate::script::{Setup, contexts};
+use crate::waits_before::WaitsBefore;
 use policy_commands::{FoundRules, PolicyStatus, read_rules};
 use std::alloc::Global;
 use std::marker::Brand;
@@ -12,7 +13,7 @@ use std::net::Net;
 use wasi_policy::{Policy, PolicyWorld, Rules};
 use wasi_program::Status;
 use wasi_program::status::bad_line;
-use wasi_run::{RunEnd, RunError, run_script};
+use wasi_run::{RunEnd, RunError, run_script_with};
 use world_io::{Sink, Source};
 
 /// Runs the script under rules, over the system's sockets.
@@ -33,7 +34,16 @@ fn run_under<P: Rules, R: Net, S: Source, K: Sink>(
     let mut contexts = contexts(alloc)?;
     let network = network.world(rt, alloc);
     let mut world = PolicyWorld::<_, P>::new(alloc, policy, network);
-    run_script(alloc, &mut world, &mut contexts, limit, source, sink)
+    let mut before = WaitsBefore::new(alloc);
+    run_script_with(
+        alloc,
+        &mut world,
+        &mut contexts,
+        limit,
+        source,
+        sink,
+        &mut before,
+    )
 }
 
 /// Reads rules, and runs the script that the source gives over the system's sockets, of which the

@@ -5,10 +5,11 @@ ghost use Rattle.wasi_world.specs.Contexts.{free_context};
 ghost use Rattle.wasi_net.specs.Allowed.{policy_of};
 ghost use Rattle.live_commands.specs.Live.{RanLive};
 
+use crate::waits_before::WaitsBefore;
 use std::alloc::{AllocError, Global};
 use std::net::Net;
 use wasi_net::{Allowed, Hosts, Linux, Patience, PatientWorld, SystemWorld};
-use wasi_run::{RunEnd, RunError, run_script};
+use wasi_run::{RunEnd, RunError, run_script_with};
 use wasi_world::WasiSocketsCtx;
 use world_io::{Sink, Source};
 
@@ -27,7 +28,7 @@ pub fn contexts(alloc: Global) -> Result<Vec<WasiSocketsCtx>, AllocError>
     Ok(vec![in alloc; FREE]?)
 }
 
-/// How long a look waits, in milliseconds, where it doesn't wait without limit.
+/// How long a line waits, in milliseconds, where it doesn't wait without limit.
 const PATIENCE: i32 = 1000;
 
 /// What a run goes by: the most bytes of its script, and its network.
@@ -37,7 +38,7 @@ pub struct Setup {
     pub network: Network,
 }
 
-/// The network of a run: which addresses may be used, which names are found, and how looks wait.
+/// The network of a run: which addresses may be used, which names are found, and how lines wait.
 #[derive(Drop)]
 pub struct Network {
     pub allowed: Allowed,
@@ -62,7 +63,7 @@ impl Network {
     }
 }
 
-/// How looks wait: without limit, or for about a second.
+/// How lines wait: without limit, or for about a second.
 pub fn patience(endless: bool) -> Patience {
     if endless {
         Patience::Endless
@@ -112,5 +113,14 @@ where
     let Setup { limit, network } = setup;
     let mut world = network.world(rt, alloc);
     let mut contexts = contexts(alloc)?;
-    run_script(alloc, &mut world, &mut contexts, limit, source, sink)
+    let mut before = WaitsBefore::new(alloc);
+    run_script_with(
+        alloc,
+        &mut world,
+        &mut contexts,
+        limit,
+        source,
+        sink,
+        &mut before,
+    )
 }

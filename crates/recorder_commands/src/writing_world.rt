@@ -10,6 +10,7 @@ use crate::log::Unwritten;
 use std::alloc::{AllocError, Global};
 use std::marker::{Brand, PhantomData};
 use wasi_addr::IpSocketAddress;
+use wasi_looks::{Look, WaitsForLooks};
 use wasi_replay::{RecordingWorld, contexts_text, entries_text};
 use wasi_run::{RunEnd, RunError};
 use wasi_world::{Call, Entry, OpId, Sock, Told, WasiSocketsCtx, World};
@@ -224,5 +225,15 @@ impl<W: World, M: Sink, B: Begun> World for WritingWorld<W, M, B> {
 
     fn close_after_end(&mut self, sock: Sock) {
         self.noted.close_after_end(sock);
+    }
+}
+
+impl<W: WaitsForLooks, M: Sink, B: Begun> WaitsForLooks for WritingWorld<W, M, B> {
+    fn wait_for(&mut self, looks: &[Look]) -> bool {
+        self.noted.wait_for(looks)
+    }
+
+    fn let_looks_wait(&mut self, waits: bool) {
+        self.noted.let_looks_wait(waits);
     }
 }

@@ -13,7 +13,7 @@ use Rattle.wasi_walks.specs.Licence.{IsLicensed}
 use Rattle.wasi_session.specs.declared.error.StepError.{StepError}
 use Rattle.wasi_session.specs.declared.error.StepError.TheVariants.{Over, TooMany, NoContext, Memory}
 use Rattle.wasi_session.specs.State.{State}
-use Rattle.wasi_session.specs.Did.{Did, DidNext, may_step, is_over_after}
+use Rattle.wasi_session.specs.Did.{Did, DidNext, HasWhy, may_step, is_over_after}
 use Rattle.wasi_embed.specs.declared.kept.Kept.{Kept}
 use Rattle.wasi_embed.specs.declared.kept.Kept.TheVariants.{Silent, Noted}
 use Rattle.wasi_embed.specs.HasDid.{state_of, first_log, HasDid, HasLicence}
@@ -53,14 +53,15 @@ did_after old new (Err (NoContext n)) step kind next d = record { steps = d.step
 -- what was told of it
 pub did_told : (old new : Kept) (step : Step) (result : Result Reply StepError)
     → ((e : StepError) → may_step (state_of old) step ≡ Err e → (result ≡ Err e) × (new ≡ old))
+    → HasWhy (state_of old) step result
     → (state_of new).over ≡ is_over_after (state_of old).over result
     → ((steps : List Step) (replies : List Reply) (start : Seen) → Did (state_of old) steps replies start → DidNext result step steps replies start (state_of new))
     → (state_of new).contexts ≡ (state_of old).contexts → DidStep (state_of old) (state_of new) step (told_of result)
-did_told old new step (Ok reply) refused over next contexts = record { refused = λ e m. (ap told_of (refused e m).0, ap state_of (refused e m).1); did = next; over = over; contexts = contexts }
-did_told old new step (Err Memory) refused over next contexts = record { refused = λ e m. (ap told_of (refused e m).0, ap state_of (refused e m).1); did = next; over = over; contexts = contexts }
-did_told old new step (Err Over) refused over next contexts = record { refused = λ e m. (ap told_of (refused e m).0, ap state_of (refused e m).1); did = next; over = over; contexts = contexts }
-did_told old new step (Err TooMany) refused over next contexts = record { refused = λ e m. (ap told_of (refused e m).0, ap state_of (refused e m).1); did = next; over = over; contexts = contexts }
-did_told old new step (Err (NoContext n)) refused over next contexts = record { refused = λ e m. (ap told_of (refused e m).0, ap state_of (refused e m).1); did = next; over = over; contexts = contexts }
+did_told old new step (Ok reply) refused why over next contexts = record { refused = λ e m. (ap told_of (refused e m).0, ap state_of (refused e m).1); why = record { result = Ok reply; as_told = refl; why = why }; did = next; over = over; contexts = contexts }
+did_told old new step (Err Memory) refused why over next contexts = record { refused = λ e m. (ap told_of (refused e m).0, ap state_of (refused e m).1); why = record { result = Err Memory; as_told = refl; why = why }; did = next; over = over; contexts = contexts }
+did_told old new step (Err Over) refused why over next contexts = record { refused = λ e m. (ap told_of (refused e m).0, ap state_of (refused e m).1); why = record { result = Err Over; as_told = refl; why = why }; did = next; over = over; contexts = contexts }
+did_told old new step (Err TooMany) refused why over next contexts = record { refused = λ e m. (ap told_of (refused e m).0, ap state_of (refused e m).1); why = record { result = Err TooMany; as_told = refl; why = why }; did = next; over = over; contexts = contexts }
+did_told old new step (Err (NoContext n)) refused why over next contexts = record { refused = λ e m. (ap told_of (refused e m).0, ap state_of (refused e m).1); why = record { result = Err (NoContext n); as_told = refl; why = why }; did = next; over = over; contexts = contexts }
 
 -- nothing was done
 pub did_same : (old new : Kept) → first_log new ≡ first_log old → state_of new ≡ state_of old → HasDid old → HasDid new

@@ -5,7 +5,7 @@ ghost use Rattle.wasi_world.specs.Seen.{Seen};
 ghost use Rattle.wasi_steps.specs.declared.step.Step.{Step};
 ghost use Rattle.wasi_steps.specs.declared.reply.Reply.{Reply};
 ghost use Rattle.wasi_session.specs.declared.error.StepError.{StepError};
-ghost use Rattle.wasi_session.specs.Did.{Did, DidNext, may_step, is_over_after};
+ghost use Rattle.wasi_session.specs.Did.{Did, DidNext, HasWhy, may_step, is_over_after};
 ghost use Rattle.wasi_embed.specs.HasDid.{state_of, first_log};
 
 use wasi_asking::AskingWorld;
@@ -29,6 +29,7 @@ impl Kept {
     pub fn step(&mut self, step: Step) -> Result<Reply, StepError>
         ensures refused { (e : StepError) → may_step (state_of self.old) step ≡ Err e
             → (result ≡ Err e) × (self.new ≡ self.old) }
+        ensures why { HasWhy (state_of self.old) step result }
         ensures over { (state_of self.new).over
             ≡ is_over_after (state_of self.old).over result }
         ensures did { (steps : List Step) (replies : List Reply) (start : Seen)

@@ -11,7 +11,7 @@ use Rattle.wasi_world.specs.declared.call.Call.TheVariants as call
 use Rattle.wasi_world.specs.declared.call.Told.{Told}
 use Rattle.wasi_world.specs.declared.call.Told.TheVariants as told
 use Rattle.wasi_world.specs.declared.call.Opt.{Opt}
-use Rattle.wasi_net.specs.declared.calls.Readiness.TheVariants.{Write}
+use Rattle.wasi_looks.specs.declared.look.Readiness.TheVariants.{Write}
 use Rattle.wasi_net.specs.declared.calls.Transport.{Transport}
 use Rattle.wasi_net.specs.declared.calls.Transport.TheVariants.{Tcp, Udp}
 use Rattle.wasi_net.specs.declared.errno.Errno.{Errno}

@@ -1,3 +1,4 @@
+mod AskedLooks
 mod Sides
 mod Counted
 mod Results

@@ -12,7 +12,7 @@ use Rattle.wasi_net.specs.declared.errno.Errno.{Errno}
 use Rattle.wasi_net.specs.declared.hosts.Named.{Named}
 use Rattle.wasi_net.specs.declared.calls.Transport.{Transport}
 use Rattle.wasi_net.specs.declared.calls.Transport.TheVariants.{Tcp, Udp}
-use Rattle.wasi_net.specs.declared.calls.Readiness.TheVariants as readiness
+use Rattle.wasi_looks.specs.declared.look.Readiness.TheVariants as readiness
 use Rattle.wasi_net.specs.declared.setting.Setting.TheVariants as setting
 use Rattle.wasi_net.specs.declared.socket.Room.TheVariants.{Unknown}
 use Rattle.wasi_net.specs.declared.socket.Stage.{Stage}

@@ -20,8 +20,8 @@ use Rattle.wasi_net.specs.declared.socket.Stage.TheVariants as stage
 use Rattle.wasi_net.specs.Errno.{code_of, code_of_number, bind_code, goes_on, told_failed}
 use Rattle.wasi_net.specs.Acts.{Act, Acts, Status, after}
 use Rattle.wasi_net.specs.Acts as act
-use Rattle.wasi_net.specs.declared.calls.Readiness.{Readiness}
-use Rattle.wasi_net.specs.declared.calls.Readiness.TheVariants.{Write}
+use Rattle.wasi_looks.specs.declared.look.Readiness.{Readiness}
+use Rattle.wasi_looks.specs.declared.look.Readiness.TheVariants.{Write}
 use Rattle.wasi_net.specs.Ready.{look}
 use Rattle.wasi_net.specs.Storage.{Holds, bind_to, connect_to, disconnect, send_to, shut, int_in, set_to, get_of}
 use Rattle.wasi_net.specs.Known.{Known, at_stage, with_room}

@@ -3,6 +3,7 @@ pub mod Acts
 pub mod Storage
 pub mod Ready
 pub mod Known
+pub mod Awaited
 pub mod Does
 pub mod Allowed
 pub mod Hosts

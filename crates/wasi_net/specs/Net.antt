@@ -1,10 +1,15 @@
 -- What is known of a world of the system's sockets.
 use Rattle.std.specs.Prelude.{ℕ, Bool, List, None}
+use Rattle.wasi_world.specs.declared.call.Call.{Call}
+use Rattle.wasi_world.specs.declared.call.Told.{Told}
+use Rattle.wasi_world.specs.declared.ids.OpId.{OpId}
 use Rattle.wasi_world.specs.Seen.{Seen}
 use Rattle.wasi_net.specs.declared.system_world.SystemWorld.{SystemWorld}
 use Rattle.wasi_net.specs.declared.hosts.Named.{Named}
 use Rattle.wasi_net.specs.declared.patient.PatientWorld.{PatientWorld}
+use Rattle.wasi_net.specs.Acts.{Acts}
 use Rattle.wasi_net.specs.Allowed.{Policy, policy_of}
+use Rattle.wasi_net.specs.Answers.{OnNetwork}
 use Rattle.wasi_net.specs.Known.{Sides, known_sides}
 
 -- a world that reports its end mark, its closings and its count of faults alone
@@ -39,3 +44,8 @@ patient_sides patient = sides_of patient.world
 
 abbrev pub patient_system : {S : Type 0} → PatientWorld S → S
 patient_system patient = system_of patient.world
+
+-- it answers a call as the world that it is round, with the same calls of the system
+abbrev pub AnswersNow : {S : Type 0} → PatientWorld S → PatientWorld S → OpId → Call → Told → Acts → Acts → Type 0
+AnswersNow old now op c told before after =
+    OnNetwork (policy_in old.world) (names_in old.world) (patient_sides old) op c told (patient_sides now) before after

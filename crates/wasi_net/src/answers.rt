@@ -4,11 +4,11 @@ ghost use Rattle.std.specs.Prelude.{◌≡◌, IfOk, OnErr};
 ghost use Rattle.wasi_world.specs.Fits.{Fits};
 ghost use Rattle.wasi_net.specs.Answers.{missing};
 
-use crate::calls::Readiness;
 use crate::socket::{Socket, Stage};
 use crate::system::System;
 use std::alloc::{AllocError, Global};
 use wasi_addr::ErrorCode;
+use wasi_looks::Readiness;
 use wasi_world::{Call, Told};
 
 /// The answer to a call on a network socket that isn't there, and to a call that isn't on one.

@@ -18,6 +18,7 @@ use crate::system::{OptionValue, System};
 use libc::net as c;
 use libc::types::pollfd;
 use wasi_addr::{IpSocketAddress, ShutdownType, SocketAddressFamily, clamp_backlog};
+use wasi_looks::Readiness;
 
 /// Which of the two kinds a socket is.
 #[derive(Clone, Copy, Debug, PartialEq, Eq)]
@@ -177,13 +178,6 @@ pub fn listen<S: System>(system: &mut S, descriptor: &Descriptor, backlog: u32) 
         descriptor.number(),
         clamp_backlog(u64::from(backlog)) as i32,
     )
-}
-
-/// What a socket may be ready for.
-#[derive(Clone, Copy, Debug, PartialEq, Eq)]
-pub enum Readiness {
-    Read,
-    Write,
 }
 
 /// The events of a readiness.

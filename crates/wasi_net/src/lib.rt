@@ -9,6 +9,7 @@
 
 pub mod allowed;
 mod answers;
+mod awaited;
 pub mod calls;
 pub mod descriptor;
 pub mod errno;

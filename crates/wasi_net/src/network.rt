@@ -5,7 +5,7 @@ ghost use Rattle.wasi_net.specs.Answers.{side_of};
 
 use crate::allowed::Allowed;
 use crate::answers::told_missing;
-use crate::calls::{Readiness, Transport};
+use crate::calls::Transport;
 use crate::hosts::Hosts;
 use crate::socket::Socket;
 use crate::system::System;
@@ -14,6 +14,7 @@ use libc::types::pollfd;
 use std::alloc::{AllocError, Global};
 use std::collections::BTreeMap;
 use wasi_addr::{ErrorCode, IpSocketAddress};
+use wasi_looks::Readiness;
 use wasi_world::{Call, OpId, Sock, Told};
 
 /// The sockets that are open.
@@ -92,6 +93,11 @@ impl<S> Network<S> {
         }
     }
 
+    /// What its memory is taken from.
+    pub(crate) fn allocator(&self) -> Global {
+        self.alloc
+    }
+
     /// Takes memory for what a call may have to wait for.
     pub fn reserve(&mut self) -> Result<(), AllocError>
         ensures sides { self.new.sides ≡ self.old.sides }
@@ -103,7 +109,7 @@ impl<S> Network<S> {
     }
 
     /// Whether this readiness of a socket is waited for.
-    fn is_awaited(&self, sock: Sock, readiness: Readiness) -> bool {
+    pub fn is_awaited(&self, sock: Sock, readiness: Readiness) -> bool {
         match self.sides.get(&sock) {
             Some(socket) => self.waiting.has(socket.descriptor.number(), readiness),
             None => false,

@@ -7,13 +7,13 @@ ghost use Rattle.wasi_net.specs.Does.{ReadyTold, setting_of, seconds_of, number_
 ghost use Rattle.wasi_net.specs.Does.{room_of, set_told};
 
 use crate::calls;
-use crate::calls::Readiness;
 use crate::descriptor::Descriptor;
 use crate::errno::{Errno, NO_BUFFERS};
 use crate::setting::Setting;
 use crate::storage::decode;
 use crate::system::{Storage, System};
 use wasi_addr::{ErrorCode, IpSocketAddress, SocketAddressFamily, normalize_set_buffer_size};
+use wasi_looks::Readiness;
 use wasi_world::{Opt, Told};
 
 /// How far a socket has come. A listener and a connection are open as any other: the system knows.

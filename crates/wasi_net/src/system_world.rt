@@ -5,13 +5,13 @@ ghost use Rattle.std.specs.Prelude.{length, false, true};
 ghost use Rattle.wasi_world.specs.Seen.{Counts};
 
 use crate::allowed::Allowed;
-use crate::calls::Readiness;
 use crate::hosts::Hosts;
 use crate::network::Network;
 use crate::system::System;
 use libc::types::pollfd;
 use std::alloc::{AllocError, Global};
 use wasi_addr::{ErrorCode, IpSocketAddress};
+use wasi_looks::{Look, Readiness};
 use wasi_world::{Call, OpId, Sock, Told, Waits, World};
 
 /// A world over the system's sockets, TCP and UDP, IPv4 and IPv6. It reports no log.
@@ -99,6 +99,12 @@ impl<S> SystemWorld<S> {
         self.network.awaited()
     }
 
+    /// Whether each of these looks was answered pending the last time, and no wait since has found
+    /// that it may go on.
+    pub fn are_awaited(&self, looks: &[Look]) -> bool {
+        self.network.are_awaited(looks)
+    }
+
     /// How many codes were reported. The count stays at its greatest value.
     pub fn faults(&self) -> u64
         ensures { result ≡ (seen_by self.now).faults }
@@ -111,6 +117,7 @@ impl<S: System> SystemWorld<S> {
     ghost use Rattle.wasi_world.specs.Fits.{Fits};
     ghost use Rattle.wasi_net.specs.Known.{Same};
     ghost use Rattle.wasi_net.specs.Answers.{OnNetwork, NoMemory};
+    ghost use Rattle.wasi_net.specs.Awaited.{asked_by, WaitsFor};
     ghost use Rattle.wasi_net.specs.Owned.{Owned};
     ghost use Rattle.wasi_net.specs.Net.{seen_by, policy_in, names_in, sides_of, system_of};
 
@@ -140,6 +147,25 @@ impl<S: System> SystemWorld<S> {
         let told = self.network.answer(op, call)?;
         self.network.note_call(call, &told);
         Ok(told)
+    }
+
+    /// Waits until one of these looks may go on, for at most so many milliseconds, or without limit
+    /// where they are negative; and whether one may. The system is asked once, for all of them and
+    /// for nothing else, and not at all where one of them needn't wait: its socket isn't open, or is
+    /// known to have room. Takes memory for what is asked.
+    pub fn wait_on(&mut self, looks: &[Look], timeout: i32) -> Result<bool, AllocError>
+        ensures waited { IfOk result (λ ready. WaitsFor (asked_by (sides_of self.old) looks.now)
+            timeout ready (S.acts (system_of self.old)) (S.acts (system_of self.new))) }
+        ensures quiet { OnErr result (S.acts (system_of self.new)
+            ≡ S.acts (system_of self.old)) }
+        ensures seen { seen_by self.new ≡ seen_by self.old }
+        ensures policy { policy_in self.new ≡ policy_in self.old }
+        ensures names { names_in self.new ≡ names_in self.old }
+        ensures sides { sides_of self.new ≡ sides_of self.old }
+        ensures owned { Owned (sides_of self.old) (S.acts (system_of self.old))
+            → Owned (sides_of self.new) (S.acts (system_of self.new)) }
+    {
+        self.network.wait_on(looks, timeout)
     }
 }
 

@@ -9,7 +9,6 @@ ghost use Rattle.wasi_net.specs.Does.{error_told, ErrorTold, written_told, Write
 ghost use Rattle.wasi_net.specs.Does.{room_after, most};
 
 use crate::calls;
-use crate::calls::Readiness;
 use crate::descriptor::Descriptor;
 use crate::errno::{Errno, told_failed};
 use crate::setting::Setting;
@@ -17,6 +16,7 @@ use crate::socket::{Room, Socket, Stage};
 use crate::system::{OptionValue, System};
 use std::alloc::{AllocError, Global};
 use wasi_addr::{IpSocketAddress, ShutdownType};
+use wasi_looks::Readiness;
 use wasi_world::{Octets, Told};
 
 /// At most so many bytes go in one call of the system.

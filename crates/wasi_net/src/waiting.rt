@@ -4,10 +4,11 @@ ghost use Rattle.std.specs.Prelude.{◌≡◌, Result};
 ghost use Rattle.wasi_net.specs.Acts.{after};
 ghost use Rattle.wasi_net.specs.Acts as act;
 
-use crate::calls::{Readiness, events_of};
+use crate::calls::events_of;
 use crate::system::System;
 use libc::types::pollfd;
 use std::alloc::{AllocError, Global};
+use wasi_looks::Readiness;
 
 /// The sockets that an answer left pending, and what for. Each readiness of a socket stands here
 /// once.
@@ -60,6 +61,17 @@ impl Waiting {
     /// Waits no longer for a socket that is closed.
     pub fn forget(&mut self, fd: i32) {
         self.asked.retain(|it| it.fd != fd);
+    }
+
+    /// Waits no longer for what a wait has found ready.
+    pub fn leave_ready(&mut self, found: &[pollfd]) {
+        for it in found {
+            if it.revents != 0 {
+                let (fd, events) = (it.fd, it.events);
+                self.asked
+                    .retain(|kept| kept.fd != fd || kept.events != events);
+            }
+        }
     }
 
     /// The sockets that are waited for, and what for.

@@ -7,7 +7,7 @@ pub mod ReachLaws
 pub mod NodeLaws
 pub mod Gathering
 pub mod PointLaws
-pub mod StartLaws
-pub mod MarkLaws
 pub mod OverlapLaws
+pub mod DecidingLaws
+pub mod CoveringLaws
 pub mod FindingLaws

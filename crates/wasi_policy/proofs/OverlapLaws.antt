@@ -1,7 +1,6 @@
 -- Two rules overlap where both match the first address that both may match.
-use Rattle.std.specs.Prelude.{nat_le, nat_lt, max, ◌&&◌, ◌||◌, ◌==◌, if◌then◌else◌}
-use Rattle.std.proofs.Common.{◌≡◌, ℕ, zero, suc, ◌+◌, ◌-◌, ◌≤◌, ◌<◌, Bool, true, false, List, [], ◌∷◌, Option, Some, None, length, get_or, arith, ap, sym, ◌∙◌, refl, subst}
-use Rattle.std.specs.List.{Contains}
+use Rattle.std.specs.Prelude.{nat_le, nat_lt, max, min, ◌&&◌, ◌==◌}
+use Rattle.std.proofs.Common.{◌≡◌, ℕ, ◌≤◌, Bool, true, false, Option, Some, None, arith, ap, sym, ◌∙◌, refl, subst}
 use Rattle.std.proofs.lemmas.Bool.{false≢true, and_parts}
 use Rattle.std.proofs.lemmas.Bool.Decides.{nat_tests}
 use Rattle.wasi_addr.specs.declared.address.IpSocketAddress.{IpSocketAddress}
@@ -14,19 +13,18 @@ use Rattle.wasi_policy.specs.Decision.{is_about, matches, use_place}
 use Rattle.wasi_policy.specs.Reach.{family_of, ip_number, range_of}
 use Rattle.wasi_policy.specs.Points.{is_canonical, in_range, IsAt}
 use Rattle.wasi_policy.specs.Findings.{Overlap}
-use Rattle.wasi_policy.specs.Overlaps.{after_mapped, canonical_from, first_common, common_use, unmarked_from}
+use Rattle.wasi_policy.specs.Overlaps.{after_mapped, canonical_from, at_most, first_common, common_use}
 use Rattle.wasi_policy.proofs.PointLaws.{has_number, matches_at}
-use Rattle.wasi_policy.proofs.StartLaws.{contains_more}
 
 -- == the first canonical number
 -- a canonical number from another on is at the first such one, or behind it
-record FoundFrom (f : SocketAddressFamily) (n k : ℕ) : Type 0 where
-  first : ℕ
-  is : canonical_from f n ≡ Some first
-  over : n ≤ first
-  below : first ≤ k
+pub record FoundFrom (f : SocketAddressFamily) (n k : ℕ) : Type 0 where
+  pub first : ℕ
+  pub is : canonical_from f n ≡ Some first
+  pub over : n ≤ first
+  pub below : first ≤ k
 
-from_there : (f : SocketAddressFamily) (n k : ℕ) → is_canonical f k ≡ true → n ≤ k → FoundFrom f n k
+pub from_there : (f : SocketAddressFamily) (n k : ℕ) → is_canonical f k ≡ true → n ≤ k → FoundFrom f n k
 from_there f n k canon h = by_test (is_canonical f n) refl where
   behind : (f : SocketAddressFamily) → is_canonical f n ≡ false → is_canonical f k ≡ true → is_canonical f n ≡ false → FoundFrom f n k
   behind family.Ipv4 e canon' d = absurd (small e canon') where
@@ -43,7 +41,7 @@ from_there f n k canon h = by_test (is_canonical f n) refl where
   by_test true e = record { first = n; is = rw e refl; over = omega arith; below = h }
   by_test false e = behind f e canon e
 
-from_canonical : (f : SocketAddressFamily) (n m : ℕ) → canonical_from f n ≡ Some m → is_canonical f m ≡ true
+pub from_canonical : (f : SocketAddressFamily) (n m : ℕ) → canonical_from f n ≡ Some m → is_canonical f m ≡ true
 from_canonical f n m is = by_test (is_canonical f n) refl where
   some_is : (a b : ℕ) → Some a ≡ Some b → a ≡ b
   some_is a b e = cc
@@ -58,6 +56,17 @@ from_canonical f n m is = by_test (is_canonical f n) refl where
   by_test true e = rw (← some_is n m (rw e at is)) e
   by_test false e = behind f (rw e at is)
 
+-- a number that isn't above another is the one that it was
+most_is : (most m : ℕ) (number : Option ℕ) → at_most most number ≡ Some m → number ≡ Some m
+most_is most m None is = is
+most_is most m (Some n) is = by_test (nat_le n most) refl where
+  none : None ≡ Some m → ⊥
+  none e = cc
+
+  by_test : (t : Bool) → nat_le n most ≡ t → Some n ≡ Some m
+  by_test true e = rw e at is
+  by_test false e = absurd (none (rw e at is))
+
 pub common_canonical : (a b : Option (ℕ × ℕ)) (f : SocketAddressFamily) (m : ℕ) → first_common a b f ≡ Some m → is_canonical f m ≡ true
 common_canonical None b f m is = absurd (none is) where
   none : None ≡ Some m → ⊥
@@ -65,7 +74,7 @@ common_canonical None b f m is = absurd (none is) where
 common_canonical (Some a) None f m is = absurd (none is) where
   none : None ≡ Some m → ⊥
   none e = cc
-common_canonical (Some (low, high)) (Some (least, greatest)) f m is = from_canonical f (max low least) m is
+common_canonical (Some (low, high)) (Some (least, greatest)) f m is = from_canonical f (max low least) m (most_is (min high greatest) m (canonical_from f (max low least)) is)
 
 record FoundCommon (a b : Option (ℕ × ℕ)) (f : SocketAddressFamily) : Type 0 where
   first : ℕ
@@ -78,8 +87,13 @@ common_found None b f k canon one other = absurd (false≢true one)
 common_found (Some a) None f k canon one other = absurd (false≢true other)
 common_found (Some (low, high)) (Some (least, greatest)) f k canon one other =
     let found = from_there f (max low least) k canon (highest one other) in
-    record { first = found.first; is = found.is; one = within one found.over found.below; other = within_other other found.over found.below }
+    let here = within one found.over found.below in
+    let there = within_other other found.over found.below in
+    record { first = found.first; is = rw found.is (not_above here there); one = here; other = there }
   where
+    not_above : {m : ℕ} → (nat_le low m && nat_le m high) ≡ true → (nat_le least m && nat_le m greatest) ≡ true → at_most (min high greatest) (Some m) ≡ Some m
+    not_above {m} here there = let below : nat_le m (min high greatest) ≡ true = grind (arith, nat_tests) in rw below refl
+
     highest : (nat_le low k && nat_le k high) ≡ true → (nat_le least k && nat_le k greatest) ≡ true → max low least ≤ k
     highest one other = grind (arith, nat_tests)
 
@@ -115,18 +129,18 @@ all_four : (a b c d : Bool) → a ≡ true → b ≡ true → c ≡ true → d �
 all_four a b c d h k l m = rw (h, k, l, m) refl
 
 -- the rule matches at the number, the port and the use that were found
-record IsMatched (rule : Rule) (asked : SocketAddrUse) (f : SocketAddressFamily) (number port : ℕ) : Type 0 where
-  about : is_about rule.usage asked ≡ true
-  low : nat_le rule.low port ≡ true
-  high : nat_le port rule.high ≡ true
-  within : in_range (range_of rule.net f) number ≡ true
+pub record IsMatched (rule : Rule) (asked : SocketAddrUse) (f : SocketAddressFamily) (number port : ℕ) : Type 0 where
+  pub about : is_about rule.usage asked ≡ true
+  pub low : nat_le rule.low port ≡ true
+  pub high : nat_le port rule.high ≡ true
+  pub within : in_range (range_of rule.net f) number ≡ true
 
-parts_of : (rule : Rule) (asked : SocketAddrUse) (f : SocketAddressFamily) (number port : ℕ) (address : IpSocketAddress) → IsAt f number port address → matches rule address asked ≡ true → IsMatched rule asked f number port
+pub parts_of : (rule : Rule) (asked : SocketAddrUse) (f : SocketAddressFamily) (number port : ℕ) (address : IpSocketAddress) → IsAt f number port address → matches rule address asked ≡ true → IsMatched rule asked f number port
 parts_of rule asked f number port address at is =
     let parts = four (is_about rule.usage asked) (nat_le rule.low port) (nat_le port rule.high) (in_range (range_of rule.net f) number) (sym (matches_at rule asked f number port address at) ∙ is) in
     record { about = parts.0; low = parts.1; high = parts.2; within = parts.3 }
 
-from_parts : (rule : Rule) (asked : SocketAddrUse) (f : SocketAddressFamily) (number port : ℕ) (address : IpSocketAddress) → IsAt f number port address → IsMatched rule asked f number port → matches rule address asked ≡ true
+pub from_parts : (rule : Rule) (asked : SocketAddrUse) (f : SocketAddressFamily) (number port : ℕ) (address : IpSocketAddress) → IsAt f number port address → IsMatched rule asked f number port → matches rule address asked ≡ true
 from_parts rule asked f number port address at m =
     matches_at rule asked f number port address at
     ∙ all_four (is_about rule.usage asked) (nat_le rule.low port) (nat_le port rule.high) (in_range (range_of rule.net f) number) m.about m.low m.high m.within
@@ -171,6 +185,25 @@ overlap_found one other f o is =
     both_match one other f (ip_number (canonical (ip_of o.address))) (port_of o.address) o.asked (ap (λ g. is_canonical g (ip_number (canonical (ip_of o.address)))) (sym is) ∙ number.canon)
     (parts_of one o.asked f (ip_number (canonical (ip_of o.address))) (port_of o.address) o.address at o.one_matches)
     (parts_of other o.asked f (ip_number (canonical (ip_of o.address))) (port_of o.address) o.address at o.other_matches)
+
+-- no use is one of both
+pub no_use : (one other : Rule) → is_about other.usage (common_use one.usage other.usage) ≡ false → Overlap one other → ⊥
+no_use one other none o =
+    let at : IsAt (family_of (canonical (ip_of o.address))) (ip_number (canonical (ip_of o.address))) (port_of o.address) o.address = record { fits = o.fits; family_is = refl; number_is = refl; port_is = refl } in
+    let here = parts_of one o.asked (family_of (canonical (ip_of o.address))) (ip_number (canonical (ip_of o.address))) (port_of o.address) o.address at o.one_matches in
+    let there = parts_of other o.asked (family_of (canonical (ip_of o.address))) (ip_number (canonical (ip_of o.address))) (port_of o.address) o.address at o.other_matches in
+    false≢true (sym none ∙ (use_about one.usage other.usage o.asked here.about there.about).1)
+
+-- no port is one of both
+pub no_port : (one other : Rule) → nat_le (max one.low other.low) (min one.high other.high) ≡ false → Overlap one other → ⊥
+no_port one other none o =
+    let at : IsAt (family_of (canonical (ip_of o.address))) (ip_number (canonical (ip_of o.address))) (port_of o.address) o.address = record { fits = o.fits; family_is = refl; number_is = refl; port_is = refl } in
+    let here = parts_of one o.asked (family_of (canonical (ip_of o.address))) (ip_number (canonical (ip_of o.address))) (port_of o.address) o.address at o.one_matches in
+    let there = parts_of other o.asked (family_of (canonical (ip_of o.address))) (ip_number (canonical (ip_of o.address))) (port_of o.address) o.address at o.other_matches in
+    apart one.low one.high other.low other.high (port_of o.address) here.low here.high there.low there.high none
+  where
+    apart : (low high least greatest p : ℕ) → nat_le low p ≡ true → nat_le p high ≡ true → nat_le least p ≡ true → nat_le p greatest ≡ true → nat_le (max low least) (min high greatest) ≡ false → ⊥
+    apart low high least greatest p h k l m none = grind (arith, nat_tests)
 
 -- the answers of overlap_in
 pub none_common : (one other : Rule) (f : SocketAddressFamily) → first_common (range_of one.net f) (range_of other.net f) f ≡ None → (o : Overlap one other) → family_of (canonical (ip_of o.address)) ≡ f → ⊥

@@ -1,6 +1,6 @@
 -- Addresses and their numbers.
-use Rattle.std.specs.Prelude.{nat_le, nat_lt, ◌&&◌, ◌||◌, ◌==◌, ◌/◌, ◌%◌, ◌*◌, ◌^◌}
-use Rattle.std.proofs.Common.{◌≡◌, ℕ, ◌+◌, ◌≤◌, ◌<◌, Bool, true, false, List, Option, Some, None, length, arith, ap, sym, ◌∙◌, refl}
+use Rattle.std.specs.Prelude.{nat_le, nat_lt, ◌&&◌, ◌==◌, ◌/◌, ◌%◌, ◌^◌}
+use Rattle.std.proofs.Common.{◌≡◌, ℕ, ◌≤◌, ◌<◌, Bool, true, false, arith, ap, sym, ◌∙◌, refl}
 use Rattle.std.proofs.lemmas.Bool.{false≢true, or_parts}
 use Rattle.std.proofs.lemmas.Bool.Decides.{nat_tests}
 use Rattle.wasi_addr.specs.declared.address.IpAddress.{IpAddress}
@@ -11,13 +11,12 @@ use Rattle.wasi_addr.specs.declared.address.SocketAddressFamily.{SocketAddressFa
 use Rattle.wasi_addr.specs.declared.address.SocketAddressFamily.TheVariants as family
 use Rattle.wasi_addr.specs.declared.address.SocketAddrUse.{SocketAddrUse}
 use Rattle.wasi_addr.specs.Address.{canonical, ip_of, port_of, starts_zero}
-use Rattle.world_text.specs.Written.{FitsIp, FitsIpv4, FitsIpv6, FitsAddress}
+use Rattle.world_text.specs.Written.{FitsIp, FitsIpv6, FitsAddress}
 use Rattle.wasi_policy.specs.declared.rule.Rule.{Rule}
-use Rattle.wasi_policy.specs.Decision.{ipv4_number, ipv6_number, is_about, is_in, matches, decision}
-use Rattle.wasi_policy.specs.Reach.{family_of, ip_number, range_of, reaches_from, first_of, by_place, no_rule}
+use Rattle.wasi_policy.specs.Decision.{ipv4_number, ipv6_number, is_about, matches}
+use Rattle.wasi_policy.specs.Reach.{family_of, ip_number, range_of}
 use Rattle.wasi_policy.specs.Points.{is_canonical, in_range, IsAt}
-use Rattle.wasi_policy.specs.Marks.{line_at}
-use Rattle.wasi_policy.proofs.ReachLaws.{decision_is, range_is}
+use Rattle.wasi_policy.proofs.ReachLaws.{range_is}
 
 -- == IPv6 addresses that stand for IPv4 ones
 zeros : (a b c d e f g h : ℕ) → b ≤ 65535 → c ≤ 65535 → d ≤ 65535 → e ≤ 65535 → f ≤ 65535 → g ≤ 65535 → h ≤ 65535 → 281470681743360 ≤ ipv6_number (a, b, c, d, e, f, g, h) → ipv6_number (a, b, c, d, e, f, g, h) < 281474976710656 → (a ≡ 0) × (b ≡ 0) × (c ≡ 0) × (d ≡ 0) × (e ≡ 0) × (f ≡ 65535)
@@ -90,12 +89,6 @@ has_number address fits =
     record { canon = number.canon; small = number.small; port = parts.1 }
 
 -- == what rules say of an address, by its number
-pub line_is : (rules : List Rule) (asked : SocketAddrUse) (f : SocketAddressFamily) (number port : ℕ) (address : IpSocketAddress) → length rules ≤ no_rule → IsAt f number port address → (decision rules address asked).rule ≡ line_at rules asked f number port
-line_is rules asked f number port address few at =
-    let small = (has_number address at.fits).small in
-    ap (λ d. d.rule) (decision_is address asked small rules few)
-    ∙ rw (at.family_is, at.number_is, at.port_is) refl
-
 pub matches_at : (rule : Rule) (asked : SocketAddrUse) (f : SocketAddressFamily) (number port : ℕ) (address : IpSocketAddress) → IsAt f number port address → matches rule address asked ≡ (is_about rule.usage asked && nat_le rule.low port && nat_le port rule.high && in_range (range_of rule.net f) number)
 matches_at rule asked f number port address at =
     let small = (has_number address at.fits).small in

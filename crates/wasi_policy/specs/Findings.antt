@@ -1,6 +1,6 @@
 -- Rules that decide nothing, and rules that say otherwise than one before them.
-use Rattle.std.specs.Prelude.{◌≡◌, ◌≢◌, ℕ, ◌<◌, ◌≤◌, ◌-◌, true, List, length, Some}
-use Rattle.std.specs.List.{slice_get}
+use Rattle.std.specs.Prelude.{◌≡◌, ◌≢◌, ◌⊎◌, ℕ, ◌<◌, ◌≤◌, ◌-◌, true, List, [], ◌∷◌, length, Some}
+use Rattle.std.specs.List.{slice_get, All, Contains}
 use Rattle.wasi_addr.specs.declared.address.IpSocketAddress.{IpSocketAddress}
 use Rattle.wasi_addr.specs.declared.address.SocketAddrUse.{SocketAddrUse}
 use Rattle.world_text.specs.Written.{FitsAddress}
@@ -27,6 +27,16 @@ pub record Overlap (one other : Rule) : Type 0 where
   pub one_matches : matches one address asked ≡ true
   pub other_matches : matches other address asked ≡ true
 
+-- The rule of a line matches some use of some address.
+pub record Matches (rules : List Rule) (line : ℕ) : Type 0 where
+  pub rule : Rule
+  pub rule_is : slice_get rules (line - 1) ≡ Some rule
+  pub some : Overlap rule rule
+
+-- The rule of a line matches no use of any address.
+abbrev pub IsUnmatched : List Rule → ℕ → Type 0
+IsUnmatched rules line = Matches rules line → ⊥
+
 -- The rules of two lines overlap, and the later one says otherwise.
 pub record Conflict (rules : List Rule) (line later : ℕ) : Type 0 where
   pub begins : 0 < line
@@ -38,3 +48,23 @@ pub record Conflict (rules : List Rule) (line later : ℕ) : Type 0 where
   pub other_is : slice_get rules (later - 1) ≡ Some other
   pub differ : allows one.action ≢ allows other.action
   pub overlap : Overlap one other
+
+-- the pair comes before this one, in the order of the lines
+abbrev pub IsPairBefore : ℕ → ℕ → ℕ × ℕ → Type 0
+IsPairBefore line later pair = (pair.0 < line) ⊎ ((pair.0 ≡ line) × (pair.1 < later))
+
+-- each pair once, in the order of the lines
+abbrev pub AreInOrder : List (ℕ × ℕ) → Type 0
+AreInOrder [] = ◌≡◌ {A = ℕ} 0 0
+AreInOrder (pair ∷ pairs) = All (λ more. IsPairBefore more.0 more.1 pair) pairs × AreInOrder pairs
+
+-- and all before this one
+pub record AreBefore (line later : ℕ) (pairs : List (ℕ × ℕ)) : Type 0 where
+  pub order : AreInOrder pairs
+  pub before : All (λ pair. IsPairBefore line later pair) pairs
+
+-- The conflicts of rules: only those, each of them, and each once.
+pub record AreConflicts (rules : List Rule) (pairs : List (ℕ × ℕ)) : Type 0 where
+  pub sound : All (λ p. Conflict rules p.0 p.1) pairs
+  pub complete : (line later : ℕ) → Conflict rules line later → Contains pairs (line, later)
+  pub order : AreInOrder pairs

@@ -9,5 +9,5 @@ pub mod Nodes
 pub mod Index
 pub mod Points
 pub mod Findings
-pub mod Marks
 pub mod Overlaps
+pub mod Deciding

@@ -1,6 +1,7 @@
 //! Whether a rule matches, and the first that does.
 
-ghost use Rattle.std.specs.Prelude.{◌≡◌, ◌+◌, ◌*◌, ◌<◌, ◌^◌, length};
+ghost use Rattle.std.specs.Prelude.{◌≡◌, ◌≤◌, ◌+◌, ◌-◌, ◌*◌, ◌<◌, ◌^◌, Some, length};
+ghost use Rattle.std.specs.List.{slice_get};
 ghost use Rattle.wasi_policy.specs.Decision.{ipv4_number, ipv6_number, agree, is_in, is_about};
 ghost use Rattle.wasi_policy.specs.Decision.{matches, allows};
 ghost use Rattle.wasi_policy.specs.Reach.{by_place};
@@ -86,6 +87,15 @@ pub fn matches(rule: &Rule, address: IpSocketAddress, usage: SocketAddrUse) -> b
         && rule.low <= port
         && port <= rule.high
         && is_in(rule.net, address.ip().to_canonical())
+}
+
+/// The rule of a line, counted from 1.
+pub fn rule_of(rules: &[Rule], line: u32) -> &Rule
+    requires begins { 0 < line }
+    requires within { line ≤ length rules.now }
+    ensures { slice_get rules.now (line - 1) ≡ Some result.now }
+{
+    &rules[line as usize - 1]
 }
 
 /// Whether the action is to allow.

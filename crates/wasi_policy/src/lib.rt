@@ -3,13 +3,14 @@
 #![tactic(auto)]
 
 pub mod cells;
+pub mod covering;
 pub mod decide;
+pub mod deciding;
 pub mod denied;
 pub mod explain;
 pub mod findings;
 pub mod grammar;
 pub mod index;
-pub mod marks;
 pub mod node;
 pub mod nodes;
 pub mod overlap;
@@ -18,10 +19,10 @@ pub mod points;
 pub mod policy;
 pub mod reach;
 pub mod rule;
-pub mod starts;
 pub mod world;
 
 pub use denied::Denied;
+pub use findings::Conflicts;
 pub use grammar::rules_are_read_exactly;
 pub use parse::RulesError;
 pub use policy::Policy;

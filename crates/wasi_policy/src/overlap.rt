@@ -1,20 +1,20 @@
 //! Whether two rules match some use of some address both.
 
-ghost use Rattle.std.specs.Prelude.{◌≡◌, ◌&&◌, ◌≢◌, true};
+ghost use Rattle.std.specs.Prelude.{◌≡◌, ◌&&◌, ◌≢◌, true, nat_le, max, min};
 ghost use Rattle.wasi_addr.specs.Address.{canonical, ip_of};
-ghost use Rattle.wasi_policy.specs.Decision.{matches, allows};
+ghost use Rattle.wasi_policy.specs.Decision.{matches, allows, is_about};
 ghost use Rattle.wasi_policy.specs.Reach.{family_of, range_of};
 ghost use Rattle.wasi_policy.specs.Findings.{Overlap};
-ghost use Rattle.wasi_policy.specs.Overlaps.{canonical_from, first_common, common_use};
+ghost use Rattle.wasi_policy.specs.Overlaps.{canonical_from, at_most, first_common, common_use};
 
-use crate::decide::{allows, matches};
+use crate::decide::{allows, is_about, matches};
 use crate::points::{AFTER_MAPPED, address_at, is_canonical};
 use crate::reach::range_of;
 use crate::rule::{Net, Rule};
 use wasi_addr::{IpSocketAddress, SocketAddrUse, SocketAddressFamily};
 
 /// The first number from this one on that a canonical address of the family has.
-fn canonical_from(family: SocketAddressFamily, number: u128) -> Option<u128>
+pub fn canonical_from(family: SocketAddressFamily, number: u128) -> Option<u128>
     ensures { result ≡ canonical_from family number }
 {
     if is_canonical(family, number) {
@@ -26,13 +26,21 @@ fn canonical_from(family: SocketAddressFamily, number: u128) -> Option<u128>
     }
 }
 
-/// The first number of a family that may be in both nets.
+/// The number, if it isn't above this one.
+fn at_most(most: u128, number: Option<u128>) -> Option<u128>
+    ensures { result ≡ at_most most number }
+{
+    let number = number?;
+    if number <= most { Some(number) } else { None }
+}
+
+/// The first number of a family that is in both nets.
 fn first_common(one: Net, other: Net, family: SocketAddressFamily) -> Option<u128>
     ensures { result ≡ first_common (range_of one family) (range_of other family) family }
 {
-    let (low, _) = range_of(one, family)?;
-    let (least, _) = range_of(other, family)?;
-    canonical_from(family, low.max(least))
+    let (low, high) = range_of(one, family)?;
+    let (least, greatest) = range_of(other, family)?;
+    at_most(high.min(greatest), canonical_from(family, low.max(least)))
 }
 
 /// A use that both are about, if there is one.
@@ -44,6 +52,20 @@ fn common_use(one: Option<SocketAddrUse>, other: Option<SocketAddrUse>) -> Socke
         (None, Some(usage)) => usage,
         (None, None) => SocketAddrUse::TcpBind,
     }
+}
+
+/// Whether both rules are about a use.
+fn share_use(one: &Rule, other: &Rule) -> bool
+    ensures { result ≡ is_about other.now.usage (common_use one.now.usage other.now.usage) }
+{
+    is_about(other.usage, common_use(one.usage, other.usage))
+}
+
+/// Whether a port is one of both rules.
+fn share_port(one: &Rule, other: &Rule) -> bool
+    ensures { result ≡ nat_le (max one.now.low other.now.low) (min one.now.high other.now.high) }
+{
+    one.low.max(other.low) <= one.high.min(other.high)
 }
 
 /// Whether both rules match this use of this address.
@@ -85,6 +107,9 @@ pub fn disagree(one: &Rule, other: &Rule) -> bool
         → Overlap one.now other.now → result ≡ true }
 {
     if allows(one.action) == allows(other.action) {
+        return false;
+    }
+    if !share_port(one, other) || !share_use(one, other) {
         return false;
     }
     overlap(one, other)

@@ -11,6 +11,7 @@ use crate::policy::Policy;
 use std::alloc::{AllocError, Global};
 use std::marker::{Brand, PhantomData};
 use wasi_addr::IpSocketAddress;
+use wasi_looks::{Look, WaitsForLooks};
 use wasi_world::{Call, Entry, OpId, Sock, Told, Waits, World};
 
 /// What proofs know of a [`PolicyWorld`] besides its log: its rules, and the plan of the world that
@@ -208,5 +209,15 @@ impl<W: World, R: Rules> World for PolicyWorld<W, R> {
 impl<W: Waits, R: Rules> Waits for PolicyWorld<W, R> {
     fn wait(&mut self, timeout: i32) -> bool {
         self.inner.wait(timeout)
+    }
+}
+
+impl<W: WaitsForLooks, R: Rules> WaitsForLooks for PolicyWorld<W, R> {
+    fn wait_for(&mut self, looks: &[Look]) -> bool {
+        self.inner.wait_for(looks)
+    }
+
+    fn let_looks_wait(&mut self, waits: bool) {
+        self.inner.let_looks_wait(waits);
     }
 }

@@ -1,6 +1,6 @@
 -- What a world notes of another's answers.
 use Rattle.std.specs.Prelude.{IfOk, OnErr}
-use Rattle.std.proofs.Common.{◌≡◌, ℕ, Bool, true, false, List, [], ◌∷◌, ◌++◌, length, Some, None, option_map, Result, Ok, Err, ap, subst, ◌∙◌, refl}
+use Rattle.std.proofs.Common.{◌≡◌, ℕ, Bool, true, false, List, [], ◌∷◌, ◌++◌, length, Some, Result, Ok, Err, ap, subst, sym, refl}
 use Rattle.std.specs.declared.alloc.AllocError.{AllocError}
 use Rattle.std.proofs.lemmas.Bool.{false≢true}
 use Rattle.wasi_world.specs.declared.ids.OpId.{OpId}
@@ -10,7 +10,7 @@ use Rattle.wasi_world.specs.declared.call.Told.{Told}
 use Rattle.wasi_world.specs.declared.call.Told.TheVariants.{Pending}
 use Rattle.wasi_world.specs.declared.call.Entry.{Entry}
 use Rattle.wasi_world.specs.Seen.{Seen, Counts, Passes}
-use Rattle.wasi_world.specs.Asks.{Asks, Give, one, one_write, AsksFor, IsFront, Left}
+use Rattle.wasi_world.specs.Asks.{Asks, Give, one, one_write, AsksFor, IsFront, Left, Reaches}
 use Rattle.wasi_world.specs.Fits.{Fits}
 use Rattle.wasi_replay.specs.Replayed.{seen_of, entry}
 use Rattle.wasi_replay.proofs.Replaying.{asked_by, asked_write_by, front_is}
@@ -42,9 +42,10 @@ write_fits op sock bytes told [] h = absurd (false≢true (ap is_given h))
 write_fits op sock bytes told (e ∷ []) h = subst (Fits (Write sock (length bytes))) (ap given h.2) h.0.2
 write_fits op sock bytes told (e ∷ f ∷ es) h = absurd h.2
 
--- a world that reports no log still reports none
-pub still_silent : {old new : Seen} {es : List Entry} → Passes old es new → old.log ≡ None → new.log ≡ None
-still_silent {old} {new} {es} passed silent = passed.log ∙ ap (option_map (λ log. log ++ es)) silent
+-- the other world was asked just this, and what it answered is returned, unless memory ran out in noting it
+pub handed_on : {asks : Asks Told} {old new : Seen} {told : Told} (r : Result Told AllocError) → Reaches asks (Give told) old new → new.ended ≡ old.ended → IfOk r (λ a. a ≡ told) → AsksFor asks old new (λ t. t) r
+handed_on {asks} {old} {new} {told} (Ok a) h ended same = record { ok = subst (λ t. Reaches asks (Give t) old new) (sym same) h; err = tt; ended = ended }
+handed_on {told = told} (Err e) h ended same = record { ok = tt; err = record { rest = Give told; reached = h }; ended = ended }
 
 -- What was noted, or nothing.
 module _ (op : OpId) (called : Call) (told : Told) (log log_new : List Entry) (n m : ℕ) (old new : Seen) (r : Result Told AllocError)

@@ -2,6 +2,7 @@ pub mod Arguments
 pub mod Calls
 pub mod Cut
 pub mod Log
+pub mod Noted
 pub mod Parsed
 pub mod Pieces
 pub mod Recorded

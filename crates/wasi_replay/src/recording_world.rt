@@ -1,18 +1,25 @@
 //! A world that notes what is asked of another one.
 
-ghost use Rattle.std.specs.Prelude.{◌≡◌, ◌<◌, Some, None, [], IfOk, OnErr, ◌∷◌, ◌++◌, vec_len};
+ghost use Rattle.std.specs.Prelude.{◌≡◌, ◌<◌, [], IfOk, OnErr, ◌∷◌, ◌++◌, vec_len};
 ghost use Rattle.std.specs.Prelude.{vec_capacity};
-ghost use Rattle.wasi_world.specs.Seen.{Counts};
-ghost use Rattle.wasi_replay.specs.Replayed.{entry, seen_of};
+ghost use Rattle.std.specs.Prelude.{◌≤◌, ◌^◌, false, true, length};
+ghost use Rattle.wasi_world.specs.declared.call.Call.TheVariants.{Send};
+ghost use Rattle.wasi_world.specs.Asks.{one, one_write, AsksFor};
+ghost use Rattle.wasi_world.specs.Closings.{Named, NoneNamed};
+ghost use Rattle.wasi_world.specs.Fits.{Fits, IsPlain, IsWritten};
+ghost use Rattle.wasi_world.specs.Seen.{Closes, Counts, Ends};
+ghost use Rattle.wasi_replay.specs.Noted.{seen_noted};
+ghost use Rattle.wasi_replay.specs.Replayed.{entry};
 
 use crate::replay_world::count_code;
 use std::alloc::{AllocError, Global};
 use wasi_addr::IpSocketAddress;
 use wasi_decides::Decides;
+use wasi_looks::{Look, WaitsForLooks};
 use wasi_world::{Call, Entry, Octets, OpId, Sock, Told, Waits, World};
 
-/// A world round another one that reports no log, as one over the system's sockets. It hands every
-/// call on, and its own log is what it noted: each call with the other world's answer.
+/// A world round another one, as one over the system's sockets. It hands every call on, once, and
+/// returns what the other world answered; its own log is what it noted: each call with its answer.
 ///
 /// Room for a note is taken before its call is handed on, but for the copy of an answer that holds
 /// bytes or names: where there is no room for that, the call was made and isn't noted, and it is
@@ -22,7 +29,6 @@ pub struct RecordingWorld<W: World> {
     inner: W,
     log: Vec<Entry>,
     faults: u64,
-    ghost silent: { (W.seen inner).log ≡ None },
 }
 
 /// A copy of a call. Takes memory where it holds bytes.
@@ -133,12 +139,10 @@ fn copy_call(call: &Call) -> Result<Call, AllocError>
 }
 
 impl<W: World> RecordingWorld<W> {
-    /// A world round one that was asked nothing yet and reports no log. Takes no memory.
+    /// A world round this one, of which nothing is noted yet. Takes no memory.
     pub fn new(alloc: Global, inner: W) -> RecordingWorld<W>
-        requires { (W.seen inner).log ≡ None }
-        ensures { seen_of result.log.items (W.seen result.inner).ended
-            (W.seen result.inner).closings result.faults ≡ seen_of [] (W.seen inner).ended
-            (W.seen inner).closings 0 }
+        ensures { seen_noted result.log.items result.faults (W.seen result.inner)
+            ≡ seen_noted [] 0 (W.seen inner) }
     {
         RecordingWorld {
             inner,
@@ -195,23 +199,47 @@ fn note(
 impl<W: World> World for RecordingWorld<W> {
     ghost use Rattle.std.specs.Prelude.{Some};
     ghost use Rattle.wasi_world.specs.Script.{without_plan};
-    ghost use Rattle.wasi_replay.specs.Replayed.{seen_of};
+    ghost use Rattle.wasi_replay.specs.Noted.{seen_noted};
 
-    ghost seen = { λ world. seen_of world.log.items (W.seen world.inner).ended
-        (W.seen world.inner).closings world.faults };
+    ghost seen = { λ world. seen_noted world.log.items world.faults (W.seen world.inner) };
 
     ghost closed = { λ world. W.closed world.inner };
 
     ghost scripted = { λ world. without_plan (Some world.log.items) };
 
-    fn call(&mut self, op: OpId, call: Call) -> Result<Told, AllocError> {
+    fn call(&mut self, op: OpId, call: Call) -> Result<Told, AllocError>
+        requires open { (seen_noted self.old.log.items self.old.faults (W.seen self.old.inner)).ended ≡ false }
+        requires plain { IsPlain call }
+        ensures asked { AsksFor (one op call)
+            (seen_noted self.old.log.items self.old.faults (W.seen self.old.inner))
+            (seen_noted self.new.log.items self.new.faults (W.seen self.new.inner))
+            (λ told. told) result }
+        ensures fits { IfOk result (λ told. Fits call told) }
+        ensures err { OnErr result (seen_noted self.new.log.items self.new.faults (W.seen self.new.inner)
+            ≡ seen_noted self.old.log.items self.old.faults (W.seen self.old.inner)) }
+        ensures handed { AsksFor (one op call) (W.seen self.old.inner) (W.seen self.new.inner)
+            (λ told. told) result }
+    {
         self.log.reserve(1)?;
         let noted = copy_call(&call)?;
         let told = self.inner.call(op, call)?;
         note(&mut self.log, &mut self.faults, op, noted, told)
     }
 
-    fn write(&mut self, op: OpId, sock: Sock, bytes: &[u8]) -> Result<Told, AllocError> {
+    fn write(&mut self, op: OpId, sock: Sock, bytes: &[u8]) -> Result<Told, AllocError>
+        requires open { (seen_noted self.old.log.items self.old.faults (W.seen self.old.inner)).ended ≡ false }
+        requires some { 1 ≤ length bytes.now }
+        requires short { length bytes.now < 2 ^ 32 }
+        ensures asked { AsksFor (one_write op sock bytes.now)
+            (seen_noted self.old.log.items self.old.faults (W.seen self.old.inner))
+            (seen_noted self.new.log.items self.new.faults (W.seen self.new.inner))
+            (λ told. told) result }
+        ensures fits { IfOk result (λ told. IsWritten (length bytes.now) told) }
+        ensures err { OnErr result (seen_noted self.new.log.items self.new.faults (W.seen self.new.inner)
+            ≡ seen_noted self.old.log.items self.old.faults (W.seen self.old.inner)) }
+        ensures handed { AsksFor (one_write op sock bytes.now) (W.seen self.old.inner)
+            (W.seen self.new.inner) (λ told. told) result }
+    {
         self.log.reserve(1)?;
         let offered = bytes.len() as u32;
         let told = self.inner.write(op, sock, bytes)?;
@@ -225,7 +253,17 @@ impl<W: World> World for RecordingWorld<W> {
         sock: Sock,
         addr: IpSocketAddress,
         bytes: &[u8],
-    ) -> Result<Told, AllocError> {
+    ) -> Result<Told, AllocError>
+        requires open { (seen_noted self.old.log.items self.old.faults (W.seen self.old.inner)).ended ≡ false }
+        ensures asked { AsksFor (one op (Send sock addr bytes.now))
+            (seen_noted self.old.log.items self.old.faults (W.seen self.old.inner))
+            (seen_noted self.new.log.items self.new.faults (W.seen self.new.inner))
+            (λ told. told) result }
+        ensures err { OnErr result (seen_noted self.new.log.items self.new.faults (W.seen self.new.inner)
+            ≡ seen_noted self.old.log.items self.old.faults (W.seen self.old.inner)) }
+        ensures handed { AsksFor (one op (Send sock addr bytes.now)) (W.seen self.old.inner)
+            (W.seen self.new.inner) (λ told. told) result }
+    {
         self.log.reserve(1)?;
         let copy = Octets::copy_of(*self.log.allocator(), bytes)?;
         let told = self.inner.send(op, sock, addr, bytes)?;
@@ -237,11 +275,23 @@ impl<W: World> World for RecordingWorld<W> {
         note(&mut self.log, &mut self.faults, op, noted, told)
     }
 
-    fn end(&mut self) {
+    fn end(&mut self)
+        requires open { (seen_noted self.old.log.items self.old.faults (W.seen self.old.inner)).ended ≡ false }
+        ensures mark { Ends (seen_noted self.old.log.items self.old.faults (W.seen self.old.inner))
+            (seen_noted self.new.log.items self.new.faults (W.seen self.new.inner)) }
+        ensures none { NoneNamed (W.closed self.new.inner) }
+        ensures handed { Ends (W.seen self.old.inner) (W.seen self.new.inner) }
+    {
         self.inner.end();
     }
 
-    fn close_after_end(&mut self, sock: Sock) {
+    fn close_after_end(&mut self, sock: Sock)
+        requires ended { (seen_noted self.old.log.items self.old.faults (W.seen self.old.inner)).ended ≡ true }
+        ensures counted { Closes (seen_noted self.old.log.items self.old.faults (W.seen self.old.inner))
+            (seen_noted self.new.log.items self.new.faults (W.seen self.new.inner)) }
+        ensures named { Named (W.closed self.old.inner) sock (W.closed self.new.inner) }
+        ensures handed { Closes (W.seen self.old.inner) (W.seen self.new.inner) }
+    {
         self.inner.close_after_end(sock);
     }
 }
@@ -249,6 +299,16 @@ impl<W: World> World for RecordingWorld<W> {
 impl<W: Waits> Waits for RecordingWorld<W> {
     fn wait(&mut self, timeout: i32) -> bool {
         self.inner.wait(timeout)
+    }
+}
+
+impl<W: WaitsForLooks> WaitsForLooks for RecordingWorld<W> {
+    fn wait_for(&mut self, looks: &[Look]) -> bool {
+        self.inner.wait_for(looks)
+    }
+
+    fn let_looks_wait(&mut self, waits: bool) {
+        self.inner.let_looks_wait(waits);
     }
 }
 

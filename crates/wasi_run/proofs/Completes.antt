@@ -12,13 +12,13 @@ steps_front : (n : ℕ) (ls more : List (List ℕ)) → AllSteps n (ls ++ more) 
 steps_front n [] more h = tt
 steps_front n (l ∷ ls) more h = (h.0, steps_front n ls more h.1)
 
-not_bad : (n : ℕ) (ls : List (List ℕ)) (xs : List Step) → AllSteps n ls → BadAfter n ls xs → ⊥
+pub not_bad : (n : ℕ) (ls : List (List ℕ)) (xs : List Step) → AllSteps n ls → BadAfter n ls xs → ⊥
 not_bad n [] xs h b = b
 not_bad n (l ∷ ls) [] h b = cc (h.0.1, b)
 not_bad n (l ∷ ls) (x ∷ xs) h b = not_bad n ls xs h.1 b
 
 -- the lines that were read of a valid script are steps
-steps_read : (n limit : ℕ) (text more : List ℕ) → IsValid n limit (text ++ more) → AllSteps n (lines_of (take limit text))
+pub steps_read : (n limit : ℕ) (text more : List ℕ) → IsValid n limit (text ++ more) → AllSteps n (lines_of (take limit text))
 steps_read n limit text more v =
     let f : length text ≤ limit = omega (arith, v.within, length-append text more) in
     rw (take_all limit text f) (steps_front n (lines_of text) (lines_from (rest_of text) more) (rw (lines-append [] text more) at v.steps))
@@ -27,7 +27,7 @@ module _ (n limit : ℕ) (text more : List ℕ) (before after : Reading) (v : Is
   ended_whole : HasEnded after → more ≡ []
   ended_whole h = let P : Option (List ℕ) → Type 0 = λ o. IfSome o (λ left. left ≡ []) in subst P l h.nothing
 
-  rest_empty : HasEnded after → rest_of text ≡ []
+  pub rest_empty : HasEnded after → rest_of text ≡ []
   rest_empty h = rw (ended_whole h, append-nil) at v.ended
 
   answered : (result : Result RunEnd RunError) → ¬ Rose before.faults after.faults → Answers limit text before after (Ok lines.AllDone) result → IsOkOrMemory result

@@ -23,6 +23,26 @@ module _ {contexts : List WasiSocketsCtx} {w_old w_new : Seen} {k_old k_new : Wr
   pub at_exit : (r : Result LinesEnd RunError) → IsErrAnd r (λ x. x ≡ e) → LinesRan contexts w_old w_new k_old k_new first line all (Err e) last → LinesRan contexts w_old w_new k_old k_new first line all r last
   at_exit r h ran = let p = err_from_is_err_and r h in rw (p.1, p.2) ran
 
+-- == what is done before the step changes nothing
+module _ {w_met w_old w_new : Seen} {met first : Machine} (p : w_met ≡ w_old) (q : met ≡ first) where
+  pub started_met : (contexts : List WasiSocketsCtx) (line : ℕ) (s : Step) → Started (machine_asks contexts met line s) w_met w_new → Started (machine_asks contexts first line s) w_old w_new
+  started_met contexts line s h =
+      let P : Machine → Type 0 = λ m. Started (machine_asks contexts m line s) w_old w_new in
+      let Q : Seen → Type 0 = λ w. Started (machine_asks contexts met line s) w w_new in
+      subst P q (subst Q p h)
+
+  pub sides_met : (last : Machine) → (KnowsSides w_met met.store → KnowsSides w_new last.store) → KnowsSides w_old first.store → KnowsSides w_new last.store
+  sides_met last h =
+      let P : Machine → Type 0 = λ m. KnowsSides w_old m.store → KnowsSides w_new last.store in
+      let Q : Seen → Type 0 = λ w. KnowsSides w met.store → KnowsSides w_new last.store in
+      subst P q (subst Q p h)
+
+  pub stepped_met : {contexts : List WasiSocketsCtx} {line : ℕ} {s : Step} {reply : Reply} {state : Machine} → Stepped contexts met line s reply state w_met w_new → Stepped contexts first line s reply state w_old w_new
+  stepped_met {contexts} {line} {s} {reply} {state} h =
+      let P : Machine → Type 0 = λ m. Stepped contexts m line s reply state w_old w_new in
+      let Q : Seen → Type 0 = λ w. Stepped contexts met line s reply state w w_new in
+      subst P q (subst Q p h)
+
 -- it isn't a step
 pub one_bad : (contexts : List WasiSocketsCtx) (w : Seen) (k : Writing) (first : Machine) (line : ℕ) (l : List ℕ) → step_of (length contexts) l ≡ None → LinesRan contexts w w k k first line (l ∷ []) (Err (BadStep line)) first
 one_bad contexts w k first line l h = before_any [] tt (none_began contexts w first line) (refl, refl) (tt, refl) (same_none k) (sym (add-zero line), h) (λ held. held)

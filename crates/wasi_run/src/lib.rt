@@ -2,9 +2,11 @@
 //! and answers it by one line.
 #![tactic(auto)]
 
+pub mod before;
 mod error;
 pub mod lines;
 pub mod run;
 
+pub use before::{AtOnce, BeforeStep};
 pub use error::RunError;
-pub use run::{RunEnd, run_script};
+pub use run::{RunEnd, run_script, run_script_with};

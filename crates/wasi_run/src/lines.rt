@@ -6,6 +6,7 @@ ghost use Rattle.world_text.specs.Lines.{lines_of, lines_from};
 ghost use Rattle.wasi_run.specs.Lines.{LeftAt, KeptOf};
 ghost use Rattle.wasi_run.specs.Ran.{LinesRan};
 
+use crate::before::BeforeStep;
 use crate::error::RunError;
 use std::alloc::Global;
 use wasi_calls::Progress;
@@ -25,9 +26,10 @@ pub enum LinesEnd {
 }
 
 /// Does the next line, and writes its reply, whose text replaces that of the one before.
-fn do_line<W: World, K: Sink>(
+fn do_line<W: World, B: BeforeStep<W>, K: Sink>(
     alloc: Global,
     progress: &mut Progress,
+    before: &mut B,
     world: &mut W,
     contexts: &[WasiSocketsCtx],
     writer: &mut K,
@@ -45,6 +47,7 @@ fn do_line<W: World, K: Sink>(
     let Some(step) = parse_step(alloc, line, contexts.len() as u32)? else {
         return Err(RunError::BadStep(progress.lines + 1));
     };
+    before.before(world, &mut progress.machine, &step);
     let reply = progress.step(alloc, world, contexts, step)?;
     text.clear();
     append_reply(text, &reply)?;
@@ -58,9 +61,10 @@ fn do_line<W: World, K: Sink>(
 }
 
 /// Does the whole lines from a place in the bytes on, and moves the place past them.
-fn do_lines<W: World, K: Sink>(
+fn do_lines<W: World, B: BeforeStep<W>, K: Sink>(
     alloc: Global,
     progress: &mut Progress,
+    before: &mut B,
     world: &mut W,
     contexts: &[WasiSocketsCtx],
     writer: &mut K,
@@ -80,7 +84,9 @@ fn do_lines<W: World, K: Sink>(
 {
     while let Some(end) = newline_at(&bytes[*at..]) {
         let line = &bytes[*at..*at + end];
-        let LinesEnd::AllDone = do_line(alloc, progress, world, contexts, writer, text, line)?
+        let LinesEnd::AllDone = do_line(
+            alloc, progress, before, world, contexts, writer, text, line,
+        )?
         else {
             return Ok(LinesEnd::Trapped);
         };
@@ -91,9 +97,10 @@ fn do_lines<W: World, K: Sink>(
 
 /// Does the lines that end in the piece, the first of which may begin before it, and keeps the
 /// unfinished one.
-pub fn do_piece<W: World, K: Sink>(
+pub fn do_piece<W: World, B: BeforeStep<W>, K: Sink>(
     alloc: Global,
     progress: &mut Progress,
+    before: &mut B,
     world: &mut W,
     contexts: &[WasiSocketsCtx],
     writer: &mut K,
@@ -118,6 +125,7 @@ pub fn do_piece<W: World, K: Sink>(
     let LinesEnd::AllDone = do_line(
         alloc,
         progress,
+        before,
         world,
         contexts,
         writer,
@@ -130,7 +138,7 @@ pub fn do_piece<W: World, K: Sink>(
     line.clear();
     let mut at = end + 1;
     let LinesEnd::AllDone = do_lines(
-        alloc, progress, world, contexts, writer, text, &mut at, piece,
+        alloc, progress, before, world, contexts, writer, text, &mut at, piece,
     )?
     else {
         return Ok(LinesEnd::Trapped);

@@ -1,5 +1,5 @@
 -- What a session did, with one step more.
-use Rattle.std.proofs.Common.{◌≡◌, ◌≢◌, ◌<◌, nat_le, if◌then◌else◌, ◌∙◌, refl, sym, ap, ℕ, ◌+◌, ◌==◌, Bool, true, false, List, [], ◌∷◌, ◌++◌, length, Option, Some, None, IfSome, Result, Ok, Err, append-nil, length-append, arith}
+use Rattle.std.proofs.Common.{◌≡◌, ◌≢◌, ◌⊎◌, inl, inr, ◌<◌, nat_le, if◌then◌else◌, ◌∙◌, refl, sym, ap, ℕ, ◌+◌, ◌==◌, Bool, true, false, List, [], ◌∷◌, ◌++◌, length, Option, Some, None, IfSome, Result, Ok, Err, append-nil, length-append, arith}
 use Rattle.wasi_world.specs.declared.call.Entry.{Entry}
 use Rattle.wasi_world.specs.declared.outcome.WasiSocketsCtx.{WasiSocketsCtx}
 use Rattle.wasi_world.specs.Seen.{Seen}
@@ -27,7 +27,7 @@ use Rattle.wasi_session.specs.State.{State}
 use Rattle.std.specs.Prelude.{IsErrAnd}
 use Rattle.wasi_session.specs.declared.error.StepError.{StepError}
 use Rattle.wasi_session.specs.declared.error.StepError.TheVariants.{Over, TooMany, NoContext, Memory}
-use Rattle.wasi_session.specs.Did.{Did, DidNext, Going, in_contexts, may_step}
+use Rattle.wasi_session.specs.Did.{Did, DidNext, Going, HasWhy, in_contexts, may_step}
 
 -- what was asked is in the log after what was there
 logged : {A : Type 0} {asks rest : Asks A} {old new : Seen} (front : List Entry) (h : Reaches asks rest old new) → old.log ≡ Some front → new.log ≡ Some (front ++ h.entries)
@@ -185,6 +185,15 @@ at_refusal step steps (Err Over) e may h d = d
 at_refusal step steps (Err TooMany) e may h d = d
 at_refusal step steps (Err (NoContext n)) e may h d = d
 at_refusal {s} step steps (Err Memory) e may h d = absurd (not_memory s step (rw (← h) at may))
+
+-- why a step has no reply: the session's state, or memory
+pub why_refused : (s : State) (step : Step) (r : Result Reply StepError) (e : StepError) → may_step s step ≡ Err e → IsErrAnd r (λ x. x ≡ e) → HasWhy s step r
+why_refused s step (Ok reply) e may h = absurd h
+why_refused s step (Err x) e may h = rw h (inl may)
+
+pub why_memory : (s : State) (step : Step) (r : Result Reply StepError) → may_step s step ≡ Ok tt → IsErrAnd r (λ e. e ≡ Memory) → HasWhy s step r
+why_memory s step (Ok reply) may h = absurd h
+why_memory s step (Err e) may h = inr (h, may)
 
 -- == at the end
 -- the records hold what was made and not closed

@@ -1,5 +1,5 @@
 -- What a session did.
-use Rattle.std.specs.Prelude.{◌≡◌, ℕ, ◌==◌, nat_le, Bool, true, false, if◌then◌else◌, List, [], ◌∷◌, ◌++◌, length, Option, Some, None, IfSome, Result, Ok, Err}
+use Rattle.std.specs.Prelude.{◌≡◌, ◌⊎◌, ℕ, ◌==◌, nat_le, Bool, true, false, if◌then◌else◌, List, [], ◌∷◌, ◌++◌, length, Option, Some, None, IfSome, Result, Ok, Err}
 use Rattle.wasi_world.specs.declared.outcome.WasiSocketsCtx.{WasiSocketsCtx}
 use Rattle.wasi_world.specs.Seen.{Seen}
 use Rattle.host_store.specs.Machine.{first_state}
@@ -41,6 +41,12 @@ in_contexts contexts (Some context) = if nat_le (length contexts) context then E
 
 abbrev pub may_step : State → Step → Result (Unit {0}) StepError
 may_step s step = if s.over then Err Over else if s.lines == 4294967295 then Err TooMany else in_contexts s.contexts (context_of step)
+
+-- Why a step has this reply, or none: one that can be done has a reply unless memory ran out within it, and one that can't has the
+-- error that the session's state gives for it.
+abbrev pub HasWhy : State → Step → Result Reply StepError → Type 0
+HasWhy s step (Ok reply) = may_step s step ≡ Ok tt
+HasWhy s step (Err e) = (may_step s step ≡ Err e) ⊎ ((e ≡ Memory) × (may_step s step ≡ Ok tt))
 
 -- what the session did once it was given a step
 abbrev pub DidNext : Result Reply StepError → Step → List Step → List Reply → Seen → State → Type 0

@@ -10,7 +10,7 @@ ghost use Rattle.wasi_steps.specs.declared.step.Step.{Step};
 ghost use Rattle.wasi_steps.specs.declared.reply.Reply.{Reply};
 ghost use Rattle.wasi_session.specs.declared.error.StepError.{StepError};
 ghost use Rattle.wasi_session.specs.State.{State};
-ghost use Rattle.wasi_session.specs.Did.{Did, DidNext, may_step, is_over_after};
+ghost use Rattle.wasi_session.specs.Did.{Did, DidNext, HasWhy, may_step, is_over_after};
 
 use crate::error::StepError;
 use std::alloc::Global;
@@ -80,6 +80,7 @@ impl<W: World> Session<W> {
     pub fn step(&mut self, step: Step) -> Result<Reply, StepError>
         ensures refused { (e : StepError) → may_step self.old step ≡ Err e
             → (result ≡ Err e) × (self.new ≡ self.old) }
+        ensures why { HasWhy self.old step result }
         ensures over { self.new.over ≡ is_over_after self.old.over result }
         ensures did { (steps : List Step) (replies : List Reply) (start : Seen)
             → Did self.old steps replies start

@@ -1,6 +1,4 @@
-use Rattle.std.specs.Prelude.{max}
-use Rattle.std.proofs.Common.{◌≡◌, Some, None, rules, sym, ◌∙◌, subst}
-use Rattle.wasi_policy.specs.Points.{IsAt}
+use Rattle.std.proofs.Common.{◌≡◌, Some, None, rules, sym, ◌∙◌}
 use Rattle.wasi_policy.specs.Reach.{range_of}
 use Rattle.wasi_policy.specs.Overlaps.{first_common}
 use Rattle.wasi_policy.proofs.OverlapLaws.{common_canonical, none_common, some_common, does_overlap}

@@ -10,5 +10,5 @@ invariant_of-self c = record { did = ∥∥₁_map c.args.self.now.did (did_afte
 
 pub returns : goal.returns
 returns c =
-    let did = did_told c.args.self.now.kept c.step.new.self c.args.step c.step.result c.step.ensures.refused c.step.ensures.over c.step.ensures.did c.step.ensures.contexts in
+    let did = did_told c.args.self.now.kept c.step.new.self c.args.step c.step.result c.step.ensures.refused c.step.ensures.why c.step.ensures.over c.step.ensures.did c.step.ensures.contexts in
     subst (λ told. DidStep (state_of c.args.self.now.kept) (state_of c.step.new.self) c.args.step told) (sym c.told_of.ensures) did

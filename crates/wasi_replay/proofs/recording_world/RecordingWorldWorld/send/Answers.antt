@@ -1,7 +1,7 @@
 use Rattle.std.proofs.Common.{refl}
 use Rattle.wasi_world.proofs.Walks.{asks_none}
 use Rattle.wasi_world.specs.declared.call.Call.TheVariants.{Send}
-use Rattle.wasi_replay.proofs.Noting.{asked_noted, call_fits, same_seen}
+use Rattle.wasi_replay.proofs.Noting.{asked_noted, call_fits, handed_on, same_seen}
 use Rattle.wasi_replay.proofs.recording_world.RecordingWorldWorld.send.Goals as goal
 
 pub returns-in_err-reserve-clause-asked : goal.returns-in_err-reserve-clause-asked
@@ -20,3 +20,15 @@ returns-clause-asked g c =
     asked_noted c.args.op (Send c.args.sock c.args.addr c.args.bytes.now) c.in_ok-told.told was.log.items c.note.new.log.items was.faults c.note.new.faults (g.W.World.seen was.inner) (g.W.World.seen c.send.new.self) c.note.result asked.ended asked.ok.passed.closings
     (rw (c.reserve.ensures.items, c.in_ok-copy.ensures) at c.note.ensures.log) c.note.ensures.told c.note.ensures.counted (rw c.reserve.ensures.items at c.note.ensures.err) c.note.ensures.uncounted
     (call_fits c.args.op (Send c.args.sock c.args.addr c.args.bytes.now) c.in_ok-told.told asked.ok.entries asked.ok.left)
+
+pub returns-in_err-reserve-clause-handed : goal.returns-in_err-reserve-clause-handed
+returns-in_err-reserve-clause-handed g c = asks_none _ _ c.from_residual.ensures.1 refl
+
+pub returns-in_err-copy-clause-handed : goal.returns-in_err-copy-clause-handed
+returns-in_err-copy-clause-handed g c = asks_none _ _ c.from_residual-in_err-copy.ensures.1 refl
+
+pub returns-in_err-told-clause-handed : goal.returns-in_err-told-clause-handed
+returns-in_err-told-clause-handed g c = asks_none _ _ c.from_residual-in_err-told.ensures.1 c.in_err-told.ensures.err
+
+pub returns-clause-handed : goal.returns-clause-handed
+returns-clause-handed g c = handed_on c.note.result c.in_ok-told.ensures.asked.ok c.in_ok-told.ensures.asked.ended c.note.ensures.told

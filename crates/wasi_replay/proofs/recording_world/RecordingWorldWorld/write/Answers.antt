@@ -1,6 +1,6 @@
 use Rattle.std.proofs.Common.{refl}
 use Rattle.wasi_world.proofs.Walks.{asks_none}
-use Rattle.wasi_replay.proofs.Noting.{asked_write_noted, same_seen}
+use Rattle.wasi_replay.proofs.Noting.{asked_write_noted, handed_on, same_seen}
 use Rattle.wasi_replay.proofs.recording_world.RecordingWorldWorld.write.Goals as goal
 
 pub returns-in_err-reserve-clause-asked : goal.returns-in_err-reserve-clause-asked
@@ -16,3 +16,12 @@ returns-clause-asked g c =
     asked_write_noted c.args.op c.args.sock c.args.bytes.now c.in_ok-told.told was.log.items c.note.new.log.items was.faults c.note.new.faults (g.W.World.seen was.inner) (g.W.World.seen c.write.new.self) asked.ok.entries c.note.result asked.ended asked.ok.passed.closings
     (rw (c.reserve.ensures.items) at c.note.ensures.log) c.note.ensures.told c.note.ensures.counted (rw c.reserve.ensures.items at c.note.ensures.err) c.note.ensures.uncounted
     asked.ok.left
+
+pub returns-in_err-reserve-clause-handed : goal.returns-in_err-reserve-clause-handed
+returns-in_err-reserve-clause-handed g c = asks_none _ _ c.from_residual.ensures.1 refl
+
+pub returns-in_err-told-clause-handed : goal.returns-in_err-told-clause-handed
+returns-in_err-told-clause-handed g c = asks_none _ _ c.from_residual-in_err-told.ensures.1 c.in_err-told.ensures.err
+
+pub returns-clause-handed : goal.returns-clause-handed
+returns-clause-handed g c = handed_on c.note.result c.in_ok-told.ensures.asked.ok c.in_ok-told.ensures.asked.ended c.note.ensures.told

@@ -1,5 +1,5 @@
 use Rattle.std.proofs.Common.{sym, ◌∙◌}
-use Rattle.wasi_session.proofs.Steps.{isnt_over, at_memory, at_refusal, did_step, did_part}
+use Rattle.wasi_session.proofs.Steps.{isnt_over, at_memory, at_refusal, did_step, did_part, why_memory, why_refused}
 use Rattle.wasi_session.proofs.session.Session.step.Goals as goal
 
 pub step-requires-clause-numbers : goal.step-requires-clause-numbers
@@ -21,3 +21,9 @@ returns-clause-did g c = rw (← c.self.view_is, ← c.as_slice-contexts.ensures
 pub returns-in_err-may_step-clause-did : goal.returns-in_err-may_step-clause-did
 returns-in_err-may_step-clause-did g c = λ steps replies start d.
     at_refusal c.args.step steps c.from_residual.result _ (sym c.may_step.ensures.may ∙ c.in_err-may_step.was) c.from_residual.ensures.1 d
+
+pub returns-in_err-may_step-clause-why : goal.returns-in_err-may_step-clause-why
+returns-in_err-may_step-clause-why g c = why_refused c.args.self.now c.args.step c.from_residual.result _ (sym c.may_step.ensures.may ∙ c.in_err-may_step.was) c.from_residual.ensures.1
+
+pub returns-in_err-reply-clause-why : goal.returns-in_err-reply-clause-why
+returns-in_err-reply-clause-why g c = why_memory c.args.self.now c.args.step c.from_residual-in_err-reply.result (sym c.may_step.ensures.may ∙ c.in_ok-may_step.was) c.from_residual-in_err-reply.ensures.1

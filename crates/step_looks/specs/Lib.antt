@@ -1,0 +1,5 @@
+pub mod Outlooks
+pub mod Records
+pub mod Jobs
+pub mod Calls
+pub mod Steps
