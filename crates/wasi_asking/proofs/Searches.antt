@@ -1,5 +1,5 @@
 -- A search of the checks from the first on.
-use Rattle.std.proofs.Common.{◌≡◌, ◌==◌, ◌<◌, ◌≤◌, ℕ, ◌+◌, List, length, Option, Some, None, is_some, remove, rules, slice_get, slice_index_or, slice_set, refl, sym, subst, ap, ◌∙◌, Bool, true, false, IsTrue, ◌↔◌, ◌⊎◌, inl, inr, arith}
+use Rattle.std.proofs.Common.{◌≡◌, ◌==◌, ◌<◌, ◌≤◌, ℕ, ◌+◌, List, length, Option, Some, None, is_some, remove, rules, slice_get, slice_index_or, slice_set, refl, sym, subst, ap, ◌∙◌, Bool, true, false, IsTrue, ◌⊎◌, inl, inr, arith}
 use Rattle.std.proofs.lemmas.Option.{slice_get_read}
 use Rattle.std.proofs.lemmas.Bool.{false≢true}
 use Rattle.wasi_asking.specs.declared.asks.Asked.{Asked}

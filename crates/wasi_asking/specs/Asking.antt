@@ -1,7 +1,5 @@
 -- What a check is told: by the rules, and where none matches by the embedder.
-use Rattle.std.specs.Prelude.{◌≡◌, ℕ, ◌==◌, if◌then◌else◌, List, Option, Some, None, IfSome}
-use Rattle.wasi_addr.specs.declared.address.IpSocketAddress.{IpSocketAddress}
-use Rattle.wasi_addr.specs.declared.address.SocketAddrUse.{SocketAddrUse}
+use Rattle.std.specs.Prelude.{◌≡◌, ◌==◌, if◌then◌else◌, List, Option, Some, None, IfSome}
 use Rattle.wasi_world.specs.declared.ids.OpId.{OpId}
 use Rattle.wasi_world.specs.declared.call.Call.{Call}
 use Rattle.wasi_world.specs.declared.call.Call.TheVariants.{Check}
@@ -43,7 +41,7 @@ refusal_of Later = Some told.Pending
 pub record Judged (rules : List Rule) (old : Option Asks) (question : Question) (refusal : Option Told) (new : Option Asks) : Type 0 where
   pub verdict : Verdict
   pub decided : Decided rules old question verdict new
-  pub refusal : refusal ≡ refusal_of verdict
+  pub so : refusal ≡ refusal_of verdict
 
 -- which calls aren't handed on, and what they are told
 abbrev pub Refuses : List Rule → Option Asks → OpId → Call → Option Told → Option Asks → Type 0
@@ -54,5 +52,5 @@ Refuses rules old op _ refusal new = (refusal ≡ None) × (new ≡ old)
 pub record Answered (rules : List Rule) (old : Option Asks) (op : OpId) (call : Call) (told : Told) (new : Option Asks) (Untouched : Type 0) : Type 0 where
   pub refusal : Option Told
   pub refused : Refuses rules old op call refusal new
-  pub told : IfSome refusal (λ it. told ≡ it)
+  pub says : IfSome refusal (λ it. told ≡ it)
   pub untouched : IfSome refusal (λ it. Untouched)

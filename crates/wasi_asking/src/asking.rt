@@ -57,7 +57,8 @@ impl<W: World> AskingWorld<W> {
     /// What the rules and the embedder say of a check. Takes memory for one that the embedder
     /// wasn't asked before.
     fn verdict(&mut self, question: Question) -> Result<Verdict, AllocError>
-        ensures rest { self.new ≡ record self.old { asks = self.new.asks } }
+        ensures inner { self.new.inner ≡ self.old.inner }
+        ensures policy { self.new.policy ≡ self.old.policy }
         ensures decided { IfOk result (λ verdict. Decided self.old.policy self.old.asks question
             verdict self.new.asks) }
     {
@@ -77,7 +78,8 @@ impl<W: World> AskingWorld<W> {
     /// What a check is told by the rules and the embedder; a call that they allow, or that is no
     /// check, isn't told anything yet.
     fn refusal(&mut self, op: OpId, call: &Call) -> Result<Option<Told>, AllocError>
-        ensures rest { self.new ≡ record self.old { asks = self.new.asks } }
+        ensures inner { self.new.inner ≡ self.old.inner }
+        ensures policy { self.new.policy ≡ self.old.policy }
         ensures refused { IfOk result (λ refusal. Refuses self.old.policy self.old.asks op call.now
             refusal self.new.asks) }
         ensures fits { IfOk result (λ answer. IfSome answer (Fits call.now)) }

@@ -1,4 +1,4 @@
-use Rattle.std.proofs.Common.{arith, refl}
+use Rattle.std.proofs.Common.{arith}
 use Rattle.wasi_asking.proofs.Searches.{found, is_so, isnt, none_after, none_at_first}
 use Rattle.wasi_asking.specs.Asks.{AsksThis}
 use Rattle.wasi_asking.proofs.asks.Asks.place_of.Goals as goal
