@@ -1,9 +1,14 @@
 //! The number of an `error-code`.
 
+ghost use Rattle.std.specs.Prelude.{◌≡◌};
+ghost use Rattle.embed_flat.specs.Answers.{code_value};
+
 use wasi_steps::CodeWord;
 
 /// The number of a code in 0.2's `error-code`. The two that 0.2 lacks have the nearest one's.
-pub fn code_number(code: CodeWord) -> u8 {
+pub fn code_number(code: CodeWord) -> u8
+    ensures { result ≡ (code_value code).0 }
+{
     match code {
         CodeWord::Unknown | CodeWord::Other => 0,
         CodeWord::AccessDenied => 1,

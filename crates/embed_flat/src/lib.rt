@@ -2,6 +2,7 @@
 //! and a result in the guest's memory.
 #![tactic(auto)]
 
+pub mod answers;
 pub mod args;
 pub mod arguments;
 pub mod block;
@@ -16,6 +17,5 @@ pub mod udp;
 
 pub use args::{Args, Refusal};
 pub use arguments::guest_call;
-pub use memory::put;
 pub use results::{Lists, written};
 pub use shape::{Shape, result_place, shape_of};

@@ -1,17 +1,21 @@
 //! A guest's memory: what lies at a place of it, and putting bytes there.
 
-ghost use Rattle.std.specs.Prelude.{◌≡◌, ◌≤◌, ◌+◌, length, true};
+ghost use Rattle.std.specs.Prelude.{◌≡◌, ◌≤◌, ◌+◌, length, nat_le, IfSome, take, drop};
+ghost use Rattle.embed_flat.specs.Memory.{put};
+ghost use Rattle.world_text.specs.Written.{AreBytes};
 
 /// Whether so many bytes at this place lie within the memory.
 pub fn lies_within(memory: &[u8], at: u32, len: usize) -> bool
-    ensures { result ≡ true → at + len ≤ length memory.now }
+    ensures { result ≡ nat_le (at + len) (length memory.now) }
 {
     let at = at as usize;
     at <= memory.len() && len <= memory.len() - at
 }
 
 /// The bytes of a place; `None` where it isn't within the memory.
-pub fn bytes_at(memory: &[u8], at: u32, len: u32) -> Option<&[u8]> {
+pub fn bytes_at(memory: &[u8], at: u32, len: u32) -> Option<&[u8]>
+    ensures { IfSome result (λ bytes. bytes.now ≡ take len (drop at memory.now)) }
+{
     if !lies_within(memory, at, len as usize) {
         return None;
     }
@@ -19,12 +23,11 @@ pub fn bytes_at(memory: &[u8], at: u32, len: u32) -> Option<&[u8]> {
     Some(&memory[at..at + len as usize])
 }
 
-/// Puts bytes at a place, and whether it is within the memory; else nothing is put.
-pub fn put(memory: &mut [u8], at: u32, bytes: &[u8]) -> bool {
-    if !lies_within(memory, at, bytes.len()) {
-        return false;
-    }
-    let at = at as usize;
+/// Puts bytes at a place that is within the memory.
+pub fn put(memory: &mut [u8], at: usize, bytes: &[u8])
+    requires { at + length bytes.now ≤ length memory.old }
+    ensures memory { memory.new ≡ put memory.old at bytes.now }
+    ensures bytes { AreBytes bytes.now }
+{
     memory[at..at + bytes.len()].copy_from_slice(bytes);
-    true
 }

@@ -1,6 +1,8 @@
 //! What a call gives, and how it lies in the guest's memory.
 
-ghost use Rattle.std.specs.Prelude.{◌≤◌};
+ghost use Rattle.std.specs.Prelude.{◌≡◌, ◌≤◌};
+ghost use Rattle.embed_flat.specs.Abi.{size};
+ghost use Rattle.embed_flat.specs.Answers.{result_type, payload_in, has_code, has_list, has_stream_error};
 
 use crate::op;
 
@@ -13,7 +15,9 @@ pub enum Shape {
     Family,
     /// Nothing, or an `error-code`.
     Unit,
-    /// A truth value or a number of 8 bits, or an `error-code`.
+    /// A truth value, or an `error-code`.
+    Truth,
+    /// A number of 8 bits, or an `error-code`.
     Byte,
     /// A handle or a number of 32 bits, or an `error-code`.
     Word,
@@ -44,11 +48,12 @@ pub enum Shape {
 impl Shape {
     /// How many bytes it takes in the guest's memory.
     pub fn size(self) -> usize
-        ensures { result ≤ 36 }
+        ensures size { result ≡ size (result_type self) }
+        ensures most { result ≤ 36 }
     {
         match self {
             Shape::Flat | Shape::Family => 0,
-            Shape::Unit | Shape::Byte | Shape::MaybeCode => 2,
+            Shape::Unit | Shape::Truth | Shape::Byte | Shape::MaybeCode => 2,
             Shape::Word | Shape::Places => 8,
             Shape::Pair | Shape::Datagrams => 12,
             Shape::StreamUnit | Shape::StreamBytes => 12,
@@ -61,7 +66,8 @@ impl Shape {
     /// Where what it has besides its case lies in it: what is given, an `error-code` or a
     /// `stream-error`.
     pub fn payload(self) -> usize
-        ensures { result ≤ 8 }
+        ensures place { result ≡ payload_in self }
+        ensures most { result ≤ 8 }
     {
         match self {
             Shape::Word | Shape::Pair | Shape::Triple => 4,
@@ -70,6 +76,33 @@ impl Shape {
             Shape::MaybeIp => 2,
             _ => 1,
         }
+    }
+
+    /// Whether it gives a list.
+    pub fn has_list(self) -> bool
+        ensures { result ≡ has_list self }
+    {
+        matches!(self, Shape::Datagrams | Shape::StreamBytes | Shape::Places)
+    }
+
+    /// Whether it may be an `error-code`.
+    pub fn has_code(self) -> bool
+        ensures { result ≡ has_code self }
+    {
+        !matches!(
+            self,
+            Shape::Flat | Shape::Family | Shape::Places | Shape::MaybeCode
+        ) && !self.has_stream_error()
+    }
+
+    /// Whether it may be a `stream-error`.
+    pub fn has_stream_error(self) -> bool
+        ensures { result ≡ has_stream_error self }
+    {
+        matches!(
+            self,
+            Shape::StreamUnit | Shape::StreamBytes | Shape::StreamWide
+        )
     }
 }
 
@@ -84,8 +117,8 @@ pub fn shape_of(number: u32) -> Shape {
         op::UDP_LOCAL_ADDRESS | op::UDP_REMOTE_ADDRESS => Shape::Address,
         op::TCP_ADDRESS_FAMILY | op::UDP_ADDRESS_FAMILY => Shape::Family,
         op::TCP_IS_LISTENING => Shape::Flat,
-        op::TCP_KEEP_ALIVE_ENABLED | op::TCP_HOP_LIMIT => Shape::Byte,
-        op::UDP_UNICAST_HOP_LIMIT => Shape::Byte,
+        op::TCP_KEEP_ALIVE_ENABLED => Shape::Truth,
+        op::TCP_HOP_LIMIT | op::UDP_UNICAST_HOP_LIMIT => Shape::Byte,
         op::TCP_KEEP_ALIVE_IDLE_TIME | op::TCP_KEEP_ALIVE_INTERVAL => Shape::Wide,
         op::TCP_RECEIVE_BUFFER_SIZE | op::TCP_SEND_BUFFER_SIZE => Shape::Wide,
         op::UDP_RECEIVE_BUFFER_SIZE | op::UDP_SEND_BUFFER_SIZE => Shape::Wide,

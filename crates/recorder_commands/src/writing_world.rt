@@ -3,7 +3,7 @@
 ghost use Rattle.std.specs.Prelude.{◌≡◌, ◌≤◌, ◌++◌, [], Some, None, Err, length, drop};
 ghost use Rattle.wasi_replay.specs.Log.{log_text};
 ghost use Rattle.wasi_replay.specs.Pieces.{contexts_text, entries_text};
-ghost use Rattle.wasi_replay.specs.Replayed.{seen_of};
+ghost use Rattle.wasi_replay.specs.Noted.{seen_noted};
 ghost use Rattle.recorder_commands.specs.Writing.{WroteSoFar, GoesOn, EndsLog, WritesAsItComes};
 
 use crate::log::Unwritten;
@@ -37,9 +37,9 @@ impl Begun for Brand {
     ghost begun = { record { written = None; flushed = None; faults = 0; refused = 0 } };
 }
 
-/// A world round another one that reports no log, as one over the system's sockets. It hands every
-/// call on, and its own log is what it noted: each call with the other world's answer. As soon as a
-/// call is answered its line is written, behind those of the contexts.
+/// A world round another one, as one over the system's sockets. It hands every call on, and its own
+/// log is what it noted: each call with the other world's answer. As soon as a call is answered its
+/// line is written, behind those of the contexts.
 ///
 /// Where a line can't be written, no more are, and the run goes on: what it asked can't be taken
 /// back. [`WritingWorld::finish`] says so at the end.
@@ -131,20 +131,18 @@ fn end_log<M: Sink>(
 }
 
 impl<W: World, M: Sink, B: Begun> WritingWorld<W, M, B> {
-    /// A world round one that was asked nothing yet and reports no log. Writes the lines of the
-    /// contexts, for which it takes memory.
+    /// A world round this one, of which nothing is noted yet. Writes the lines of the contexts, for
+    /// which it takes memory.
     pub fn new(
         alloc: Global,
         inner: W,
         contexts: &[WasiSocketsCtx],
         mut log_out: M,
     ) -> WritingWorld<W, M, B>
-        requires silent { (W.seen inner).log ≡ None }
         requires contexts { contexts.now ≡ B.contexts }
         requires begun { M.writing log_out ≡ B.begun }
-        ensures { seen_of result.noted.log.items (W.seen result.noted.inner).ended
-            (W.seen result.noted.inner).closings result.noted.faults ≡ seen_of []
-            (W.seen inner).ended (W.seen inner).closings 0 }
+        ensures { seen_noted result.noted.log.items result.noted.faults
+            (W.seen result.noted.inner) ≡ seen_noted [] 0 (W.seen inner) }
     {
         let unwritten = write_contexts(alloc, contexts, &mut log_out);
         WritingWorld {
@@ -180,10 +178,10 @@ impl<W: World + Drop, M: Sink, B: Begun> WritingWorld<W, M, B> {
 impl<W: World, M: Sink, B: Begun> World for WritingWorld<W, M, B> {
     ghost use Rattle.std.specs.Prelude.{Some};
     ghost use Rattle.wasi_world.specs.Script.{without_plan};
-    ghost use Rattle.wasi_replay.specs.Replayed.{seen_of};
+    ghost use Rattle.wasi_replay.specs.Noted.{seen_noted};
 
-    ghost seen = { λ world. seen_of world.noted.log.items (W.seen world.noted.inner).ended
-        (W.seen world.noted.inner).closings world.noted.faults };
+    ghost seen = { λ world. seen_noted world.noted.log.items world.noted.faults
+        (W.seen world.noted.inner) };
 
     ghost closed = { λ world. W.closed world.noted.inner };
 

@@ -1,8 +1,10 @@
 //! A world whose checks are decided by rules and by the embedder.
 
-ghost use Rattle.std.specs.Prelude.{◌≡◌, ℕ, None, IfOk, IfSome};
-ghost use Rattle.wasi_world.specs.Fits.{Fits};
+ghost use Rattle.std.specs.Prelude.{◌≡◌, ℕ, None, IfOk, IfSome, OnErr, false};
+ghost use Rattle.wasi_world.specs.Asks.{one, AsksFor};
+ghost use Rattle.wasi_world.specs.Fits.{Fits, IsPlain};
 ghost use Rattle.wasi_world.specs.Seen.{Counts};
+ghost use Rattle.wasi_asking.specs.Asking.{Answered, Decided, Refuses};
 
 use crate::asks::{Ask, Asks, Question, Verdict};
 use std::alloc::AllocError;
@@ -55,7 +57,10 @@ impl<W: World> AskingWorld<W> {
     /// What the rules and the embedder say of a check. Takes memory for one that the embedder
     /// wasn't asked before.
     fn verdict(&mut self, question: Question) -> Result<Verdict, AllocError>
-        ensures { self.new.inner ≡ self.old.inner }
+        ensures inner { self.new.inner ≡ self.old.inner }
+        ensures policy { self.new.policy ≡ self.old.policy }
+        ensures decided { IfOk result (λ verdict. Decided self.old.policy self.old.asks question
+            verdict self.new.asks) }
     {
         let decision = self.policy.decide(question.address, question.usage);
         if decision.allow {
@@ -74,6 +79,9 @@ impl<W: World> AskingWorld<W> {
     /// check, isn't told anything yet.
     fn refusal(&mut self, op: OpId, call: &Call) -> Result<Option<Told>, AllocError>
         ensures inner { self.new.inner ≡ self.old.inner }
+        ensures policy { self.new.policy ≡ self.old.policy }
+        ensures refused { IfOk result (λ refusal. Refuses self.old.policy self.old.asks op call.now
+            refusal self.new.asks) }
         ensures fits { IfOk result (λ answer. IfSome answer (Fits call.now)) }
         ensures uncounted { IfOk result (λ answer. IfSome answer (λ told. (n : ℕ)
             → Counts told n n)) }
@@ -102,7 +110,17 @@ impl<W: World> World for AskingWorld<W> {
 
     ghost scripted = { λ world. W.scripted world.inner };
 
-    fn call(&mut self, op: OpId, call: Call) -> Result<Told, AllocError> {
+    fn call(&mut self, op: OpId, call: Call) -> Result<Told, AllocError>
+        requires open { (W.seen self.old.inner).ended ≡ false }
+        requires plain { IsPlain call }
+        ensures asked { AsksFor (one op call) (W.seen self.old.inner) (W.seen self.new.inner)
+            (λ told. told) result }
+        ensures fits { IfOk result (λ told. Fits call told) }
+        ensures err { OnErr result (W.seen self.new.inner ≡ W.seen self.old.inner) }
+        ensures policy { self.new.policy ≡ self.old.policy }
+        ensures answered { IfOk result (λ told. Answered self.old.policy self.old.asks op call told
+            self.new.asks (self.new.inner ≡ self.old.inner)) }
+    {
         if let Some(told) = self.refusal(op, &call)? {
             return Ok(told);
         }

@@ -1,9 +1,13 @@
 //! A world that answers address checks by rules, and hands everything else on.
 
-ghost use Rattle.std.specs.Prelude.{◌≡◌, List, Some, IfOk, IfSome, OnErr, [], true, length};
+ghost use Rattle.std.specs.Prelude.{◌≡◌, ◌≤◌, ◌<◌, ◌^◌, List, Some, IfOk, IfSome, OnErr, []};
+ghost use Rattle.std.specs.Prelude.{false, true, length};
+ghost use Rattle.wasi_world.specs.declared.call.Call.TheVariants.{Send};
 ghost use Rattle.wasi_world.specs.declared.call.Entry.{Entry};
-ghost use Rattle.wasi_world.specs.Asks.{one, AsksFor};
-ghost use Rattle.wasi_world.specs.Fits.{Fits};
+ghost use Rattle.wasi_world.specs.Asks.{one, one_write, AsksFor};
+ghost use Rattle.wasi_world.specs.Closings.{Named, NoneNamed};
+ghost use Rattle.wasi_world.specs.Fits.{Fits, IsPlain, IsWritten};
+ghost use Rattle.wasi_world.specs.Seen.{Closes, Ends};
 ghost use Rattle.wasi_policy.specs.Policed.{denies, seen_under, IsUnder, IsPoliced};
 
 use crate::denied::Denied;
@@ -142,8 +146,7 @@ impl<W: World, R: Rules> PolicyWorld<W, R> {
 }
 
 impl<W: World, R: Rules> World for PolicyWorld<W, R> {
-    ghost use Rattle.std.specs.Prelude.{option_map, false};
-    ghost use Rattle.wasi_world.specs.Fits.{IsPlain};
+    ghost use Rattle.std.specs.Prelude.{option_map};
     ghost use Rattle.wasi_world.specs.Script.{without_plan};
     ghost use Rattle.wasi_policy.specs.Policed.{seen_under, merged};
 
@@ -167,6 +170,8 @@ impl<W: World, R: Rules> World for PolicyWorld<W, R> {
         // Whatever the inner world reports.
         ensures denied { denies R.rules call ≡ true → IfOk result (λ told. told ≡ Told.No) }
         ensures kept { denies R.rules call ≡ true → self.new.inner ≡ self.old.inner }
+        ensures handed { denies R.rules call ≡ false → AsksFor (one op call)
+            (W.seen self.old.inner) (W.seen self.new.inner) (λ told. told) result }
     {
         if self.denies(&call) {
             return self.deny(op, call);
@@ -177,7 +182,19 @@ impl<W: World, R: Rules> World for PolicyWorld<W, R> {
         Ok(told)
     }
 
-    fn write(&mut self, op: OpId, sock: Sock, bytes: &[u8]) -> Result<Told, AllocError> {
+    fn write(&mut self, op: OpId, sock: Sock, bytes: &[u8]) -> Result<Told, AllocError>
+        requires open { (seen_under self.old.denied.items (W.seen self.old.inner)).ended ≡ false }
+        requires some { 1 ≤ length bytes.now }
+        requires short { length bytes.now < 2 ^ 32 }
+        ensures asked { AsksFor (one_write op sock bytes.now) (seen_under self.old.denied.items
+            (W.seen self.old.inner)) (seen_under self.new.denied.items (W.seen self.new.inner))
+            (λ told. told) result }
+        ensures fits { IfOk result (λ told. IsWritten (length bytes.now) told) }
+        ensures err { OnErr result (seen_under self.new.denied.items (W.seen self.new.inner)
+            ≡ seen_under self.old.denied.items (W.seen self.old.inner)) }
+        ensures handed { AsksFor (one_write op sock bytes.now) (W.seen self.old.inner)
+            (W.seen self.new.inner) (λ told. told) result }
+    {
         self.handed.reserve(1)?;
         let told = self.inner.write(op, sock, bytes)?;
         self.handed.push_reserved(Handed);
@@ -190,18 +207,39 @@ impl<W: World, R: Rules> World for PolicyWorld<W, R> {
         sock: Sock,
         addr: IpSocketAddress,
         bytes: &[u8],
-    ) -> Result<Told, AllocError> {
+    ) -> Result<Told, AllocError>
+        requires open { (seen_under self.old.denied.items (W.seen self.old.inner)).ended ≡ false }
+        ensures asked { AsksFor (one op (Send sock addr bytes.now)) (seen_under
+            self.old.denied.items (W.seen self.old.inner)) (seen_under self.new.denied.items
+            (W.seen self.new.inner)) (λ told. told) result }
+        ensures err { OnErr result (seen_under self.new.denied.items (W.seen self.new.inner)
+            ≡ seen_under self.old.denied.items (W.seen self.old.inner)) }
+        ensures handed { AsksFor (one op (Send sock addr bytes.now)) (W.seen self.old.inner)
+            (W.seen self.new.inner) (λ told. told) result }
+    {
         self.handed.reserve(1)?;
         let told = self.inner.send(op, sock, addr, bytes)?;
         self.handed.push_reserved(Handed);
         Ok(told)
     }
 
-    fn end(&mut self) {
+    fn end(&mut self)
+        requires open { (seen_under self.old.denied.items (W.seen self.old.inner)).ended ≡ false }
+        ensures mark { Ends (seen_under self.old.denied.items (W.seen self.old.inner))
+            (seen_under self.new.denied.items (W.seen self.new.inner)) }
+        ensures none { NoneNamed (W.closed self.new.inner) }
+        ensures handed { Ends (W.seen self.old.inner) (W.seen self.new.inner) }
+    {
         self.inner.end();
     }
 
-    fn close_after_end(&mut self, sock: Sock) {
+    fn close_after_end(&mut self, sock: Sock)
+        requires ended { (seen_under self.old.denied.items (W.seen self.old.inner)).ended ≡ true }
+        ensures counted { Closes (seen_under self.old.denied.items (W.seen self.old.inner))
+            (seen_under self.new.denied.items (W.seen self.new.inner)) }
+        ensures named { Named (W.closed self.old.inner) sock (W.closed self.new.inner) }
+        ensures handed { Closes (W.seen self.old.inner) (W.seen self.new.inner) }
+    {
         self.inner.close_after_end(sock);
     }
 }

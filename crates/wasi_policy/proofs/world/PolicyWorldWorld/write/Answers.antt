@@ -24,3 +24,12 @@ pub returns-clause-asked : goal.returns-clause-asked
 returns-clause-asked g c =
     let was = c.args.self.now in
     asked_under (one_write c.args.op c.args.sock c.args.bytes.now) g.R.Rules.rules was.denied.items (length was.handed.items) (g.W.World.seen was.inner) (g.W.World.seen c.write.new.self) (λ t. t) (Ok c.in_ok-told.told) was.under c.in_ok-told.ensures.asked
+
+pub returns-in_err-reserve-clause-handed : goal.returns-in_err-reserve-clause-handed
+returns-in_err-reserve-clause-handed g c = asks_none _ _ c.from_residual.ensures.1 refl
+
+pub returns-in_err-told-clause-handed : goal.returns-in_err-told-clause-handed
+returns-in_err-told-clause-handed g c = asks_none _ _ c.from_residual-in_err-told.ensures.1 c.in_err-told.ensures.err
+
+pub returns-clause-handed : goal.returns-clause-handed
+returns-clause-handed g c = c.in_ok-told.ensures.asked

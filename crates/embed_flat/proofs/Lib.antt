@@ -1,0 +1,6 @@
+mod Examples
+pub mod Puts
+pub mod Blocks
+pub mod Done
+pub mod InPlaces
+pub mod Replies

@@ -1,0 +1,7 @@
+use Rattle.std.proofs.Common.{◌≡◌}
+use Rattle.embed_flat.specs.Fields.{bytes_one_by_one}
+use Rattle.embed_flat.specs.Memory.{put}
+use Rattle.embed_flat.proofs.block.set_bytes.Given as goal
+
+abbrev pub invariant-loop-k : goal.invariant-loop-k
+invariant-loop-k l = l.block ≡ put l.initial.block l.at (bytes_one_by_one l.fields l.first l.k)

@@ -1,0 +1,6 @@
+pub mod Memory
+pub mod Abi
+pub mod Wit
+pub mod Fields
+pub mod Answers
+pub mod Values
