@@ -5,7 +5,7 @@
 pub struct Options<'a> {
     /// Whether every address may be used (`--any-address`).
     pub anywhere: bool,
-    /// Whether a look that was pending waits without limit (`--wait`).
+    /// Whether a line waits without limit whose looks were all pending before (`--wait`).
     pub endless: bool,
     /// The file whose names lookups find (`--hosts HOSTS`).
     pub hosts: Option<&'a str>,

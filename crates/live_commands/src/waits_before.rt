@@ -1,5 +1,7 @@
 //! The wait before each line.
 
+ghost use Rattle.std.specs.Prelude.{◌≡◌};
+
 use host_store::Machine;
 use std::alloc::Global;
 use step_looks::{Outlook, first_outlook, step_looks, waits_inside};
