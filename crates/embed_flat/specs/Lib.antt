@@ -4,3 +4,4 @@ pub mod Wit
 pub mod Fields
 pub mod Answers
 pub mod Values
+pub mod Signatures
