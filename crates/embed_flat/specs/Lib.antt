@@ -5,3 +5,4 @@ pub mod Fields
 pub mod Answers
 pub mod Values
 pub mod Signatures
+pub mod Flat
