@@ -4,3 +4,4 @@ pub mod Blocks
 pub mod Done
 pub mod InPlaces
 pub mod Replies
+pub mod LiftedBack

@@ -2,30 +2,9 @@
 use Rattle.std.specs.Prelude.{ℕ, ◌+◌, max, nat_lt, if◌then◌else◌, List, [], ◌∷◌, Option, Some, None}
 use Rattle.embed_flat.specs.declared.shape.Shape.{Shape}
 use Rattle.embed_flat.specs.declared.shape.Shape.TheVariants as shape
-use Rattle.embed_flat.specs.Abi.{Wit, Wits, Truth, U8, U16, U32, U64, AList, ARecord, AnEnum, AVariant, end, ◌◂◌, nothing}
+use Rattle.embed_flat.specs.Abi.{Wit, Wits, Truth, U8, U16, U32, U64, AList, ARecord, AnEnum, AVariant, end, ◌◂◌, nothing, flat_count, flat_fields}
 use Rattle.embed_flat.specs.Answers.{result_type}
 use Rattle.embed_flat.specs.Wit.{option, outcome, handle, pair, triple, error_code, stream_error, ip_address_family, shutdown_type, ip_address, ip_socket_address, incoming_datagram, outgoing_datagram}
-
--- how many numbers a value is passed as: of a variant its case, and as many as the longest of its payloads
-abbrev mutual
-  pub flat_count : Wit → ℕ
-  flat_count Truth = 1
-  flat_count U8 = 1
-  flat_count U16 = 1
-  flat_count U32 = 1
-  flat_count U64 = 1
-  flat_count (AList t) = 2
-  flat_count (ARecord fields) = flat_fields fields
-  flat_count (AnEnum cases) = 1
-  flat_count (AVariant cases) = 1 + flat_greatest cases
-
-  pub flat_fields : Wits → ℕ
-  flat_fields end = 0
-  flat_fields (t ◂ ts) = flat_count t + flat_fields ts
-
-  pub flat_greatest : Wits → ℕ
-  flat_greatest end = 0
-  flat_greatest (t ◂ ts) = max (flat_count t) (flat_greatest ts)
 
 -- a function of an interface: its number here, its parameters, the resource of a method first, and its result
 pub record Import : Type 0 where

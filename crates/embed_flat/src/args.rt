@@ -1,6 +1,11 @@
 //! The arguments of a call: the numbers that the guest passed, with the types that they have.
 
-ghost use Rattle.std.specs.Prelude.{◌≡◌, ◌<◌};
+ghost use Rattle.std.specs.Prelude.{◌≡◌, ◌<◌, None, Some, Ok};
+ghost use Rattle.wasi_addr.specs.declared.address.IpSocketAddress.{IpSocketAddress};
+ghost use Rattle.world_text.specs.Written.{FitsAddress};
+ghost use Rattle.embed_flat.specs.Abi.{flat};
+ghost use Rattle.embed_flat.specs.Values.{address_value, remote_value};
+ghost use Rattle.embed_flat.specs.Wit.{option, ip_socket_address};
 ghost use Rattle.embed_flat.specs.Flat.{u64_at, u32_of, u32_at, u16_at, u8_at, truth_at};
 ghost use Rattle.embed_flat.specs.Flat.{family_at, ipv4_at, ipv6_at, address_at, maybe_address_at};
 
@@ -169,3 +174,13 @@ impl Args<'_> {
         }
     }
 }
+
+/// From the numbers that an address is passed as, the address is lifted; from those of none, none.
+pub fn addresses_are_lifted_back()
+    ensures address { (a : IpSocketAddress) → FitsAddress a →
+        address_at (flat ip_socket_address (address_value a)) 0 ≡ Ok a }
+    ensures remote { (a : IpSocketAddress) → FitsAddress a →
+        maybe_address_at (flat (option ip_socket_address) (remote_value (Some a))) 0 ≡ Ok (Some a) }
+    ensures none { maybe_address_at (flat (option ip_socket_address) (remote_value None)) 0
+        ≡ Ok None }
+{}
