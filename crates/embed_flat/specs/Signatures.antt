@@ -1,8 +1,8 @@
 -- The functions of wasi:sockets and wasi:io 0.2, by their numbers here.
-use Rattle.std.specs.Prelude.{ℕ, ◌+◌, max, nat_lt, if◌then◌else◌, List, [], ◌∷◌, Option, Some, None}
+use Rattle.std.specs.Prelude.{ℕ, nat_lt, if◌then◌else◌, List, [], ◌∷◌, Option, Some, None}
 use Rattle.embed_flat.specs.declared.shape.Shape.{Shape}
 use Rattle.embed_flat.specs.declared.shape.Shape.TheVariants as shape
-use Rattle.embed_flat.specs.Abi.{Wit, Wits, Truth, U8, U16, U32, U64, AList, ARecord, AnEnum, AVariant, end, ◌◂◌, nothing, flat_count, flat_fields}
+use Rattle.embed_flat.specs.Abi.{Wit, Wits, Truth, U8, U32, U64, AList, end, ◌◂◌, nothing, flat_count, flat_fields}
 use Rattle.embed_flat.specs.Answers.{result_type}
 use Rattle.embed_flat.specs.Wit.{option, outcome, handle, pair, triple, error_code, stream_error, ip_address_family, shutdown_type, ip_address, ip_socket_address, incoming_datagram, outgoing_datagram}
 
