@@ -5,3 +5,4 @@ pub mod Done
 pub mod InPlaces
 pub mod Replies
 pub mod LiftedBack
+pub mod Outside
