@@ -4,3 +4,5 @@ pub mod Blocks
 pub mod Done
 pub mod InPlaces
 pub mod Replies
+pub mod LiftedBack
+pub mod Outside

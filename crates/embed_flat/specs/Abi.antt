@@ -165,3 +165,52 @@ abbrev mutual
 -- a memory once a value was stored at a place: its lists in theirs, and then its own bytes
 abbrev pub stored : (t : Wit) → Value t → ℕ → List ℕ → List ℕ
 stored t v at memory = put (with_lists t v memory) at (bytes_of t v)
+
+-- == as arguments
+-- how many numbers a value is passed as: of a variant its case, and as many as the longest of its payloads
+abbrev mutual
+  pub flat_count : Wit → ℕ
+  flat_count Truth = 1
+  flat_count U8 = 1
+  flat_count U16 = 1
+  flat_count U32 = 1
+  flat_count U64 = 1
+  flat_count (AList t) = 2
+  flat_count (ARecord fields) = flat_fields fields
+  flat_count (AnEnum cases) = 1
+  flat_count (AVariant cases) = 1 + flat_greatest cases
+
+  pub flat_fields : Wits → ℕ
+  flat_fields end = 0
+  flat_fields (t ◂ ts) = flat_count t + flat_fields ts
+
+  pub flat_greatest : Wits → ℕ
+  flat_greatest end = 0
+  flat_greatest (t ◂ ts) = max (flat_count t) (flat_greatest ts)
+
+abbrev pub payload_count : Wits → ℕ → ℕ
+payload_count end k = 0
+payload_count (t ◂ ts) zero = flat_count t
+payload_count (t ◂ ts) (suc k) = payload_count ts k
+
+-- the numbers that a value is passed as; those that a shorter payload leaves are 0
+abbrev mutual
+  pub flat : (t : Wit) → Value t → List ℕ
+  flat Truth b = (if b then 1 else 0) ∷ []
+  flat U8 n = n ∷ []
+  flat U16 n = n ∷ []
+  flat U32 n = n ∷ []
+  flat U64 n = n ∷ []
+  flat (AList t) list = list.0 ∷ length list.1 ∷ []
+  flat (ARecord ts) values = flat_values ts values
+  flat (AnEnum cases) v = v.0 ∷ []
+  flat (AVariant ts) v = v.0 ∷ (flat_payload ts v.0 v.1 ++ padding (flat_greatest ts - payload_count ts v.0))
+
+  pub flat_values : (ts : Wits) → Values ts → List ℕ
+  flat_values end values = []
+  flat_values (t ◂ ts) values = flat t values.0 ++ flat_values ts values.1
+
+  pub flat_payload : (ts : Wits) → (k : ℕ) → Payload ts k → List ℕ
+  flat_payload end k v = []
+  flat_payload (t ◂ ts) zero v = flat t v
+  flat_payload (t ◂ ts) (suc k) v = flat_payload ts k v

@@ -4,3 +4,5 @@ pub mod Wit
 pub mod Fields
 pub mod Answers
 pub mod Values
+pub mod Signatures
+pub mod Flat

@@ -28,6 +28,10 @@ abbrev pub address_value : IpSocketAddress → Value ip_socket_address
 address_value (socket.Ipv4 a) = (0, (a.port, (ipv4_value a.address, tt)))
 address_value (socket.Ipv6 a) = (1, (a.port, (a.flow_info, (ipv6_value a.address, (a.scope_id, tt)))))
 
+abbrev pub remote_value : Option IpSocketAddress → Value (option ip_socket_address)
+remote_value None = (0, tt)
+remote_value (Some a) = (1, address_value a)
+
 -- its bytes lie at this place
 abbrev pub datagram_value : IncomingDatagram → ℕ → Value incoming_datagram
 datagram_value d place = ((place, d.bytes), (address_value d.remote_address, tt))

@@ -58,6 +58,15 @@ ip_socket_address = AVariant (ipv4_socket_address ◂ ipv6_socket_address ◂ en
 abbrev pub incoming_datagram : Wit
 incoming_datagram = ARecord (AList U8 ◂ ip_socket_address ◂ end)
 
+-- its data and its remote address, where it has one
+abbrev pub outgoing_datagram : Wit
+outgoing_datagram = ARecord (AList U8 ◂ option ip_socket_address ◂ end)
+
+-- == wasi:sockets/tcp
+-- receive, send and both
+abbrev pub shutdown_type : Wit
+shutdown_type = AnEnum 3
+
 -- == wasi:io/streams
 -- last-operation-failed with an error, and closed
 abbrev pub stream_error : Wit

@@ -1,7 +1,7 @@
 //! A guest's memory: what lies at a place of it, and putting bytes there.
 
-ghost use Rattle.std.specs.Prelude.{◌≡◌, ◌≤◌, ◌+◌, length, nat_le, IfSome, take, drop};
-ghost use Rattle.embed_flat.specs.Memory.{put};
+ghost use Rattle.std.specs.Prelude.{◌≡◌, ℕ, ◌≤◌, ◌+◌, length, slice_get, nat_le, IfSome, take, drop};
+ghost use Rattle.embed_flat.specs.Memory.{put, IsOutside};
 ghost use Rattle.world_text.specs.Written.{AreBytes};
 
 /// Whether so many bytes at this place lie within the memory.
@@ -27,6 +27,8 @@ pub fn bytes_at(memory: &[u8], at: u32, len: u32) -> Option<&[u8]>
 pub fn put(memory: &mut [u8], at: usize, bytes: &[u8])
     requires { at + length bytes.now ≤ length memory.old }
     ensures memory { memory.new ≡ put memory.old at bytes.now }
+    ensures outside { (k : ℕ) → IsOutside at (length bytes.now) k
+        → slice_get memory.new k ≡ slice_get memory.old k }
     ensures bytes { AreBytes bytes.now }
 {
     memory[at..at + bytes.len()].copy_from_slice(bytes);
