@@ -1,5 +1,5 @@
 -- How a run over a scenario's plan ends the program.
-use Rattle.std.proofs.Common.{◌≡◌, ℕ, List, Result, Ok, Err, ap, sym, subst, inr}
+use Rattle.std.proofs.Common.{ℕ, List, Result, Ok, Err, ap, sym, subst, inr}
 use Rattle.wasi_world.specs.declared.call.Entry.{Entry}
 use Rattle.wasi_world.specs.declared.outcome.WasiSocketsCtx.{WasiSocketsCtx}
 use Rattle.wasi_world.specs.Seen.{Seen}
