@@ -531,12 +531,12 @@ def no_descriptor_is_left():
 
 
 class Relay:
-    """A run of `relay --live` to a listener of our own. `descriptors`: how many it may have."""
+    """A run of `relay --live` to a listener of our own. `descriptors`: how many it may have. `port`: where it listens."""
 
-    def __init__(self, connections, descriptors=None):
+    def __init__(self, connections, descriptors=None, port=None):
         self.server = socket.create_server(("127.0.0.1", 0), backlog=64)
         self.server.settimeout(PATIENCE)
-        self.port = free_port(socket.SOCK_STREAM)
+        self.port = free_port(socket.SOCK_STREAM) if port is None else port
         words = [self.port, self.server.getsockname()[1], connections]
         few = None if descriptors is None else lambda: resource.setrlimit(resource.RLIMIT_NOFILE, (descriptors, descriptors))
         pipe = subprocess.PIPE
@@ -685,6 +685,20 @@ def few_descriptors():
     return same("few descriptors", seen, [(12, (12, 0, [])), (12, (12, 0, [])), (0, (0, 26, ["status 26"]))])
 
 
+def a_port_that_the_system_chooses():
+    with Relay(1, port=0) as relay:
+        select.select([relay.program.stderr], [], [], 10)
+        told = os.read(relay.program.stderr.fileno(), 99).decode()
+        words = told.split()
+        if words[:3] == ["listening", "on", "port"]:
+            relay.port = int(words[3])
+            for one in relay.pair():
+                one.close()
+        lines, status, _ = relay.end()
+    wanted = (f"listening on port {relay.port} of 127.0.0.1\n", ["pair 1 up clean 2 down clean 2"], 0)
+    return same("a port that the system chooses", (told, lines, status), wanted)
+
+
 def logs_of_runs_that_are_ended():
     """Signals, logs that are cut and files that are there: see records.py."""
     done = subprocess.run([sys.executable, os.path.join(TOP, "examples", "live", "records.py"), *PROGRAM], check=False)
@@ -711,6 +725,7 @@ TESTS = [
     targets_that_reset,
     an_answer_before_a_reset,
     few_descriptors,
+    a_port_that_the_system_chooses,
     logs_of_runs_that_are_ended,
 ]
 

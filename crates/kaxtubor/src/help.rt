@@ -290,7 +290,8 @@ does on the network is a wasi:sockets call of its own.
 usage: kaxtubor relay LISTENPORT TARGETPORT CONNECTIONS TURNS   over the network that scenario.txt in this folder plans,
                                                                 in at most TURNS turns, of 4096 at most
        kaxtubor relay --live LISTENPORT TARGETPORT CONNECTIONS  over this machine's own network, until the connections
-                                                                are over
+                                                                are over; for the port 0 the system chooses
+                                                                one that is free, and standard error tells it
        kaxtubor relay --help                                    prints this
 
 It ends once CONNECTIONS arrivals are over, of which 16 may be open at once. Then it writes a line for each pair of an

@@ -55,7 +55,8 @@ fn network<R: Net>(rt: &R, alloc: Global, order: &Order) -> Result<SystemWorld<L
 
 /// Serves an order over the system's sockets, and writes the lines of its pairs to the sink. After
 /// a turn that moved nothing it waits until a socket may go on. If it is to be shown how far it is,
-/// that is on standard error, once a second.
+/// that is on standard error, once a second. For the port 0 the system chooses one that is free,
+/// which is told there.
 pub fn relay_live<R: Net + Eprint + Clock, K: Sink>(
     rt: &R,
     alloc: Global,
@@ -69,7 +70,8 @@ pub fn relay_live<R: Net + Eprint + Clock, K: Sink>(
     let Ok(contexts) = vec![in alloc; TCP_CONTEXT] else {
         return without_memory(&order);
     };
-    let mut progress = Progress::new(rt, is_shown);
+    let tells_port = order.listen.port() == 0;
+    let mut progress = Progress::new(rt, is_shown, tells_port);
     let done = relay(alloc, world, contexts, order, &mut progress);
     let Relayed { end, pairs, world } = done;
     // What is still open was closed at the relay's end.

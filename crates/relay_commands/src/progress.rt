@@ -3,11 +3,12 @@
 
 ghost use Rattle.std.specs.Prelude.{◌≡◌};
 
+use std::net::Net;
 use std::rt::Clock;
 use std::time::Instant;
+use wasi_net::{Linux, System, SystemWorld};
 use wasi_relay::{Idle, Pair};
 use wasi_session::Session;
-use wasi_world::Waits;
 
 /// How often it is shown how far a relay is, in seconds.
 const PERIOD: u64 = 1;
@@ -20,10 +21,12 @@ const ENDLESS_WAIT: i32 = -1;
 
 /// Waits after each turn that moved nothing until what was pending may go on, without using the
 /// processor. If it is to be shown how far the relay is, it is on standard error, once a second.
+/// Where the system chose the listener's port, it is told there once, before the first arrival.
 #[derive(Drop)]
 pub struct Progress<'a, R> {
     rt: &'a R,
     is_shown: bool,
+    tells_port: bool,
     last: Option<Instant>,
 }
 
@@ -56,11 +59,13 @@ impl Counts {
 }
 
 impl<'a, R> Progress<'a, R> {
-    /// Before the first turn. Nothing is shown of the first second.
-    pub fn new(rt: &'a R, is_shown: bool) -> Progress<'a, R> {
+    /// Before the first turn. Nothing is shown of the first second. `tells_port`: the system
+    /// chooses the listener's port.
+    pub fn new(rt: &'a R, is_shown: bool, tells_port: bool) -> Progress<'a, R> {
         Progress {
             rt,
             is_shown,
+            tells_port,
             last: None,
         }
     }
@@ -105,8 +110,35 @@ impl<R: Eprint + Clock> Progress<'_, R> {
     }
 }
 
-impl<W: Waits, R: Eprint + Clock> Idle<W> for Progress<'_, R> {
-    fn after_turn(&mut self, session: &mut Session<W>, moved: bool, pairs: &[Pair]) {
+/// The port that the system chose for the listener. Before the first arrival nothing else is
+/// waited for.
+fn listener_port<R: Net>(rt: &R, session: &Session<SystemWorld<Linux>>) -> Option<u16> {
+    let listener = session.world().awaited().first()?;
+    let (address, _) = Linux::new(rt).local(listener.fd).ok()?;
+    Some(u16::from_be_bytes([address[2], address[3]]))
+}
+
+impl<R: Net + Eprint> Progress<'_, R> {
+    /// Tells the listener's port, unless it was told.
+    fn tell_port(&mut self, session: &Session<SystemWorld<Linux>>) {
+        let Some(port) = listener_port(self.rt, session) else {
+            return;
+        };
+        self.tells_port = false;
+        let _ = eprintln!(self.rt; "listening on port {port} of 127.0.0.1");
+    }
+}
+
+impl<R: Net + Eprint + Clock> Idle<SystemWorld<Linux>> for Progress<'_, R> {
+    fn after_turn(
+        &mut self,
+        session: &mut Session<SystemWorld<Linux>>,
+        moved: bool,
+        pairs: &[Pair],
+    ) {
+        if self.tells_port && pairs.is_empty() {
+            self.tell_port(session);
+        }
         if self.is_shown && self.is_due() {
             self.show(pairs);
         }
